@@ -1,8 +1,9 @@
-//! What is told of texts. Expected lines are worked out by hand from the texts.
+//! Diagnostics and statistics of texts. Expected lines are worked out by hand from the texts.
 use crate::shown::is_shown;
 use moc_forms::{
-    Change, Choice, Figures, Form, FormError, FormNameError, Operation, Place, Refusal, Said,
-    check, describe, draw, draw_two, examine, hint, hint_line, is_blank, place_line, quote,
+    Change, Diagnostic, Format, FormatChoice, FormatError, FormatNameError, Operation,
+    ParsedCoverage, Place, Statistics, check, describe, draw, draw_two, examine, hint, hint_line,
+    is_blank, place_line, quote,
 };
 use moc_sphere::Order;
 use moc_text::{JsonError, TextError, UniqError, WriteError};
@@ -11,25 +12,25 @@ use std::fmt::Write;
 use std::process::Abort;
 use std::str::FromStr;
 
-/// Checks what is told of a text.
+/// Checks the result of `check` for a text.
 fn is(rt: &impl Abort, text: &str, seen: &str, told: &str) {
     assert_eq!(rt; seen, told, "{text:?}");
 }
 
-/// Checks what is told of the place of a text's fault; nothing where it has none.
-fn is_placed(rt: &impl Abort, alloc: Global, form: Form, text: &str, told: &str) {
+/// Checks the position line of a text's error; empty if the text is valid.
+fn has_position(rt: &impl Abort, alloc: Global, format: Format, text: &str, told: &str) {
     let mut line = String::new(alloc);
-    if let Err(refusal) = check(alloc, form, text.as_bytes())
-        && let Some(place) = refusal.place
+    if let Err(error_of_pairs) = check(alloc, format, text.as_bytes())
+        && let Some(place) = error_of_pairs.place
     {
         write!(line, "{place}").expect(rt, "memory");
     }
     is(rt, text, line.as_str(), told);
 }
 
-/// The figures of a text.
-fn figures(rt: &impl Abort, alloc: Global, form: Form, text: &str) -> String {
-    let (set, deepest) = form.read(alloc, text.as_bytes()).expect(rt, "a text");
+/// Returns the statistics of a text.
+fn statistics(rt: &impl Abort, alloc: Global, format: Format, text: &str) -> String {
+    let (set, deepest) = format.read(alloc, text.as_bytes()).expect(rt, "a text");
     describe(alloc, &set, deepest).expect(rt, "memory")
 }
 
@@ -45,11 +46,11 @@ fn places_in_ascii(rt: HostRuntime) {
         ("1/0 30/", "byte 4, line 1, byte 4 of it"),
         ("1/0\n5-", "byte 6, line 2, byte 2 of it"),
     ] {
-        is_placed(&rt, rt.alloc(), Form::Ascii, text, place);
+        has_position(&rt, rt.alloc(), Format::Ascii, text, place);
     }
 }
 
-/// The end of a text is a place, too.
+/// The end of a text is a position, too.
 #[test]
 fn places_of_bytes(rt: HostRuntime) {
     let text = b"1/0\n5-".as_slice();
@@ -62,7 +63,7 @@ fn places_of_bytes(rt: HostRuntime) {
     }
 }
 
-/// Lines and columns are those of the byte at which `serde_json` gives up; an empty text has no column.
+/// Line and column are those of the byte at which `serde_json` stops; an empty text has no column.
 #[test]
 fn places_in_json(rt: HostRuntime) {
     for (text, place) in [
@@ -76,34 +77,34 @@ fn places_in_json(rt: HostRuntime) {
         ("{\n\"1\":[0", "line 2, column 6"),
         ("", "line 1, column 0"),
     ] {
-        is_placed(&rt, rt.alloc(), Form::Json, text, place);
+        has_position(&rt, rt.alloc(), Format::Json, text, place);
     }
 }
 
 #[test]
 fn places_in_lists(rt: HostRuntime) {
     for (text, place) in [("4\n\n5", ""), ("4\n\n3\n", "line 3"), ("4\nx", "line 2")] {
-        is_placed(&rt, rt.alloc(), Form::Uniq, text, place);
+        has_position(&rt, rt.alloc(), Format::Uniq, text, place);
     }
 }
 
 #[test]
 fn texts_that_are_examined(rt: HostRuntime) {
-    let read = examine(rt.alloc(), Form::Ascii, b"0/0 2/".as_slice());
+    let read = examine(rt.alloc(), Format::Ascii, b"0/0 2/".as_slice());
     let (set, deepest) = read.expect(&rt, "a text");
     assert_eq!(&rt; set.count(), 1 << 58);
     assert_eq!(&rt; deepest, Order::new(2));
 }
 
-/// Why a text is refused whose first cell stands without an order.
-fn refusal_without_an_order(rt: &impl Abort, alloc: Global) -> Refusal {
-    let read = examine(alloc, Form::Ascii, b"\n7".as_slice());
+/// The error of a text whose first cell has no order.
+fn error_without_an_order(rt: &impl Abort, alloc: Global) -> Diagnostic {
+    let read = examine(alloc, Format::Ascii, b"\n7".as_slice());
     read.err().expect(rt, "a refusal")
 }
 
-/// The line of the place of that fault, beside the number of the text and what is quoted of it.
+/// The line with the position of that error, with the number of the text and the quote.
 fn line_of(rt: &impl Abort, alloc: Global, number: Option<u64>, quote: Option<&str>) -> String {
-    let place = refusal_without_an_order(rt, alloc).place;
+    let place = error_without_an_order(rt, alloc).place;
     let line = place_line(alloc, number, place, quote).expect(rt, "memory");
     line.expect(rt, "a line")
 }
@@ -111,8 +112,13 @@ fn line_of(rt: &impl Abort, alloc: Global, number: Option<u64>, quote: Option<&s
 #[test]
 fn lines_of_places(rt: HostRuntime) {
     let alloc = rt.alloc();
-    let refusal = refusal_without_an_order(&rt, alloc);
-    is_shown(&rt, alloc, &refusal, "an item before any order, at 1");
+    let error_of_pairs = error_without_an_order(&rt, alloc);
+    is_shown(
+        &rt,
+        alloc,
+        &error_of_pairs,
+        "an item before any order, at 1",
+    );
     for (number, quote, told) in [
         (None, None, "byte 1, line 2, byte 0 of it\n"),
         (
@@ -141,11 +147,11 @@ fn blank_texts(rt: HostRuntime) {
     assert!(&rt; !is_blank(b" ,".as_slice()));
 }
 
-/// Checks what is quoted of a text; nothing where it is not refused, or for no place.
-fn is_quoted(rt: &impl Abort, alloc: Global, form: Form, text: &[u8], told: &str) {
+/// Checks the quote of a text; empty if the text is valid, or if there is no position.
+fn is_quoted(rt: &impl Abort, alloc: Global, format: Format, text: &[u8], told: &str) {
     let mut seen = None;
-    if let Err(refusal) = check(alloc, form, text) {
-        seen = quote(alloc, text, refusal.error).expect(rt, "memory");
+    if let Err(error_of_pairs) = check(alloc, format, text) {
+        seen = quote(alloc, text, error_of_pairs.error).expect(rt, "memory");
     }
     let seen = match &seen {
         Some(quote) => quote.as_str(),
@@ -156,35 +162,35 @@ fn is_quoted(rt: &impl Abort, alloc: Global, form: Form, text: &[u8], told: &str
 
 #[test]
 fn quotes(rt: HostRuntime) {
-    for (form, text, told) in [
-        (Form::Ascii, b"1/0-3".as_slice(), ""),
-        (Form::Ascii, b"1/0,2/7-5\n3".as_slice(), "`2/7-5`"),
-        (Form::Ascii, b"1/0 5-\t".as_slice(), "`5-`"),
+    for (format, text, told) in [
+        (Format::Ascii, b"1/0-3".as_slice(), ""),
+        (Format::Ascii, b"1/0,2/7-5\n3".as_slice(), "`2/7-5`"),
+        (Format::Ascii, b"1/0 5-\t".as_slice(), "`5-`"),
         (
-            Form::Ascii,
+            Format::Ascii,
             b"\x1b\\`~\x7f".as_slice(),
             "`\\x1b\\x5c\\x60~\\x7f`",
         ),
         (
-            Form::Ascii,
+            Format::Ascii,
             b"x0123456789012345678901234567890123456789".as_slice(),
             "`x012345678901234567890123456789012345678`..",
         ),
-        (Form::Uniq, b"4\n5 \n6".as_slice(), "`5 `"),
-        (Form::Json, b"{\"1\":[],\"x\":[]}".as_slice(), "`x`"),
-        (Form::Json, b"{\"007\":1}".as_slice(), "`007`"),
-        (Form::Json, b"{\"1\":[0,[true]]}".as_slice(), "`[true]`"),
-        (Form::Json, b"{\"1\":[0,48]}".as_slice(), "`48`"),
-        (Form::Json, b"[".as_slice(), ""),
+        (Format::Uniq, b"4\n5 \n6".as_slice(), "`5 `"),
+        (Format::Json, b"{\"1\":[],\"x\":[]}".as_slice(), "`x`"),
+        (Format::Json, b"{\"007\":1}".as_slice(), "`007`"),
+        (Format::Json, b"{\"1\":[0,[true]]}".as_slice(), "`[true]`"),
+        (Format::Json, b"{\"1\":[0,48]}".as_slice(), "`48`"),
+        (Format::Json, b"[".as_slice(), ""),
     ] {
-        is_quoted(&rt, rt.alloc(), form, text, told);
+        is_quoted(&rt, rt.alloc(), format, text, told);
     }
 }
 
 #[test]
 fn a_line_with_all_of_it(rt: HostRuntime) {
-    let refusal = refusal_without_an_order(&rt, rt.alloc());
-    let line = refusal
+    let error_of_pairs = error_without_an_order(&rt, rt.alloc());
+    let line = error_of_pairs
         .line(rt.alloc(), Some(2), b"\n7".as_slice())
         .expect(&rt, "memory");
     assert_eq!(&rt;
@@ -194,35 +200,35 @@ fn a_line_with_all_of_it(rt: HostRuntime) {
 }
 
 #[test]
-fn forms_that_are_found(rt: HostRuntime) {
-    for (word, text, form) in [
-        ("auto", " \t\r\n{", Form::Json),
-        ("auto", ",{", Form::Ascii),
-        ("auto", "", Form::Ascii),
-        ("auto", "4\n", Form::Ascii),
-        ("json", "0/3", Form::Json),
-        ("uniq", "{", Form::Uniq),
-        ("ascii", "{", Form::Ascii),
+fn formats_that_are_detected(rt: HostRuntime) {
+    for (word, text, format) in [
+        ("auto", " \t\r\n{", Format::Json),
+        ("auto", ",{", Format::Ascii),
+        ("auto", "", Format::Ascii),
+        ("auto", "4\n", Format::Ascii),
+        ("json", "0/3", Format::Json),
+        ("uniq", "{", Format::Uniq),
+        ("ascii", "{", Format::Ascii),
     ] {
-        let choice = Choice::from_str(word).expect(&rt, "a choice");
-        assert_eq!(&rt; choice.form(text.as_bytes()), form, "{text:?}");
+        let choice = FormatChoice::from_str(word).expect(&rt, "a choice");
+        assert_eq!(&rt; choice.format(text.as_bytes()), format, "{text:?}");
         is_shown(&rt, rt.alloc(), &choice, word);
     }
-    assert!(&rt; Choice::from_str("fits") == Err(FormNameError::NotForm));
+    assert!(&rt; FormatChoice::from_str("fits") == Err(FormatNameError::NotFormat));
 }
 
 #[test]
 fn hints(rt: HostRuntime) {
-    for (form, text, told) in [
-        (Form::Ascii, " {", "this looks like JSON\n"),
-        (Form::Json, "s3/", "this looks like ASCII\n"),
-        (Form::Json, "\n4\n5", "this looks like a NUNIQ list\n"),
-        (Form::Json, "[1]", ""),
-        (Form::Ascii, "0/x", ""),
-        (Form::Uniq, "", ""),
+    for (format, text, told) in [
+        (Format::Ascii, " {", "this looks like JSON\n"),
+        (Format::Json, "s3/", "this looks like ASCII\n"),
+        (Format::Json, "\n4\n5", "this looks like a NUNIQ list\n"),
+        (Format::Json, "[1]", ""),
+        (Format::Ascii, "0/x", ""),
+        (Format::Uniq, "", ""),
     ] {
-        let seen = match hint(form, text.as_bytes()) {
-            Some(form) => hint_line(form),
+        let seen = match hint(format, text.as_bytes()) {
+            Some(format) => hint_line(format),
             None => "",
         };
         is(&rt, text, seen, told);
@@ -232,30 +238,32 @@ fn hints(rt: HostRuntime) {
 #[test]
 fn errors(rt: HostRuntime) {
     let alloc = rt.alloc();
-    for (form, text, error) in [
+    for (format, text, error) in [
         (
-            Form::Ascii,
+            Format::Ascii,
             "5",
-            FormError::Ascii(TextError::NoOrder { at: 0 }),
+            FormatError::Ascii(TextError::NoOrder { at: 0 }),
         ),
-        (Form::Json, "[]", FormError::Json(JsonError::NotObject)),
+        (Format::Json, "[]", FormatError::Json(JsonError::NotObject)),
         (
-            Form::Uniq,
+            Format::Uniq,
             "3",
-            FormError::Uniq(UniqError::NotUniq { line: 1 }),
+            FormatError::Uniq(UniqError::NotUniq { line: 1 }),
         ),
     ] {
-        let refusal = check(alloc, form, text.as_bytes())
+        let error_of_pairs = check(alloc, format, text.as_bytes())
             .err()
             .expect(&rt, "a refusal");
-        assert_eq!(&rt; refusal.error, error);
+        assert_eq!(&rt; error_of_pairs.error, error);
     }
 }
 
-/// A text, read and written in a form, with order 2 as its deepest.
-fn rewritten(rt: &impl Abort, alloc: Global, form: Form, text: &str) -> String {
-    let (set, _) = form.read(alloc, text.as_bytes()).expect(rt, "a text");
-    form.write(alloc, &set, Order::new(2)).expect(rt, "memory")
+/// Parses a text, and writes it in the same format with MOC order 2.
+fn parse_and_write(rt: &impl Abort, alloc: Global, format: Format, text: &str) -> String {
+    let (set, _) = format.read(alloc, text.as_bytes()).expect(rt, "a text");
+    format
+        .write(alloc, &set, Order::new(2))
+        .expect(rt, "memory")
 }
 
 #[test]
@@ -266,100 +274,110 @@ fn forms(rt: HostRuntime) {
         ("json", "{\"1\":[0],\"2\":[]}\n"),
         ("uniq", "16\n"),
     ] {
-        let form = Form::from_str(word).expect(&rt, "a form");
-        let written = rewritten(&rt, alloc, form, text);
+        let format = Format::from_str(word).expect(&rt, "a form");
+        let written = parse_and_write(&rt, alloc, format, text);
         is(&rt, word, written.as_str(), text);
-        is_shown(&rt, alloc, &form, word);
+        is_shown(&rt, alloc, &format, word);
     }
-    assert!(&rt; Form::from_str("fits") == Err(FormNameError::NotForm));
+    assert!(&rt; Format::from_str("fits") == Err(FormatNameError::NotFormat));
 }
 
 #[test]
 fn figures_of_sets(rt: HostRuntime) {
     let alloc = rt.alloc();
-    for (form, text, lines) in [
+    for (format, text, lines) in [
         (
-            Form::Ascii,
+            Format::Ascii,
             "",
             "deepest none\npixels 0\nshare 0.000000000000\nranges 0\ncells 0\n",
         ),
         (
-            Form::Ascii,
+            Format::Ascii,
             "0/0-11",
             "deepest 0\npixels 3458764513820540928\nshare 1.000000000000\nranges 1\ncells 12\norder 0 12\n",
         ),
         (
-            Form::Ascii,
+            Format::Ascii,
             "1/0-3 2/20 29/",
             "deepest 29\npixels 306244774661193728\nshare 0.088541666666\nranges 2\ncells 2\norder 0 1\norder 2 1\n",
         ),
         (
-            Form::Ascii,
+            Format::Ascii,
             "29/7",
             "deepest 29\npixels 1\nshare 0.000000000000\nranges 1\ncells 1\norder 29 1\n",
         ),
         (
-            Form::Uniq,
+            Format::Uniq,
             "4\n",
             "deepest none\npixels 288230376151711744\nshare 0.083333333333\nranges 1\ncells 1\norder 0 1\n",
         ),
     ] {
-        let seen = figures(&rt, alloc, form, text);
+        let seen = statistics(&rt, alloc, format, text);
         is(&rt, text, seen.as_str(), lines);
     }
 }
 
-/// The figures of an ASCII text, as numbers.
-fn numbers(rt: &impl Abort, alloc: Global, text: &[u8]) -> Figures {
-    let (set, deepest) = Form::Ascii.read(alloc, text).expect(rt, "a text");
-    Figures::of(alloc, &set, deepest).expect(rt, "memory")
+/// Returns the statistics of an ASCII text as numbers.
+fn numbers(rt: &impl Abort, alloc: Global, text: &[u8]) -> Statistics {
+    let (set, deepest) = Format::Ascii.read(alloc, text).expect(rt, "a text");
+    Statistics::of(alloc, &set, deepest).expect(rt, "memory")
 }
 
 #[test]
 fn figures_one_by_one(rt: HostRuntime) {
-    let figures = numbers(&rt, rt.alloc(), b"1/0-3 2/20 29/".as_slice());
-    assert_eq!(&rt; figures.deepest(), Order::new(29));
-    assert_eq!(&rt; figures.count(), 306244774661193728);
-    assert_eq!(&rt; figures.share(), 88541666666);
-    assert_eq!(&rt; (figures.range_count(), figures.cell_count()), (2, 2));
+    let statistics = numbers(&rt, rt.alloc(), b"1/0-3 2/20 29/".as_slice());
+    assert_eq!(&rt; statistics.deepest(), Order::new(29));
+    assert_eq!(&rt; statistics.count(), 306244774661193728);
+    assert_eq!(&rt; statistics.share(), 88541666666);
+    assert_eq!(&rt; (statistics.range_count(), statistics.cell_count()), (2, 2));
     for (order, cells) in [(0, 1), (1, 0), (2, 1), (29, 0)] {
-        assert_eq!(&rt; figures.cells_of(Order::of(order)), cells, "order {order}");
+        assert_eq!(&rt;
+            statistics.cells_of(Order::of(order)),
+            cells,
+            "order {order}"
+        );
     }
 }
 
-/// What an ASCII text says, as if it had come in a form.
-fn said(rt: &impl Abort, alloc: Global, text: &str, form: Form) -> Said {
-    let (set, deepest) = Form::Ascii
+/// Returns the set of an ASCII text as if it had another format.
+fn set_of_text(rt: &impl Abort, alloc: Global, text: &str, format: Format) -> ParsedCoverage {
+    let (set, deepest) = Format::Ascii
         .read(alloc, text.as_bytes())
         .expect(rt, "a text");
-    Said { set, deepest, form }
+    ParsedCoverage {
+        set,
+        deepest,
+        format,
+    }
 }
 
-/// The text of two texts that are joined by an operation.
-fn joined(
+/// Returns the text of an operation on two texts.
+fn combine_texts(
     rt: &impl Abort,
     alloc: Global,
     operation: Operation,
     first: &str,
     second: &str,
 ) -> String {
-    let first = said(rt, alloc, first, Form::Ascii);
-    let before = operation.join(alloc, None, first).expect(rt, "memory");
-    let second = said(rt, alloc, second, Form::Json);
+    let first = set_of_text(rt, alloc, first, Format::Ascii);
+    let before = operation.combine(alloc, None, first).expect(rt, "memory");
+    let second = set_of_text(rt, alloc, second, Format::Json);
     let both = operation
-        .join(alloc, Some(before), second)
+        .combine(alloc, Some(before), second)
         .expect(rt, "memory");
-    both.form
+    both.format
         .write(alloc, &both.set, both.deepest)
         .expect(rt, "memory")
 }
 
-/// The text of what a change makes of a text that names order 3 as its deepest.
-fn changed(rt: &impl Abort, alloc: Global, change: &Change, text: &[u8]) -> String {
-    let (set, _) = Form::Ascii.read(alloc, text).expect(rt, "a text");
+/// Returns the text of a change of a text with MOC order 3.
+fn change_text(rt: &impl Abort, alloc: Global, change: &Change, text: &[u8]) -> String {
+    let (set, _) = Format::Ascii.read(alloc, text).expect(rt, "a text");
     let new = change.of(alloc, &set).expect(rt, "memory");
-    let stated = change.stated(Order::new(3));
-    Form::Ascii.write(alloc, &new, stated).expect(rt, "memory")
+    let stated = change.order_to_state(Order::new(3));
+    Format::Ascii
+        .write(alloc, &new, stated)
+        .expect(rt, "memory")
 }
 
 #[test]
@@ -368,7 +386,7 @@ fn changes(rt: HostRuntime) {
         (Change::Degrade(Order::of(0)), "0/0-11\n"),
         (Change::Complement, "1/47 3/\n"),
     ] {
-        let seen = changed(&rt, rt.alloc(), &change, b"0/0-10 1/44-46 3/".as_slice());
+        let seen = change_text(&rt, rt.alloc(), &change, b"0/0-10 1/44-46 3/".as_slice());
         assert_eq!(&rt; seen.as_str(), text);
     }
 }
@@ -382,7 +400,7 @@ fn operations(rt: HostRuntime) {
         ("symmetric", "1/0-2 6-7 2/21-23 32\n"),
     ] {
         let operation = Operation::from_str(name).expect(&rt, "an operation");
-        let seen = joined(&rt, rt.alloc(), operation, "0/0 1/4-5", "1/3-4 6-7 2/20 32");
+        let seen = combine_texts(&rt, rt.alloc(), operation, "0/0 1/4-5", "1/3-4 6-7 2/20 32");
         is(&rt, name, seen.as_str(), text);
         is_shown(&rt, rt.alloc(), &operation, name);
     }
@@ -390,21 +408,21 @@ fn operations(rt: HostRuntime) {
 }
 
 #[test]
-fn deepest_orders_of_both(rt: HostRuntime) {
+fn moc_orders_of_both(rt: HostRuntime) {
     for (first, second, text) in [
         ("", "", "\n"),
         ("5/", "", "5/\n"),
         ("", "5/", "5/\n"),
         ("7/", "5/", "7/\n"),
     ] {
-        let seen = joined(&rt, rt.alloc(), Operation::Union, first, second);
+        let seen = combine_texts(&rt, rt.alloc(), Operation::Union, first, second);
         assert_eq!(&rt; seen.as_str(), text, "{first} and {second}");
     }
 }
 
-/// What stands before the four paths of every picture: base pixel 4 lies at both edges, and its number stands at both.
-/// East is to the left, so base pixel 0 is at the right.
-const BEFORE: &str = "<svg xmlns=\"http://www.w3.org/2000/svg\" viewBox=\"-40 -40 1104 640\">
+/// The text before the four paths of every picture: base pixel 4 is at both edges, and its number at both. East is to
+/// the left, so base pixel 0 is at the right.
+const PICTURE_HEAD: &str = "<svg xmlns=\"http://www.w3.org/2000/svg\" viewBox=\"-40 -40 1104 640\">
 <title>Sky coverage</title>
 <clipPath id=\"plane\"><path d=\"M0 0h1024v512H0z\"/></clipPath>
 <rect x=\"-40\" y=\"-40\" width=\"1104\" height=\"640\" fill=\"#fff\"/>
@@ -433,8 +451,8 @@ M640 256l128 128-128 128-128-128zM896 256l128 128-128 128-128-128z\"/>
 <g transform=\"translate(1024 0) scale(-1 1)\" clip-path=\"url(#plane)\" shape-rendering=\"crispEdges\">
 ";
 
-/// What stands behind them: what the shades mean, and which way is east.
-const BEHIND: &str = "</g>
+/// The text after them: the meaning of the shades, and the direction of east.
+const LEGEND: &str = "</g>
 <g font-family=\"sans-serif\" font-size=\"16\" fill=\"#444\">
 <text x=\"-28\" y=\"262\">E</text>
 <text x=\"1036\" y=\"262\">W</text>
@@ -447,9 +465,9 @@ const BEHIND: &str = "</g>
 </svg>
 ";
 
-/// The picture whose layers of one colour each have these diamonds, with a legend behind.
+/// Returns the picture whose layers of one colour each have these diamonds, with a legend.
 fn picture(rt: &impl Abort, alloc: Global, layers: &[(&str, &str)], behind: &str) -> String {
-    let mut text = String::from_str(alloc, BEFORE).expect(rt, "memory");
+    let mut text = String::from_str(alloc, PICTURE_HEAD).expect(rt, "memory");
     for (colour, diamonds) in layers {
         write!(
             text,
@@ -461,8 +479,8 @@ fn picture(rt: &impl Abort, alloc: Global, layers: &[(&str, &str)], behind: &str
     text
 }
 
-/// The picture whose four shades, from the lightest, have these diamonds.
-fn shaded(rt: &impl Abort, alloc: Global, shades: [&str; 4]) -> String {
+/// Returns the picture whose four shades, from the lightest, have these diamonds.
+fn picture_with_shades(rt: &impl Abort, alloc: Global, shades: [&str; 4]) -> String {
     let [first, second, third, fourth] = shades;
     let layers = [
         ("#6baed6", first),
@@ -470,12 +488,12 @@ fn shaded(rt: &impl Abort, alloc: Global, shades: [&str; 4]) -> String {
         ("#2171b5", third),
         ("#08306b", fourth),
     ];
-    picture(rt, alloc, &layers, BEHIND)
+    picture(rt, alloc, &layers, LEGEND)
 }
 
-/// The picture of the set of a text.
-fn drawn(rt: &impl Abort, alloc: Global, text: &str) -> String {
-    let (set, _) = Form::Ascii
+/// Returns the picture of the set of a text.
+fn picture_of_text(rt: &impl Abort, alloc: Global, text: &str) -> String {
+    let (set, _) = Format::Ascii
         .read(alloc, text.as_bytes())
         .expect(rt, "a text");
     draw(alloc, &set).expect(rt, "memory")
@@ -483,8 +501,8 @@ fn drawn(rt: &impl Abort, alloc: Global, text: &str) -> String {
 
 /// Checks the shades of the picture of a text.
 fn is_drawn(rt: &impl Abort, alloc: Global, text: &str, shades: [&str; 4]) {
-    let seen = drawn(rt, alloc, text);
-    let wanted = shaded(rt, alloc, shades);
+    let seen = picture_of_text(rt, alloc, text);
+    let wanted = picture_with_shades(rt, alloc, shades);
     is(rt, text, seen.as_str(), wanted.as_str());
 }
 
@@ -499,7 +517,7 @@ fn pictures_of_cells(rt: HostRuntime) {
             "1/16",
             "M0 256l64 64-64 64-64-64zM1024 256l64 64-64 64-64-64z",
         ),
-        // Cells of order 7 or less come before those that are filled in part.
+        // Cells of order 7 or less come before partly filled cells.
         (
             "0/11 7/5 8/12-14 9/60",
             "M896 256l128 128-128 128-128-128zM131 251l1 1-1 1-1-1zM128 252l1 1-1 1-1-1z",
@@ -514,7 +532,7 @@ fn pictures_of_pixels(rt: HostRuntime) {
     for (text, diamonds) in [
         // A pixel is drawn as its cell of order 7.
         ("29/0", "M128 254l1 1-1 1-1-1z"),
-        // So is one at the seam, in base pixel 4.
+        // So is a pixel at the seam, in base pixel 4.
         (
             "29/1152921504606846976",
             "M0 382l1 1-1 1-1-1zM1024 382l1 1-1 1-1-1z",
@@ -524,7 +542,7 @@ fn pictures_of_pixels(rt: HostRuntime) {
     }
 }
 
-/// One, two and three quarters of a cell; then a pixel more of each, up to the next cell.
+/// One, two and three quarters of a cell; then one more pixel each, up to the next cell.
 #[test]
 fn pictures_of_shares(rt: HostRuntime) {
     let (first, second, third) = (
@@ -538,8 +556,8 @@ fn pictures_of_shares(rt: HostRuntime) {
     is_drawn(&rt, rt.alloc(), more, ["", first, second, third]);
 }
 
-/// What stands behind the cells of two sets.
-const BEHIND_TWO: &str = "</g>
+/// The text after the cells of two sets.
+const LEGEND_OF_TWO: &str = "</g>
 <g font-family=\"sans-serif\" font-size=\"16\" fill=\"#444\">
 <text x=\"-28\" y=\"262\">E</text>
 <text x=\"1036\" y=\"262\">W</text>
@@ -551,14 +569,14 @@ const BEHIND_TWO: &str = "</g>
 </svg>
 ";
 
-/// The picture of the sets of two texts.
-fn drawn_together(rt: &impl Abort, alloc: Global, first: &[u8], second: &[u8]) -> String {
-    let (first, _) = Form::Ascii.read(alloc, first).expect(rt, "a text");
-    let (second, _) = Form::Ascii.read(alloc, second).expect(rt, "a text");
+/// Returns the picture of the sets of two texts.
+fn picture_of_two_texts(rt: &impl Abort, alloc: Global, first: &[u8], second: &[u8]) -> String {
+    let (first, _) = Format::Ascii.read(alloc, first).expect(rt, "a text");
+    let (second, _) = Format::Ascii.read(alloc, second).expect(rt, "a text");
     draw_two(alloc, &first, &second).expect(rt, "memory")
 }
 
-/// Cells of what the first has alone, the second has alone, and both have; the diamonds are worked out by hand.
+/// Cells of only the first set, of only the second, and of both; the diamonds are worked out by hand.
 #[test]
 fn pictures_of_two(rt: HostRuntime) {
     let alloc = rt.alloc();
@@ -570,12 +588,12 @@ fn pictures_of_two(rt: HostRuntime) {
         ),
         ("#000", "M256 128l128 128-128 128-128-128z"),
     ];
-    let wanted = picture(&rt, alloc, &layers, BEHIND_TWO);
-    let seen = drawn_together(&rt, alloc, b"0/5 29/0".as_slice(), b"1/16 20-23".as_slice());
+    let wanted = picture(&rt, alloc, &layers, LEGEND_OF_TWO);
+    let seen = picture_of_two_texts(&rt, alloc, b"0/5 29/0".as_slice(), b"1/16 20-23".as_slice());
     assert_eq!(&rt; seen.as_str(), wanted.as_str());
 }
 
-// The texts of a form's errors are those of the text that is read.
+// The text of a format's error is that of the parser's error.
 #[test]
 fn texts_of_ascii_errors(rt: HostRuntime) {
     for (error, text) in [
@@ -605,7 +623,7 @@ fn texts_of_ascii_errors(rt: HostRuntime) {
         ),
         (TextError::Memory, "out of memory"),
     ] {
-        is_shown(&rt, rt.alloc(), &FormError::Ascii(error), text);
+        is_shown(&rt, rt.alloc(), &FormatError::Ascii(error), text);
     }
 }
 
@@ -626,7 +644,7 @@ fn texts_of_json_errors(rt: HostRuntime) {
         ),
         (JsonError::Memory, "out of memory"),
     ] {
-        is_shown(&rt, rt.alloc(), &FormError::Json(error), text);
+        is_shown(&rt, rt.alloc(), &FormatError::Json(error), text);
     }
 }
 
@@ -643,7 +661,7 @@ fn texts_of_other_errors(rt: HostRuntime) {
         ),
         (UniqError::Memory, "out of memory"),
     ] {
-        is_shown(&rt, rt.alloc(), &FormError::Uniq(error), text);
+        is_shown(&rt, rt.alloc(), &FormatError::Uniq(error), text);
     }
     for (error, text) in [
         (
@@ -653,6 +671,6 @@ fn texts_of_other_errors(rt: HostRuntime) {
         (WriteError::Memory, "out of memory"),
     ] {
         is_shown(&rt, rt.alloc(), &error, text);
-        is_shown(&rt, rt.alloc(), &FormError::from(error), text);
+        is_shown(&rt, rt.alloc(), &FormatError::from(error), text);
     }
 }

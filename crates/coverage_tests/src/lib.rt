@@ -1,4 +1,4 @@
-//! Tests of cells, of coverages, of their texts, and of what is told of texts.
+//! Tests of cells, of coverages, of their texts, and of diagnostics.
 #![tactic(auto)]
 
 #[cfg(test)]

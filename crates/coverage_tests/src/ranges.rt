@@ -1,4 +1,4 @@
-//! Coverages of few ranges and of many, each call that takes memory once.
+//! Small and large coverages; each call that allocates is run once.
 ghost use Rattle.std.specs.Prelude.{◌≤◌};
 
 use crate::shown::{is_debugged, is_shown};
@@ -7,18 +7,18 @@ use moc_sphere::{Cell, Order};
 use std::alloc::Global;
 use std::process::Abort;
 
-/// The set of these pairs.
+/// Returns the union of these pairs.
 fn set_of(rt: &impl Abort, alloc: Global, pairs: &[(u64, u64)]) -> Coverage {
     Coverage::from_ranges(alloc, pairs).expect(rt, "pairs")
 }
 
-/// A copy of a set.
+/// Returns a copy of a set.
 fn copy_of(rt: &impl Abort, alloc: Global, set: &Coverage) -> Coverage {
     set.try_copy(alloc).expect(rt, "memory")
 }
 
-/// Why pairs are refused.
-fn refusal(alloc: Global, pairs: &[(u64, u64)]) -> Option<RangesError> {
+/// Returns the error for invalid pairs.
+fn error_of_pairs(alloc: Global, pairs: &[(u64, u64)]) -> Option<RangesError> {
     Coverage::from_ranges(alloc, pairs).err()
 }
 
@@ -31,7 +31,7 @@ fn has(rt: &impl Abort, set: &Coverage, ranges: &[(u64, u64)]) {
     assert_eq!(rt; seen.next(), None);
 }
 
-/// Checks how many cells a set consists of, and those at the beginning.
+/// Checks the number of cells of a set, and the first ones.
 fn has_cells(
     rt: &impl Abort,
     alloc: Global,
@@ -75,10 +75,10 @@ fn a_pair_of_no_pixels(rt: HostRuntime) {
 }
 
 #[test]
-fn pairs_that_are_refused(rt: HostRuntime) {
-    let backwards = refusal(rt.alloc(), &[(5, 4)]);
+fn invalid_pairs(rt: HostRuntime) {
+    let backwards = error_of_pairs(rt.alloc(), &[(5, 4)]);
     assert_eq!(rt; backwards, Some(RangesError::Backwards { at: 0 }));
-    let large = refusal(rt.alloc(), &[(0, 1), (0, 3458764513820540929)]);
+    let large = error_of_pairs(rt.alloc(), &[(0, 1), (0, 3458764513820540929)]);
     assert_eq!(rt; large, Some(RangesError::PixelTooLarge { at: 1 }));
 }
 
@@ -88,7 +88,7 @@ fn lists_of_cells(rt: HostRuntime) {
     has_cells(&rt, rt.alloc(), &set, 3, &[(28, 1), (29, 3), (29, 8)]);
 }
 
-/// The whole sky but its first pixel.
+/// Returns the whole sky without its first pixel.
 fn all_but_one_pixel(rt: &impl Abort, alloc: Global) -> Coverage {
     let one = set_of(rt, alloc, &[(0, 1)]);
     one.complement(alloc).expect(rt, "memory")
@@ -120,7 +120,7 @@ fn two_sets(rt: HostRuntime) {
 }
 
 #[test]
-fn what_two_sets_lack(rt: HostRuntime) {
+fn differences_of_two_sets(rt: HostRuntime) {
     let a = set_of(&rt, rt.alloc(), &[(0, 8)]);
     let b = set_of(&rt, rt.alloc(), &[(4, 12)]);
     let first = a.difference(rt.alloc(), &b).expect(&rt, "memory");
@@ -130,7 +130,7 @@ fn what_two_sets_lack(rt: HostRuntime) {
 }
 
 #[test]
-fn what_two_sets_share(rt: HostRuntime) {
+fn common_pixels_of_two_sets(rt: HostRuntime) {
     let a = set_of(&rt, rt.alloc(), &[(0, 8)]);
     let b = set_of(&rt, rt.alloc(), &[(4, 12)]);
     assert_eq!(rt; a.count_common(&b), 4);
@@ -245,7 +245,7 @@ fn pixels_and_where_that_changes(rt: HostRuntime) {
 }
 
 #[test]
-fn gathered_cells(rt: HostRuntime) {
+fn cells_of_a_builder(rt: HostRuntime) {
     let deepest = Order::of(29);
     let mut builder = CoverageBuilder::new(rt.alloc());
     builder.add_cells(deepest, 8, 9).expect(&rt, "memory");
@@ -259,7 +259,7 @@ fn gathered_cells(rt: HostRuntime) {
 }
 
 #[test]
-fn gathered_lists_of_cells(rt: HostRuntime) {
+fn lists_of_cells_of_a_builder(rt: HostRuntime) {
     let two = [Cell::of(Order::of(29), 3), Cell::of(Order::of(28), 5)];
     let cells = set_of(&rt, rt.alloc(), &[(0, 4), (8, 11)])
         .cells(rt.alloc())
@@ -287,19 +287,19 @@ fn the_set_of_some_cells(rt: HostRuntime) {
     has(&rt, &none, &[]);
 }
 
-// Each first cell comes after the third, and waits. Each time that 512 wait they are joined with the others: 39 times.
+// Each first cell comes after the third, and is buffered. A buffer of 512 cells is merged with the others: 39 times.
 #[test]
-fn few_cells_wait(rt: HostRuntime) {
+fn buffered_cells_are_merged(rt: HostRuntime) {
     let mut builder = CoverageBuilder::new(rt.alloc());
     for _ in 0..20000 {
         builder.add_cells(Order::MAX, 2, 2).expect(&rt, "memory");
         builder.add_cells(Order::MAX, 0, 0).expect(&rt, "memory");
     }
-    let text = "CoverageBuilder { joined: 2, rising: 1, waiting: 32 }";
+    let text = "CoverageBuilder { joined: 2, ascending: 1, waiting: 32 }";
     is_debugged(&rt, rt.alloc(), &builder, text);
 }
 
-/// Checks the runs of a set's cells of an order.
+/// Checks the runs of a set's cells of one order.
 fn has_runs(rt: &impl Abort, set: &Coverage, order: u8, runs: &[(u64, u64)])
     requires { order ≤ 29 }
 {
@@ -320,7 +320,7 @@ fn runs_of_cells(rt: HostRuntime) {
     has_runs(&rt, &set, 29, &[(3, 4), (8, 9)]);
 }
 
-// The first call of `next` makes the runs of all ranges, if they are few.
+// The first call of `next` makes the runs of all ranges if there are few.
 #[test]
 fn hints_of_runs_of_cells(rt: HostRuntime) {
     let set = set_of(&rt, rt.alloc(), &[(3, 9), (16, 64)]);
@@ -338,14 +338,14 @@ fn runs_of_cells_of_the_sky(rt: HostRuntime) {
     assert_eq!(rt; sky.cell_ranges(Order::of(0)).next(), Some((0, 12)));
 }
 
-/// Checks how many ranges a set has, and the deepest order that it needs.
+/// Checks the number of ranges of a set, and its deepest order.
 fn has_order(rt: &impl Abort, set: &Coverage, ranges: usize, order: u8) {
     assert_eq!(rt; set.range_count(), ranges);
     assert_eq!(rt; set.deepest_order().get(), order);
 }
 
-// The order is 29 less half the zeros at the end of all bounds together. Cell 3/10 is the pixels from 10 * 4^26 up to
-// 11 * 4^26.
+// The order is 29 minus half the number of common trailing zero bits of all bounds. Cell 3/10 is the pixels from
+// 10 * 4^26 up to 11 * 4^26.
 #[test]
 fn ranges_and_deepest_orders(rt: HostRuntime) {
     let cases: [(&[(u64, u64)], usize, u8); 7] = [
@@ -365,8 +365,8 @@ fn ranges_and_deepest_orders(rt: HostRuntime) {
     has_order(&rt, &many, 12800, 29);
 }
 
-/// Every third of 6,000 pixels, added in an order that jumps back and forth: 7 and 6,000 have no common divisor, so
-/// that i * 7 comes to every number below 6,000 once.
+/// Every third of 6,000 pixels, added in a shuffled order: 7 and 6,000 are coprime, so that i * 7 takes every value
+/// below 6,000 once.
 fn thirds(rt: &impl Abort, alloc: Global) -> Coverage {
     let mut builder = CoverageBuilder::new(alloc);
     for i in 0..6000u64 {
@@ -379,7 +379,7 @@ fn thirds(rt: &impl Abort, alloc: Global) -> Coverage {
     builder.build().expect(rt, "memory")
 }
 
-/// The same set, of pairs in the same order.
+/// The same set, from pairs in the same order.
 fn thirds_of_pairs(rt: &impl Abort, alloc: Global) -> Coverage {
     let mut pairs = Vec::new(alloc);
     for i in 0..6000u64 {
@@ -405,7 +405,7 @@ fn many_cells_in_mixed_order(rt: HostRuntime) {
 }
 
 #[test]
-fn errors_in_words(rt: HostRuntime) {
+fn texts_of_errors(rt: HostRuntime) {
     let alloc = rt.alloc();
     is_shown(&rt, alloc, &Memory, "out of memory");
     is_shown(&rt, alloc, &RangesError::Memory, "out of memory");
@@ -415,7 +415,7 @@ fn errors_in_words(rt: HostRuntime) {
     is_shown(&rt, alloc, &large, "the pair 0 passes the last pixel");
 }
 
-/// Every second of the first pixels: the ranges (2j, 2j + 1) for each j below a number.
+/// Every second one of the first pixels: the ranges (2j, 2j + 1) for each j below a number.
 fn dots(rt: &impl Abort, alloc: Global, count: u16) -> Coverage {
     let mut pairs = Vec::new(alloc);
     for j in 0..count {
@@ -458,7 +458,7 @@ fn numbers_of_chunks(rt: HostRuntime) {
 }
 
 #[test]
-fn chunks_that_are_joined(rt: HostRuntime) {
+fn merged_chunks(rt: HostRuntime) {
     let sky = set_of(&rt, rt.alloc(), &[(0, 25600)]);
     let whole = dots(&rt, rt.alloc(), 12800)
         .union(rt.alloc(), &sky)
@@ -477,7 +477,7 @@ fn lengths_of_chunks(rt: HostRuntime) {
     has_chunks(&rt, &rest, &[127, 128]);
 }
 
-/// Checks that a pixel is found in so many steps at most, or found to lack.
+/// Checks the result of a look-up, and that it takes at most this number of steps.
 fn is_found_within(rt: &impl Abort, set: &Coverage, pixel: u64, most: u64) {
     let mut steps = Steps::new();
     let found = set.contains_counting(pixel, &mut steps);
@@ -495,15 +495,15 @@ fn steps_of_look_ups(rt: HostRuntime) {
     }
 }
 
-/// Returns how many steps the look-up of a pixel takes.
+/// Returns the number of steps of a look-up.
 fn steps_of(set: &Coverage, pixel: u64) -> u64 {
     let mut steps = Steps::new();
     set.contains_counting(pixel, &mut steps);
     steps.get()
 }
 
-// Each look-up halves the blocks, and then the ranges of the block that it found: of 100 blocks it compares 50, 25, 12,
-// 6, 3, 1 and 0, and of 128 ranges 64, 32, 16, 8, 4, 2, 1 and 0. Up to 128 ranges need no block.
+// Each look-up halves the blocks, and then the ranges of the block: of 100 blocks it compares 50, 25, 12, 6, 3, 1 and
+// 0, and of 128 ranges 64, 32, 16, 8, 4, 2, 1 and 0. A set of at most 128 ranges has no blocks.
 #[test]
 fn exact_steps_of_look_ups(rt: HostRuntime) {
     for (count, pixel, steps) in [
@@ -531,7 +531,7 @@ fn looking_at_many_blocks(rt: HostRuntime) {
     assert_eq!(rt; set.next_pixel(25599), None);
 }
 
-/// Checks how many pixels two sets have in common, asked from either side.
+/// Checks the number of common pixels of two sets, with either set first.
 fn have_in_common(rt: &impl Abort, a: &Coverage, b: &Coverage, pixels: u64) {
     assert_eq!(rt; (a.count_common(b), b.count_common(a)), (pixels, pixels));
     assert_eq!(rt; (a.meets(b), b.meets(a)), (pixels > 0, pixels > 0));
@@ -565,7 +565,7 @@ fn insert(rt: &impl Abort, alloc: Global, set: &mut Coverage, from: u64, to: u64
     );
 }
 
-/// Inserts ranges of two pixels each, in jumping order: those with a turn from one up to, not including, another.
+/// Inserts ranges of two pixels each, in a shuffled order: those with an index from one up to, not including, another.
 fn insert_turns(rt: &impl Abort, alloc: Global, set: &mut Coverage, first: u64, end: u64)
     requires { end ≤ 3001 }
 {
@@ -575,8 +575,8 @@ fn insert_turns(rt: &impl Abort, alloc: Global, set: &mut Coverage, first: u64, 
     }
 }
 
-/// The set of those with a turn below one.
-fn inserted(rt: &impl Abort, alloc: Global, turns: u64) -> Coverage
+/// Returns the set of those with an index below a limit.
+fn insert_ranges(rt: &impl Abort, alloc: Global, turns: u64) -> Coverage
     requires { turns ≤ 3001 }
 {
     let mut set = Coverage::empty(alloc);
@@ -586,16 +586,16 @@ fn inserted(rt: &impl Abort, alloc: Global, turns: u64) -> Coverage
 
 #[test]
 fn ranges_inserted_one_by_one(rt: HostRuntime) {
-    let set = inserted(&rt, rt.alloc(), 3001);
+    let set = insert_ranges(&rt, rt.alloc(), 3001);
     assert_eq!(rt; (set.range_count(), set.count()), (3001, 6002));
     assert!(rt; set.contains(12001) && !set.contains(12002));
 }
 
-// Of what is there nothing is new; what joins two ranges, or many blocks, is counted once.
+// Pixels that are in the set already are not new; pixels that join two ranges, or many blocks, are counted once.
 #[test]
 fn ranges_inserted_again(rt: HostRuntime) {
     let alloc = rt.alloc();
-    let mut set = inserted(&rt, alloc, 3001);
+    let mut set = insert_ranges(&rt, alloc, 3001);
     insert(&rt, alloc, &mut set, 400, 402, 0);
     insert(&rt, alloc, &mut set, 7, 7, 0);
     insert(&rt, alloc, &mut set, 401, 405, 2);
@@ -607,14 +607,14 @@ fn ranges_inserted_again(rt: HostRuntime) {
 #[test]
 fn a_copy_stays_while_ranges_are_inserted(rt: HostRuntime) {
     let alloc = rt.alloc();
-    let mut set = inserted(&rt, alloc, 1500);
+    let mut set = insert_ranges(&rt, alloc, 1500);
     let copy = copy_of(&rt, alloc, &set);
     insert_turns(&rt, alloc, &mut set, 1500, 3001);
     assert_eq!(rt; copy.count(), 3000);
     assert!(rt; set.covers(&copy) && !copy.covers(&set));
 }
 
-/// Inserts all of a set, and checks how many of its pixels are new.
+/// Inserts a whole set, and checks how many of its pixels are new.
 fn insert_all(rt: &impl Abort, alloc: Global, set: &mut Coverage, other: &Coverage, new: u64) {
     assert_eq!(rt; set.insert_all(alloc, other), Ok(new));
 }
@@ -622,7 +622,7 @@ fn insert_all(rt: &impl Abort, alloc: Global, set: &mut Coverage, other: &Covera
 #[test]
 fn all_of_a_set_is_inserted(rt: HostRuntime) {
     let alloc = rt.alloc();
-    let half = inserted(&rt, alloc, 1500);
+    let half = insert_ranges(&rt, alloc, 1500);
     let mut whole = copy_of(&rt, alloc, &half);
     insert_turns(&rt, alloc, &mut whole, 1500, 3001);
     let mut both = copy_of(&rt, alloc, &half);

@@ -1,4 +1,4 @@
-//! Numbers of cells: rows worked by hand, and every cell of the small orders.
+//! Cell numbers: cases worked by hand, and every cell of the small orders.
 use crate::shown::is_shown;
 use moc_sphere::{Cell, CellError, Direction, NameError, Order, OrderError};
 use std::alloc::Global;
@@ -6,22 +6,22 @@ use std::fmt::Debug;
 use std::process::Abort;
 use std::str::FromStr;
 
-/// The order of that number.
+/// Returns the order with this number.
 fn order_of(rt: &impl Abort, order: u8) -> Order {
     Order::new(order).expect(rt, "an order")
 }
 
-/// The cell of an order at an index.
+/// Returns the cell of an order with this index.
 fn at(rt: &impl Abort, order: u8, index: u64) -> Cell {
     Cell::new(order_of(rt, order), index).expect(rt, "a cell")
 }
 
-/// Checks what is told of a cell.
+/// Checks the result of a conversion of a cell.
 fn is<T: PartialEq + Debug>(rt: &impl Abort, cell: Cell, seen: &T, wanted: &T) {
     assert_eq!(rt; *seen, *wanted, "of cell {cell}");
 }
 
-/// Checks what is told of a name.
+/// Checks the result of parsing a name.
 fn names<T: PartialEq + Debug>(rt: &impl Abort, name: &str, seen: &T, wanted: &T) {
     assert_eq!(rt; *seen, *wanted, "of {name:?}");
 }
@@ -87,7 +87,7 @@ fn plane_rows(rt: HostRuntime) {
     }
 }
 
-/// Checks the indices of the cells that touch a cell, in their sequence.
+/// Checks the indices of the cells that touch a cell, in their order.
 fn touches(rt: &impl Abort, alloc: Global, cell: Cell, indices: &[u64]) {
     let touching = cell.touching_cells(alloc);
     is(rt, cell, &touching.len(), &indices.len());
@@ -113,10 +113,10 @@ fn touching_rows(rt: HostRuntime) {
     }
 }
 
-// What stands for a cell that is not there.
+// The number for a missing cell.
 const NONE: u64 = u64::MAX;
 
-/// The number of a cell, or `NONE`.
+/// Returns the index of a cell, or `NONE`.
 fn number(cell: Option<Cell>) -> u64 {
     match cell {
         Some(cell) => cell.index(),
@@ -132,7 +132,7 @@ fn has_neighbours(rt: &impl Abort, cell: Cell, wanted: &[u64; 8]) {
     }
 }
 
-// As healpy 1.16's get_all_neighbours has them, which says -1 where there is none.
+// The values of get_all_neighbours of healpy 1.16, which returns -1 if there is none.
 #[test]
 fn neighbours_by_direction(rt: HostRuntime) {
     for (order, index, wanted) in [
@@ -233,7 +233,7 @@ fn neighbours_by_the_names_of_directions(rt: HostRuntime) {
 }
 
 #[test]
-fn refusals(rt: HostRuntime) {
+fn invalid_cells(rt: HostRuntime) {
     assert!(rt; Order::new(30).is_none());
     let order = order_of(&rt, 1);
     for (seen, error) in [
@@ -255,9 +255,9 @@ fn spans_and_parents(rt: HostRuntime) {
     assert!(rt; at(&rt, 0, 11).parent().is_none());
 }
 
-// 29/3458764513820540927 is the last cell of its order, as are all cells that it lies in. 1/18 is 18 = 4 * 4 + 2.
+// 29/3458764513820540927 is the last cell of its order, as are all its ancestors. 1/18 is 18 = 4 * 4 + 2.
 #[test]
-fn cells_that_a_cell_lies_in(rt: HostRuntime) {
+fn ancestors_of_cells(rt: HostRuntime) {
     for (order, index, level, ancestor) in [
         (1, 18, 0, 4),
         (1, 18, 1, 18),
@@ -273,7 +273,7 @@ fn cells_that_a_cell_lies_in(rt: HostRuntime) {
     assert!(rt; at(&rt, 1, 18).ancestor(order_of(&rt, 2)).is_none());
 }
 
-/// Checks the nside of an order, and that either of its numbers gives it.
+/// Checks the nside of an order, and that either number gives the order.
 fn has_nside(rt: &impl Abort, order: Order, nside: u64) {
     assert_eq!(rt; order.nside(), nside);
     assert!(rt; Order::from_nside(nside) == Ok(order));

@@ -1,4 +1,4 @@
-//! Rows of the three forms, and texts of many cells.
+//! Cases of the three formats, and texts of many cells.
 
 mod ascii;
 mod json;
@@ -10,14 +10,14 @@ use std::alloc::Global;
 use std::fmt::Write;
 use std::process::Abort;
 
-/// How many pixels a cell of order 0 has, of order 1 and of order 2.
+/// The number of pixels of a cell of order 0, of order 1, and of order 2.
 const Q0: u64 = 288230376151711744;
 
 const Q1: u64 = 72057594037927936;
 
 const Q2: u64 = 18014398509481984;
 
-/// Checks the pixels and the deepest order that a text says.
+/// Checks the pixels and the MOC order of a text.
 fn says(
     rt: &impl Abort,
     alloc: Global,
@@ -31,7 +31,7 @@ fn says(
     assert_eq!(rt; *found, deepest.and_then(Order::new));
 }
 
-/// A byte a thousand times, between a front and a back.
+/// A byte a thousand times, between a prefix and a suffix.
 fn repeated(rt: &impl Abort, alloc: Global, front: &[u8], byte: u8, back: &[u8]) -> Vec<u8> {
     let mut text = Vec::from_slice(alloc, front).expect(rt, "memory");
     for _ in 0..1000 {
@@ -41,7 +41,7 @@ fn repeated(rt: &impl Abort, alloc: Global, front: &[u8], byte: u8, back: &[u8])
     text
 }
 
-/// Every second number from `first` on, 1,500 of them, between a front and a back.
+/// Every second number from `first` on, 1,500 of them, between a prefix and a suffix.
 fn every_second(
     rt: &impl Abort,
     alloc: Global,

@@ -1,16 +1,16 @@
-//! A first program over the library: it reads texts, compares, counts and measures sets, grows one by neighbours, asks
-//! a map, and writes. No proof file stands beside it.
+//! A first program with the library: it parses texts, compares, counts and measures sets, grows one by its neighbours,
+//! queries a map, and writes. It needs no proof by hand.
 #![tactic(auto)]
 
 use anyhow::Result;
-use moc_forms::Figures;
+use moc_forms::Statistics;
 use moc_parts::{Command, Map, Operand, Reply};
 use moc_ranges::{Coverage, CoverageBuilder, Memory, PIXEL_COUNT};
 use moc_sphere::{Cell, Direction, Order};
 use moc_text::{read_ascii, read_json, write_ascii, write_json};
 use std::alloc::Global;
 
-/// The pixels of a cell and of the cells that touch it.
+/// Returns the pixels of a cell and of the cells that touch it.
 fn around(alloc: Global, cell: Cell) -> Result<Coverage, Memory> {
     let mut cells = CoverageBuilder::new(alloc);
     cells.add_cell(cell)?;
@@ -18,7 +18,7 @@ fn around(alloc: Global, cell: Cell) -> Result<Coverage, Memory> {
     cells.build()
 }
 
-/// A cell and its neighbour to the north-east as one set, and the base pixel that they lie in.
+/// Prints a cell and its north-eastern neighbour as one set, and the cell's base pixel.
 fn north_east(rt: &HostRuntime, cell: Cell) -> Result<()> {
     let alloc = rt.alloc();
     if let Some(next) = cell.neighbour(Direction::NorthEast) {
@@ -34,7 +34,7 @@ fn north_east(rt: &HostRuntime, cell: Cell) -> Result<()> {
     Ok(())
 }
 
-/// A cell by its nside and a number, and what a set of two of its children needs and shows.
+/// Prints a cell that is given by its nside and a number, and the statistics of two of its children.
 fn family(rt: &HostRuntime) -> Result<()> {
     let alloc = rt.alloc();
     let cell = Cell::new(Order::from_nside(8)?, 10)?;
@@ -51,12 +51,12 @@ fn family(rt: &HostRuntime) -> Result<()> {
             both.deepest_order(),
             both.range_count()
         )?;
-        print!(rt; "{}", Figures::of(alloc, &both, None)?)?;
+        print!(rt; "{}", Statistics::of(alloc, &both, None)?)?;
     }
     Ok(())
 }
 
-/// What two sets have in common, and how much of the sky the first has.
+/// Prints the common pixels of two sets, and the number of pixels of the first.
 fn compare(rt: &HostRuntime, ours: &Coverage, theirs: &Coverage) -> Result<()> {
     let alloc = rt.alloc();
     let common = ours.intersection(alloc, theirs)?;
@@ -72,7 +72,7 @@ fn compare(rt: &HostRuntime, ours: &Coverage, theirs: &Coverage) -> Result<()> {
     Ok(())
 }
 
-/// A map does commands, alone or in batches, and replies.
+/// Claims a set on a map, and prints how many of its pixels are taken.
 fn claim(rt: &HostRuntime, ours: Coverage, theirs: Coverage) -> Result<()> {
     let alloc = rt.alloc();
     let mut map = Map::new(alloc, ours)?;

@@ -1,8 +1,8 @@
-//! Two threads on one map: each call of `moc_shared`, with what it promises. One proof file stands beside it, with one
-//! line: what a loop of calls keeps.
+//! Two threads on one map: each call of `moc_shared`, with its contract. One line of proof by hand is needed: the
+//! invariant of a loop of calls.
 //!
-//! What it prints is the same whatever the schedule: the threads change parts of their own, and different pixels of a
-//! common part.
+//! The output does not depend on the schedule: each thread changes its own parts, and different pixels of a common
+//! part.
 #![tactic(auto)]
 
 ghost use Rattle.std.specs.Prelude.{All, IfOk, IfSome};
@@ -17,20 +17,20 @@ use std::marker::Sync;
 use std::sync::Wait;
 use std::thread::{self, Threads};
 
-/// How many pixels a cell of order 5 has: 4^24.
+/// The number of pixels of a cell of order 5: 4^24.
 const CELL: u64 = 281_474_976_710_656;
 
-/// How many cells of order 5 a base pixel has.
+/// The number of cells of order 5 in a base pixel.
 const CELLS: u64 = 1024;
 
-/// The first cell of order 5 in a base pixel.
+/// Returns the first cell of order 5 in a base pixel.
 fn cell(alloc: Global, base_pixel: u8) -> Result<Operand> {
     let from = u64::from(base_pixel % 12) * CELLS * CELL;
     let set = Coverage::from_ranges(alloc, &[(from, from + CELL)])?;
     Ok(Operand { set, coarse: None })
 }
 
-/// How many pixels the first reply tells of.
+/// Returns the number of pixels in the first reply.
 fn pixels(replies: &Replies) -> Option<u64> {
     match replies.first()? {
         Reply::Cover(set) => Some(set.count()),
@@ -38,7 +38,7 @@ fn pixels(replies: &Replies) -> Option<u64> {
     }
 }
 
-/// The last of the clients that are left.
+/// Removes and returns the last client.
 fn next(map: &SharedMap, clients: &mut Vec<Client>) -> Option<Client>
     requires { All (IsClientOf map.now) clients.old.items }
     ensures left { All (IsClientOf map.now) clients.new.items }
@@ -51,7 +51,7 @@ fn next(map: &SharedMap, clients: &mut Vec<Client>) -> Option<Client>
     }
 }
 
-/// A thread's work: a cell of a part of its own, and then, waiting where it must, one pixel of a common part.
+/// The work of a thread: a cell of its own part, and then, with waiting, one pixel of a common part.
 fn work<R: Wait>(rt: &R, alloc: Global, map: &SharedMap, client: &mut Client) -> Result<u64>
     requires { IsClientOf map.now client.old }
     ensures { IsClientOf map.now client.new }
@@ -70,13 +70,13 @@ fn work<R: Wait>(rt: &R, alloc: Global, map: &SharedMap, client: &mut Client) ->
     }
 }
 
-/// The batch that counts a cell.
+/// Returns the batch that counts a cell.
 fn count(alloc: Global, base_pixel: u8) -> Result<Batch> {
     Ok(Batch::one(alloc, Command::Count(cell(alloc, base_pixel)?))?)
 }
 
-/// A client does one batch after another, and adds up what they tell. `proofs/do_all` has the line that keeps it a
-/// client of the map.
+/// Executes one batch after another, and returns the sum of the replies. `proofs/do_all` has the invariant that keeps
+/// the client one of the map's.
 fn do_all(map: &SharedMap, client: &mut Client, batches: &[Batch]) -> Result<u64>
     requires { IsClientOf map.now client.old }
     ensures { IsClientOf map.now client.new }
@@ -89,7 +89,7 @@ fn do_all(map: &SharedMap, client: &mut Client, batches: &[Batch]) -> Result<u64
     Ok(total)
 }
 
-/// A thread: its client comes back with what it counted, if all went well.
+/// A thread: returns its client with its count, if every call succeeded.
 fn run<R: Wait>(rt: &R, alloc: Global, map: &SharedMap, client: Client) -> (Client, Option<u64>)
     requires { IsClientOf map.now client }
     ensures { IsClientOf map.now result.0 }
@@ -99,8 +99,8 @@ fn run<R: Wait>(rt: &R, alloc: Global, map: &SharedMap, client: Client) -> (Clie
     (client, done)
 }
 
-/// Whom another client finds at a part that is held.
-fn found_busy(map: &SharedMap, client: &mut Client, batch: &Batch) -> Option<Busy>
+/// Returns the error of a batch that finds a part held.
+fn busy_error(map: &SharedMap, client: &mut Client, batch: &Batch) -> Option<Busy>
     requires { IsClientOf map.now client.old }
     ensures { IsClientOf map.now client.new }
 {
@@ -110,8 +110,8 @@ fn found_busy(map: &SharedMap, client: &mut Client, batch: &Batch) -> Option<Bus
     }
 }
 
-/// What a query saw, with its client. A holding of an update is let go.
-fn seen(map: &SharedMap, holding: Holding) -> (Client, Option<Snapshot>)
+/// Returns the reply to a query, with its client. A holding of an update is let go.
+fn query_reply(map: &SharedMap, holding: Holding) -> (Client, Option<Snapshot>)
     requires { IsHoldingOf map.now holding }
     ensures { IsClientOf map.now result.0 }
 {
@@ -122,7 +122,7 @@ fn seen(map: &SharedMap, holding: Holding) -> (Client, Option<Snapshot>)
     }
 }
 
-/// Both clients work at once, each on a thread of its own, and come back.
+/// Runs both clients at once, each on its own thread, and returns them.
 fn run_both<R: Threads + Wait + Sync>(
     rt: &R,
     alloc: Global,
@@ -146,7 +146,7 @@ fn run_both<R: Threads + Wait + Sync>(
     )
 }
 
-/// A client holds a batch and does it, and another meets it there: whom it found, and what the batch replied.
+/// A client holds a batch and executes it, and another meets it: returns the holder's number and the replies.
 fn meet_busy(
     map: &SharedMap,
     a: Client,
@@ -159,7 +159,7 @@ fn meet_busy(
 {
     match map.hold(a, batch) {
         Ok(holding) => {
-            let busy = found_busy(map, b, other);
+            let busy = busy_error(map, b, other);
             let (a, done) = map.finish(holding);
             match done {
                 Ok(replies) => (a, busy, pixels(&replies)),
@@ -170,18 +170,18 @@ fn meet_busy(
     }
 }
 
-/// A client holds a batch, and takes a snapshot of it.
+/// A client holds a batch, and takes a snapshot of its parts.
 fn hold_and_see(map: &SharedMap, a: Client, batch: Batch) -> (Client, Option<Snapshot>)
     requires { IsClientOf map.now a }
     ensures { IsClientOf map.now result.0 }
 {
     match map.hold(a, batch) {
-        Ok(holding) => seen(map, holding),
+        Ok(holding) => query_reply(map, holding),
         Err((a, _, _)) => (a, None),
     }
 }
 
-/// A client holds a batch for good; then another closes the map.
+/// A client abandons its batch; then another closes the map.
 fn close_midway(map: SharedMap, a: Client, b: Client, batch: Batch) -> Option<CloseError>
     requires { IsClientOf map a × IsClientOf map b }
 {
@@ -192,7 +192,7 @@ fn close_midway(map: SharedMap, a: Client, b: Client, batch: Batch) -> Option<Cl
     map.close(b).err()
 }
 
-/// A map that begins with the first cell of base pixel 7, and its two clients.
+/// Returns a map that starts with the first cell of base pixel 7, and its two clients.
 fn open(alloc: Global) -> Result<(SharedMap, Client, Client)>
     ensures { IfOk result (λ r. IsClientOf r.0 r.1 × IsClientOf r.0 r.2) }
 {
@@ -203,7 +203,7 @@ fn open(alloc: Global) -> Result<(SharedMap, Client, Client)>
     }
 }
 
-/// The clients meet; then one holds a part, and the other meets it there.
+/// The clients meet; then one holds a part, and the other finds it held.
 fn meet_and_hold(
     rt: &HostRuntime,
     map: &SharedMap,
@@ -228,7 +228,7 @@ fn meet_and_hold(
     Ok((a, b))
 }
 
-/// A client looks at a part, the other changes it, and the first tells what it saw.
+/// A client looks at a part, the other changes it, and the first returns what it saw.
 fn look_and_change(
     rt: &HostRuntime,
     map: &SharedMap,
@@ -241,8 +241,8 @@ fn look_and_change(
     let read = Batch::one(rt.alloc(), Command::Read(cell(rt.alloc(), 3)?))?;
     let snapshot = map.look(&mut a, &read)?;
     remove(rt, map, &mut b)?;
-    let seen = snapshot.answer(rt.alloc())?;
-    println!(rt; "client 0 saw {:?}", pixels(&seen))?;
+    let query_reply = snapshot.answer(rt.alloc())?;
+    println!(rt; "client 0 saw {:?}", pixels(&query_reply))?;
     Ok((a, b))
 }
 
@@ -278,7 +278,7 @@ fn close(rt: &HostRuntime, map: SharedMap, a: Client, b: Client) -> Result<()>
     Ok(())
 }
 
-/// A map is not closed while a client holds a batch for good.
+/// Closing a map fails if a client has abandoned a batch.
 fn hold_for_good(rt: &HostRuntime) -> Result<()> {
     let (map, a, b) = open(rt.alloc())?;
     let batch = Batch::one(rt.alloc(), Command::Invert)?;

@@ -1,4 +1,4 @@
-//! Tests of the twelve parts, of the step machine, and of the running map.
+//! Tests of the twelve parts, of the step machine, and of the shared map.
 #![tactic(auto)]
 
 #[cfg(test)]

@@ -1,51 +1,51 @@
-//! Each call that takes memory once with ample memory, and the footprints of small operands.
+//! Each call that allocates once with enough memory, and the footprints of small operands.
 ghost use Rattle.std.specs.Prelude.{◌<◌};
 
 use crate::shown::is_shown;
 use moc_parts::{
-    Batch, BatchError, Command, Map, Operand, Part, PartSet, Replies, Reply, cut, prepare,
-    prepare_changes, reply_of, unite,
+    Batch, BatchError, Command, Map, Operand, Part, PartSet, Replies, Reply, merge_parts, prepare,
+    prepare_changes, reply_of, split_by_base_pixel,
 };
 use moc_ranges::Coverage;
 use moc_sphere::{Cell, Order};
 use std::alloc::Global;
 use std::process::Abort;
 
-/// How many pixels a base pixel has: 4^29.
+/// The number of pixels of a base pixel: 4^29.
 const BASE: u64 = 288230376151711744;
 
-/// The operand of these ranges.
+/// Returns the operand of these ranges.
 fn ranges(rt: &impl Abort, alloc: Global, pairs: &[(u64, u64)]) -> Operand {
     Operand::from(set(rt, alloc, pairs))
 }
 
-/// The set of these ranges.
+/// Returns the union of these ranges.
 fn set(rt: &impl Abort, alloc: Global, pairs: &[(u64, u64)]) -> Coverage {
     Coverage::from_ranges(alloc, pairs).expect(rt, "ranges")
 }
 
-/// The map of these ranges.
+/// Returns the map of these ranges.
 fn map_of(rt: &impl Abort, alloc: Global, pairs: &[(u64, u64)]) -> Map {
     Map::new(alloc, set(rt, alloc, pairs)).expect(rt, "memory")
 }
 
-/// The batch of one command.
+/// Returns the batch of one command.
 fn one(rt: &impl Abort, alloc: Global, command: Command) -> Batch {
     Batch::one(alloc, command).expect(rt, "memory")
 }
 
-/// The command `near` of a cell.
+/// Returns the command `near` of a cell.
 fn near(rt: &impl Abort, order: u8, index: u64) -> Command {
     let order = Order::new(order).expect(rt, "an order");
     Command::Near(Cell::new(order, index).expect(rt, "a cell"))
 }
 
-/// The footprint has just these parts.
+/// Tests whether the footprint has exactly these parts.
 fn has_just(footprint: PartSet, parts: &[u8]) -> bool {
     (0u8..12).all(|b| footprint.contains(Part::of(b)) == parts.contains(&b))
 }
 
-/// Checks that the footprint of a command has just these parts.
+/// Checks that the footprint of a command has exactly these parts.
 fn touches_just(rt: &impl Abort, alloc: Global, command: Command, parts: &[u8]) {
     assert!(rt; has_just(command.footprint(alloc), parts), "{parts:?}");
 }
@@ -71,9 +71,9 @@ fn footprints_of_cells(rt: HostRuntime) {
     touches_just(&rt, alloc, near(&rt, 1, 3), &[0, 1, 2, 3]);
 }
 
-/// Checks in which one part an operand lies.
+/// Checks the single part that contains an operand.
 fn lies_in(rt: &impl Abort, operand: &Operand, part: Option<u8>) {
-    assert_eq!(rt; operand.own_part().map(|part| part.get()), part);
+    assert_eq!(rt; operand.single_part().map(|part| part.get()), part);
 }
 
 #[test]
@@ -121,7 +121,7 @@ fn all_parts(rt: HostRuntime) {
     }
 }
 
-/// The batch that adds base pixel 3, and then nothing.
+/// Returns the batch that adds base pixel 3, and then the empty set.
 fn two_adds(rt: &impl Abort, alloc: Global) -> Batch {
     let three = Command::Add(ranges(rt, alloc, &[(3 * BASE, 4 * BASE)]));
     let none = Command::Add(ranges(rt, alloc, &[]));
@@ -139,8 +139,8 @@ fn a_batch_has_the_parts_of_its_commands(rt: HostRuntime) {
     assert_eq!(rt; copy.commands().len(), 2);
 }
 
-/// Why so many commands are no batch.
-fn refusal_of(rt: &impl Abort, alloc: Global, count: u8) -> Option<BatchError> {
+/// Returns the error of a batch of this number of commands.
+fn batch_error(rt: &impl Abort, alloc: Global, count: u8) -> Option<BatchError> {
     let mut commands = Vec::new(alloc);
     for _ in 0..count {
         commands.push(Command::Invert).expect(rt, "memory");
@@ -150,13 +150,13 @@ fn refusal_of(rt: &impl Abort, alloc: Global, count: u8) -> Option<BatchError> {
 
 #[test]
 fn batches_of_none_and_of_seventeen(rt: HostRuntime) {
-    let none = refusal_of(&rt, rt.alloc(), 0);
+    let none = batch_error(&rt, rt.alloc(), 0);
     assert!(rt; matches!(none, Some(BatchError::EmptyCommand)));
-    let many = refusal_of(&rt, rt.alloc(), 17);
+    let many = batch_error(&rt, rt.alloc(), 17);
     assert!(rt; matches!(many, Some(BatchError::TooManyCommands)));
 }
 
-/// A copy of a set, as the set of a copied reply.
+/// Returns a copy of a set, as the set of a copied reply.
 fn cover_of_copy(rt: &impl Abort, alloc: Global, set: &Coverage) -> Coverage {
     let reply = Reply::Cover(set.try_copy(alloc).expect(rt, "memory"));
     match reply.try_copy(alloc).expect(rt, "memory") {
@@ -165,7 +165,7 @@ fn cover_of_copy(rt: &impl Abort, alloc: Global, set: &Coverage) -> Coverage {
     }
 }
 
-/// The operand of a copied command.
+/// Returns the operand of a copied command.
 fn operand_of_copy(rt: &impl Abort, alloc: Global, operand: Operand) -> Operand {
     match Command::Keep(operand).try_copy(alloc).expect(rt, "memory") {
         Command::Keep(kept) => kept,
@@ -183,7 +183,7 @@ fn copies(rt: HostRuntime) {
     assert!(rt; kept.set.same(&cover));
 }
 
-/// Checks whether the batches of two commands are the same, and those of their copies.
+/// Checks whether the batches of two commands are equal, and their copies.
 fn are_same(rt: &impl Abort, alloc: Global, first: Command, second: Command, same: bool) {
     let first = one(rt, alloc, first);
     let copy = first.try_copy(alloc).expect(rt, "memory");
@@ -214,30 +214,30 @@ fn sets_of_parts(rt: HostRuntime) {
     assert!(rt; parts.union(PartSet::all()) == PartSet::all());
 }
 
-/// The pixels that the first reply says have changed.
-fn changed(replies: &Replies) -> Option<u64> {
+/// Returns the number of changed pixels in the first reply.
+fn changed_pixels(replies: &Replies) -> Option<u64> {
     match replies.first() {
         Some(Reply::Changed(pixels)) => Some(*pixels),
         _ => None,
     }
 }
 
-/// Checks how many pixels a batch of one command changes.
+/// Checks the number of pixels that a batch of one command changes.
 fn is_applied(rt: &impl Abort, alloc: Global, map: &mut Map, command: Command, pixels: u64) {
     let batch = one(rt, alloc, command);
     let replies = map.apply(alloc, &batch).expect(rt, "memory");
-    assert_eq!(rt; changed(&replies), Some(pixels));
+    assert_eq!(rt; changed_pixels(&replies), Some(pixels));
     let copy = replies.try_copy(alloc).expect(rt, "memory");
-    assert_eq!(rt; changed(&copy), Some(pixels));
+    assert_eq!(rt; changed_pixels(&copy), Some(pixels));
 }
 
-/// Checks how many pixels a command changes that is done without a batch.
+/// Checks the number of pixels that a single command changes.
 fn is_answered(rt: &impl Abort, alloc: Global, map: &mut Map, command: Command, pixels: u64) {
     let reply = map.answer(alloc, &command).expect(rt, "memory");
     assert_eq!(rt; reply, Reply::Changed(pixels));
 }
 
-/// Checks how many pixels a part of a map has.
+/// Checks the number of pixels of a part of a map.
 fn has_in_part(rt: &impl Abort, map: &Map, number: u8, pixels: u64)
     requires { number < 12 }
 {
@@ -290,7 +290,7 @@ fn a_batch_is_prepared_from_a_part(rt: HostRuntime) {
     let removal = Command::Remove(ranges(&rt, alloc, &[(5, BASE)]));
     let removal = one(&rt, alloc, removal);
     let mut prepared = prepare(alloc, &removal, &found).expect(&rt, "memory");
-    assert_eq!(rt; changed(prepared.reply()), Some(BASE - 5));
+    assert_eq!(rt; changed_pixels(prepared.reply()), Some(BASE - 5));
     let list = prepared.take(Part::of(0)).expect(&rt, "no list");
     assert_eq!(rt; list.count(), 5);
     assert!(rt; prepared.take(Part::of(0)).is_none());
@@ -322,26 +322,26 @@ fn a_part_that_is_left_has_no_change(rt: HostRuntime) {
     ];
     let addition = one(&rt, alloc, Command::Add(ranges(&rt, alloc, &[(2, 4)])));
     let mut changes = prepare_changes(alloc, &addition, &found).expect(&rt, "memory");
-    assert_eq!(rt; changed(changes.reply()), Some(0));
+    assert_eq!(rt; changed_pixels(changes.reply()), Some(0));
     assert!(rt; changes.take(Part::of(0)).is_none());
 }
 
 #[test]
-fn a_set_is_cut_and_put_together(rt: HostRuntime) {
+fn a_set_is_split_and_merged(rt: HostRuntime) {
     let alloc = rt.alloc();
     let whole = set(&rt, alloc, &[(BASE - 1, BASE + 1)]);
-    let parts = cut(alloc, &whole).expect(&rt, "memory");
+    let parts = split_by_base_pixel(alloc, &whole).expect(&rt, "memory");
     let (first, second) = (parts.first(), parts.get(1));
     let given = [
         first, second, None, None, None, None, None, None, None, None, None, None,
     ];
     assert_eq!(rt; parts.len(), 12);
     assert_eq!(rt; first.expect(&rt, "a part").count(), 1);
-    assert!(rt; unite(alloc, &given).expect(&rt, "memory") == whole);
+    assert!(rt; merge_parts(alloc, &given).expect(&rt, "memory") == whole);
 }
 
 #[test]
-fn errors_are_told(rt: HostRuntime) {
+fn texts_of_errors(rt: HostRuntime) {
     let (few, many) = (BatchError::EmptyCommand, BatchError::TooManyCommands);
     is_shown(&rt, rt.alloc(), &few, "a batch has a command");
     is_shown(&rt, rt.alloc(), &many, "a batch has at most 16 commands");

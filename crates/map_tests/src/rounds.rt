@@ -1,10 +1,10 @@
-//! Clients of one map on threads, for many rounds: twelve, each on a thread of its own and on a part of its own, which
-//! are never refused, since none holds another's part; and sixteen on common parts (`common`).
+//! Clients of one map on threads, for many rounds: twelve clients, each with its own thread and part, whose calls never
+//! fail, because no other client holds the part; and sixteen clients on common parts (`common`).
 ghost use Rattle.moc_shared.specs.Clients.{IsClientOf};
 
 mod common;
 
-use crate::shared::{BASE, CELL, changed, gather, one, set};
+use crate::shared::{BASE, CELL, changed_pixels, gather, one, set};
 use moc_parts::{Batch, Command, Operand};
 use moc_ranges::Coverage;
 use moc_shared::{Client, SharedMap};
@@ -13,22 +13,22 @@ use std::process::Abort;
 use std::sync::atomic::{AtomicU64, Ordering};
 use std::thread;
 
-/// How many clients there are, one for each part.
+/// The number of clients, one for each part.
 const CLIENTS: u8 = 12;
 
-/// How often each adds a cell and removes it.
+/// The number of rounds of each client, which adds a cell and removes it.
 const ROUNDS: u64 = 10_000;
 
-/// How often a thread looks whether the others have started.
+/// The number of checks whether the other threads have started.
 const LOOKS: u64 = 100_000_000;
 
-/// The first cell of order 5 in a base pixel.
+/// Returns the first cell of order 5 in a base pixel.
 fn first_cell(rt: &impl Abort, alloc: Global, base_pixel: u8) -> Operand {
     let from = u64::from(base_pixel % CLIENTS) * BASE;
     Operand::from(set(rt, alloc, &[(from, from + CELL)]))
 }
 
-/// Returns once all of so many threads have started. It yields to them, and gives up after so many looks.
+/// Waits until all threads have started. Yields between checks, and gives up after a limit.
 fn await_start(rt: &impl Abort, started: &AtomicU64, threads: u8) {
     started.fetch_add(1, Ordering::SeqCst);
     for _ in 0..LOOKS {
@@ -40,15 +40,15 @@ fn await_start(rt: &impl Abort, started: &AtomicU64, threads: u8) {
     panic!(rt; "a thread has not started")
 }
 
-/// Whether the batch was done at once, and changed just a cell.
+/// Tests whether the batch was executed at once, and changed exactly one cell.
 fn changes_a_cell(map: &SharedMap, client: &mut Client, batch: &Batch) -> bool
     requires { IsClientOf map.now client.old }
     ensures { IsClientOf map.now client.new }
 {
-    changed(map.try_apply(client, batch)) == Some(CELL)
+    changed_pixels(map.try_apply(client, batch)) == Some(CELL)
 }
 
-/// Makes the rounds: how many of its calls changed just a cell.
+/// Executes the rounds, and returns the number of calls that changed exactly one cell.
 fn make_rounds(map: &SharedMap, client: &mut Client, add: &Batch, remove: &Batch) -> u64
     requires { IsClientOf map.now client.old }
     ensures { IsClientOf map.now client.new }
@@ -62,7 +62,7 @@ fn make_rounds(map: &SharedMap, client: &mut Client, add: &Batch, remove: &Batch
     good
 }
 
-/// A thread's work, once all threads have started: how many of its calls changed just a cell.
+/// The work of a thread after all threads have started: returns the number of calls that changed exactly one cell.
 fn work(
     rt: &impl Abort,
     alloc: Global,
@@ -83,7 +83,7 @@ fn work(
 }
 
 #[test]
-fn twelve_clients_on_parts_of_their_own_are_never_refused(rt: HostRuntime) {
+fn twelve_clients_on_own_parts_never_fail(rt: HostRuntime) {
     let alloc = rt.alloc();
     let (map, clients) = SharedMap::new(alloc, Coverage::empty(alloc), CLIENTS).expect(
         &rt, "a map",

@@ -1,4 +1,4 @@
-//! What clients of one map are answered.
+//! Replies to the clients of one map.
 ghost use Rattle.std.specs.Prelude.{◌≤◌, All, IfSome};
 ghost use Rattle.moc_shared.specs.Clients.{IsClientOf, IsHoldingOf};
 
@@ -13,30 +13,30 @@ use std::process::Abort;
 use std::sync::Wait;
 use std::thread;
 
-/// How many pixels a base pixel has: 4^29.
+/// The number of pixels of a base pixel: 4^29.
 pub const BASE: u64 = 288230376151711744;
 
-/// How many pixels a cell of order 5 has: 4^24.
+/// The number of pixels of a cell of order 5: 4^24.
 pub const CELL: u64 = 281474976710656;
 
-/// The set of these ranges.
+/// Returns the union of these ranges.
 pub fn set(rt: &impl Abort, alloc: Global, pairs: &[(u64, u64)]) -> Coverage {
     Coverage::from_ranges(alloc, pairs).expect(rt, "ranges")
 }
 
-/// The set of base pixels from a first up to, not including, a last.
+/// Returns the operand of the base pixels from `from` up to, not including, `to`.
 fn base(rt: &impl Abort, alloc: Global, from: u64, to: u64) -> Operand
     requires { (from ≤ 12) × (to ≤ 12) }
 {
     Operand::from(set(rt, alloc, &[(from * BASE, to * BASE)]))
 }
 
-/// The batch of one command.
+/// Returns the batch of one command.
 pub fn one(rt: &impl Abort, alloc: Global, command: Command) -> Batch {
     Batch::one(alloc, command).expect(rt, "a batch")
 }
 
-/// The last of the clients that are left.
+/// Removes and returns the last client.
 fn next(rt: &impl Abort, map: &SharedMap, clients: &mut Vec<Client>) -> Client
     requires { All (IsClientOf map.now) clients.old.items }
     ensures left { All (IsClientOf map.now) clients.new.items }
@@ -46,7 +46,7 @@ fn next(rt: &impl Abort, map: &SharedMap, clients: &mut Vec<Client>) -> Client
     clients.pop().expect(rt, "a client")
 }
 
-/// A map of two clients.
+/// Returns a map with two clients.
 fn two(rt: &impl Abort, alloc: Global, start: Coverage) -> (SharedMap, Client, Client)
     ensures { IsClientOf result.0 result.1 × IsClientOf result.0 result.2 }
 {
@@ -56,7 +56,7 @@ fn two(rt: &impl Abort, alloc: Global, start: Coverage) -> (SharedMap, Client, C
     (map, a, b)
 }
 
-/// Checks how many pixels a batch of one command changes.
+/// Checks the number of pixels that a batch of one command changes.
 fn changes(
     rt: &impl Abort,
     alloc: Global,
@@ -69,10 +69,10 @@ fn changes(
     ensures { IsClientOf map.now client.new }
 {
     let batch = one(rt, alloc, command);
-    assert_eq!(rt; changed(map.try_apply(client, &batch)), Some(pixels));
+    assert_eq!(rt; changed_pixels(map.try_apply(client, &batch)), Some(pixels));
 }
 
-/// Checks how many pixels a batch counts that counts a set.
+/// Checks the number of pixels that a batch of one `count` returns.
 fn counts(
     rt: &impl Abort,
     alloc: Global,
@@ -88,7 +88,7 @@ fn counts(
     assert_eq!(rt; total(map.try_apply(client, &batch)), Some(pixels));
 }
 
-/// Closes a map by the client that is left, and checks its set.
+/// Closes a map through its last client, and checks its set.
 fn ends_as(rt: &impl Abort, alloc: Global, map: SharedMap, client: Client, pairs: &[(u64, u64)])
     requires { IsClientOf map client }
 {
@@ -96,15 +96,15 @@ fn ends_as(rt: &impl Abort, alloc: Global, map: SharedMap, client: Client, pairs
     assert!(rt; end.same(&set(rt, alloc, pairs)));
 }
 
-/// How many pixels changed.
-pub fn changed(done: Result<Replies, TryError>) -> Option<u64> {
+/// Returns the number of changed pixels.
+pub fn changed_pixels(done: Result<Replies, TryError>) -> Option<u64> {
     match done.ok()?.first() {
         Some(Reply::Changed(pixels)) => Some(*pixels),
         _ => None,
     }
 }
 
-/// How many pixels were counted.
+/// Returns the number of counted pixels.
 fn total(done: Result<Replies, TryError>) -> Option<u64> {
     match done.ok()?.first() {
         Some(Reply::Total(pixels)) => Some(*pixels),
@@ -112,7 +112,7 @@ fn total(done: Result<Replies, TryError>) -> Option<u64> {
     }
 }
 
-/// Checks which part a batch that counts a set finds held, and by whom.
+/// Checks which part a batch of one `count` finds held, and by which client.
 fn finds_held(
     rt: &impl Abort,
     alloc: Global,
@@ -131,8 +131,8 @@ fn finds_held(
     assert_eq!(rt; (busy.part.get(), busy.holder), found);
 }
 
-/// The holding of a client whose batch of one command takes all of its parts.
-fn held(
+/// Returns the holding of a client whose batch of one command takes all its parts.
+fn hold(
     rt: &impl Abort,
     alloc: Global,
     map: &SharedMap,
@@ -148,14 +148,14 @@ fn held(
     }
 }
 
-/// The client at the end of what others do while it holds a batch, which then changes so many pixels.
-fn finished(rt: &impl Abort, map: &SharedMap, holding: Holding, pixels: u64) -> Client
+/// Runs the calls of other clients while one client holds a batch, which then changes this number of pixels.
+fn finish_after(rt: &impl Abort, map: &SharedMap, holding: Holding, pixels: u64) -> Client
     requires { IsHoldingOf map.now holding }
     ensures { IsClientOf map.now result }
 {
     let (client, done) = map.finish(holding);
     let replies = done.expect(rt, "replies");
-    assert_eq!(rt; changed(Ok(replies)), Some(pixels));
+    assert_eq!(rt; changed_pixels(Ok(replies)), Some(pixels));
     client
 }
 
@@ -167,21 +167,21 @@ fn a_held_part_is_busy_and_the_others_are_not(rt: HostRuntime) {
     let mut c1 = next(&rt, &map, &mut clients);
     let c0 = next(&rt, &map, &mut clients);
     let three = Command::Add(base(&rt, alloc, 3, 4));
-    let holding = held(&rt, alloc, &map, c0, three);
+    let holding = hold(&rt, alloc, &map, c0, three);
     let five = Command::Add(base(&rt, alloc, 5, 6));
     changes(&rt, alloc, &map, &mut c1, five, BASE);
     finds_held(&rt, alloc, &map, &mut c1, base(&rt, alloc, 2, 4), (3, 0));
     let two = Command::Add(base(&rt, alloc, 2, 3));
     changes(&rt, alloc, &map, &mut c2, two, BASE);
-    let c0 = finished(&rt, &map, holding, BASE);
+    let c0 = finish_after(&rt, &map, holding, BASE);
     let pairs = [(2 * BASE, 4 * BASE), (5 * BASE, 6 * BASE)];
     let all = Operand::from(set(&rt, alloc, &pairs));
     counts(&rt, alloc, &map, &mut c1, all, 3 * BASE);
     ends_as(&rt, alloc, map, c0, &pairs);
 }
 
-/// How many pixels of base pixel 4 are told as taken to a batch that claims it; `None` where it is told as claimed.
-fn taken(rt: &impl Abort, alloc: Global, map: &SharedMap, client: &mut Client) -> Option<u64>
+/// Returns the number of pixels of base pixel 4 that are taken when a batch claims it; `None` if the claim succeeds.
+fn taken_pixels(rt: &impl Abort, alloc: Global, map: &SharedMap, client: &mut Client) -> Option<u64>
     requires { IsClientOf map.now client.old }
     ensures { IsClientOf map.now client.new }
 {
@@ -198,8 +198,8 @@ fn taken(rt: &impl Abort, alloc: Global, map: &SharedMap, client: &mut Client) -
 fn two_clients_meet_and_one_takes_in_the_other(rt: HostRuntime) {
     let alloc = rt.alloc();
     let (map, mut a, mut b) = two(&rt, alloc, Coverage::empty(alloc));
-    assert_eq!(rt; taken(&rt, alloc, &map, &mut a), None);
-    assert_eq!(rt; taken(&rt, alloc, &map, &mut b), Some(BASE));
+    assert_eq!(rt; taken_pixels(&rt, alloc, &map, &mut a), None);
+    assert_eq!(rt; taken_pixels(&rt, alloc, &map, &mut b), Some(BASE));
     map.meet(&mut a, &mut b);
     let nothing = Command::Add(base(&rt, alloc, 0, 0));
     changes(&rt, alloc, &map, &mut b, nothing, 0);
@@ -207,8 +207,8 @@ fn two_clients_meet_and_one_takes_in_the_other(rt: HostRuntime) {
     ends_as(&rt, alloc, map, a, &[(4 * BASE, 5 * BASE)]);
 }
 
-/// The part at which a map was not closed, while a client holds a batch. The holding is abandoned afterwards.
-fn midway(map: SharedMap, a: Client, b: Client, batch: Batch) -> Option<u8>
+/// Returns the part at which closing a map fails while a client holds a batch. The holding is abandoned afterwards.
+fn close_while_held(map: SharedMap, a: Client, b: Client, batch: Batch) -> Option<u8>
     requires { IsClientOf map a × IsClientOf map b }
 {
     let holding = map.hold(a, batch).ok()?;
@@ -226,7 +226,7 @@ fn a_part_that_stays_held_is_midway(rt: HostRuntime) {
     let (map, a, mut b) = two(&rt, alloc, set(&rt, alloc, &[(7 * BASE, 8 * BASE)]));
     counts(&rt, alloc, &map, &mut b, base(&rt, alloc, 6, 8), BASE);
     let add = one(&rt, alloc, Command::Add(base(&rt, alloc, 3, 4)));
-    assert_eq!(rt; midway(map, a, b, add), Some(3));
+    assert_eq!(rt; close_while_held(map, a, b, add), Some(3));
 }
 
 #[test]
@@ -235,16 +235,16 @@ fn the_first_part_that_stays_held_is_midway(rt: HostRuntime) {
     let (map, a, b) = two(&rt, alloc, Coverage::empty(alloc));
     let parts = set(&rt, alloc, &[(5 * BASE, 6 * BASE), (9 * BASE, 10 * BASE)]);
     let add = one(&rt, alloc, Command::Add(Operand::from(parts)));
-    assert_eq!(rt; midway(map, a, b, add), Some(5));
+    assert_eq!(rt; close_while_held(map, a, b, add), Some(5));
 }
 
-/// Why a look is refused.
-fn unseen(looked: Result<Snapshot, LookError>) -> Option<LookError> {
+/// Returns the error of a look.
+fn look_error(looked: Result<Snapshot, LookError>) -> Option<LookError> {
     looked.err()
 }
 
-/// What is read of a set, for later.
-fn seen(
+/// Returns a snapshot of a set.
+fn snapshot_of(
     rt: &impl Abort,
     alloc: Global,
     map: &SharedMap,
@@ -265,7 +265,7 @@ fn a_snapshot_answers_what_was_there(rt: HostRuntime) {
     let add = Command::Add(base(&rt, alloc, 3, 4));
     changes(&rt, alloc, &map, &mut b, add, BASE);
     let both = set(&rt, alloc, &[(3 * BASE, 4 * BASE), (5 * BASE, 6 * BASE)]);
-    let snapshot = seen(&rt, alloc, &map, &mut a, Operand::from(both));
+    let snapshot = snapshot_of(&rt, alloc, &map, &mut a, Operand::from(both));
     let remove = Command::Remove(base(&rt, alloc, 3, 4));
     changes(&rt, alloc, &map, &mut b, remove, BASE);
     for _ in 0..2 {
@@ -280,20 +280,23 @@ fn a_look_is_of_queries(rt: HostRuntime) {
     let alloc = rt.alloc();
     let (map, mut a, _) = two(&rt, alloc, Coverage::empty(alloc));
     let five = one(&rt, alloc, Command::Add(base(&rt, alloc, 5, 6)));
-    assert_eq!(rt; unseen(map.look(&mut a, &five)), Some(LookError::NotQuery));
+    assert_eq!(rt;
+        look_error(map.look(&mut a, &five)),
+        Some(LookError::NotQuery)
+    );
     ends_as(&rt, alloc, map, a, &[]);
 }
 
-/// Checks that a snapshot answers with these ranges.
+/// Checks that a snapshot replies with these ranges.
 fn answers(rt: &impl Abort, alloc: Global, snapshot: &Snapshot, pairs: &[(u64, u64)]) {
-    let seen = snapshot.answer(alloc).expect(rt, "an answer");
-    let Some(Reply::Cover(cover)) = seen.first() else {
+    let snapshot_of = snapshot.answer(alloc).expect(rt, "an answer");
+    let Some(Reply::Cover(cover)) = snapshot_of.first() else {
         panic!(rt; "a cover")
     };
     assert!(rt; cover.same(&set(rt, alloc, pairs)));
 }
 
-/// Checks how many pixels a command changes, done without a batch.
+/// Checks the number of pixels that a single command changes.
 fn changes_alone<R: Abort + Wait>(
     rt: &R,
     map: &SharedMap,
@@ -304,13 +307,13 @@ fn changes_alone<R: Abort + Wait>(
     requires { IsClientOf map.now client.old }
     ensures { IsClientOf map.now client.new }
 {
-    let Ok(Reply::Changed(seen)) = map.answer(rt, client, command) else {
+    let Ok(Reply::Changed(snapshot_of)) = map.answer(rt, client, command) else {
         panic!(rt; "another answer")
     };
-    assert_eq!(rt; seen, pixels);
+    assert_eq!(rt; snapshot_of, pixels);
 }
 
-/// Checks how many pixels are counted without a batch.
+/// Checks the number of pixels that a single command counts.
 fn counts_alone<R: Abort + Wait>(
     rt: &R,
     map: &SharedMap,
@@ -321,13 +324,13 @@ fn counts_alone<R: Abort + Wait>(
     requires { IsClientOf map.now client.old }
     ensures { IsClientOf map.now client.new }
 {
-    let Ok(Reply::Total(seen)) = map.answer(rt, client, Command::Count(counted)) else {
+    let Ok(Reply::Total(snapshot_of)) = map.answer(rt, client, Command::Count(counted)) else {
         panic!(rt; "another answer")
     };
-    assert_eq!(rt; seen, pixels);
+    assert_eq!(rt; snapshot_of, pixels);
 }
 
-/// The first cells of order 5 of base pixel 3, as many as two at most.
+/// The first cells of order 5 of base pixel 3, at most two.
 fn cells_of_3(rt: &impl Abort, alloc: Global, count: u64) -> Operand
     requires { count ≤ 2 }
 {
@@ -340,17 +343,17 @@ fn single_commands(rt: HostRuntime) {
     let (map, mut a, mut b) = two(&rt, alloc, Coverage::empty(alloc));
     let three = Command::Add(base(&rt, alloc, 3, 4));
     changes_alone(&rt, &map, &mut a, three, BASE);
-    let snapshot = seen(&rt, alloc, &map, &mut b, base(&rt, alloc, 3, 6));
-    // More than the part that is there already, in two parts, and in one that is new.
+    let snapshot = snapshot_of(&rt, alloc, &map, &mut b, base(&rt, alloc, 3, 6));
+    // More than what is there already, in two parts, and in a new one.
     let more = Command::Add(base(&rt, alloc, 3, 5));
     changes_alone(&rt, &map, &mut b, more, BASE);
     let six = Operand::from(set(&rt, alloc, &[(6 * BASE, 6 * BASE + CELL)]));
     changes_alone(&rt, &map, &mut a, Command::Add(six), CELL);
-    let taken = Command::Remove(cells_of_3(&rt, alloc, 1));
-    changes_alone(&rt, &map, &mut a, taken, CELL);
+    let taken_pixels = Command::Remove(cells_of_3(&rt, alloc, 1));
+    changes_alone(&rt, &map, &mut a, taken_pixels, CELL);
     let again = Command::Add(cells_of_3(&rt, alloc, 2));
     changes_alone(&rt, &map, &mut b, again, CELL);
-    // Of one range in one part, and over parts.
+    // Of one range in one part, and across parts.
     counts_alone(&rt, &map, &mut a, base(&rt, alloc, 6, 7), CELL);
     counts_alone(&rt, &map, &mut b, base(&rt, alloc, 0, 12), 2 * BASE + CELL);
     answers(&rt, alloc, &snapshot, &[(3 * BASE, 4 * BASE)]);
@@ -369,15 +372,15 @@ fn one_command_changes_no_snapshot(rt: HostRuntime) {
     let alloc = rt.alloc();
     let most = [(3 * BASE, 4 * BASE - CELL)];
     let (map, mut a, _) = two(&rt, alloc, set(&rt, alloc, &most));
-    let snapshot = seen(&rt, alloc, &map, &mut a, base(&rt, alloc, 3, 4));
+    let snapshot = snapshot_of(&rt, alloc, &map, &mut a, base(&rt, alloc, 3, 4));
     let rest = Operand::from(set(&rt, alloc, &[(4 * BASE - 2 * CELL, 4 * BASE)]));
     changes_alone(&rt, &map, &mut a, Command::Add(rest), CELL);
     answers(&rt, alloc, &snapshot, &most);
     counts_alone(&rt, &map, &mut a, base(&rt, alloc, 3, 4), BASE);
 }
 
-/// How many clients a map of so many has.
-fn made(alloc: Global, clients: u8) -> Option<usize> {
+/// Returns the number of clients of a map that is created with this number.
+fn client_count(alloc: Global, clients: u8) -> Option<usize> {
     match SharedMap::new(alloc, Coverage::empty(alloc), clients) {
         Ok((_, all)) => Some(all.len()),
         Err(_) => None,
@@ -387,27 +390,28 @@ fn made(alloc: Global, clients: u8) -> Option<usize> {
 #[test]
 fn a_map_has_1_to_64_clients(rt: HostRuntime) {
     let alloc = rt.alloc();
-    assert_eq!(rt; made(alloc, 0), None);
-    assert_eq!(rt; made(alloc, 1), Some(1));
-    assert_eq!(rt; made(alloc, 64), Some(64));
-    assert_eq!(rt; made(alloc, 65), None);
-    assert_eq!(rt; made(alloc, 255), None);
+    assert_eq!(rt; client_count(alloc, 0), None);
+    assert_eq!(rt; client_count(alloc, 1), Some(1));
+    assert_eq!(rt; client_count(alloc, 64), Some(64));
+    assert_eq!(rt; client_count(alloc, 65), None);
+    assert_eq!(rt; client_count(alloc, 255), None);
 }
 
-/// The batch that adds one cell of order 5.
+/// Returns the batch that adds one cell of order 5.
 fn add_cell(alloc: Global, index: u64) -> Option<Batch> {
     let from = (index % 12288) * CELL;
     let set = Coverage::from_ranges(alloc, &[(from, from + CELL)]).ok()?;
     Batch::one(alloc, Command::Add(Operand { set, coarse: None })).ok()
 }
 
-/// Does a batch, again while one of its parts is held, at most a hundred million times: how many pixels it changed.
-fn insist(map: &SharedMap, client: &mut Client, batch: &Batch) -> Option<u64>
+/// Executes a batch, and retries while one of its parts is held, at most a hundred million times; returns the number of
+/// changed pixels.
+fn apply_with_retries(map: &SharedMap, client: &mut Client, batch: &Batch) -> Option<u64>
     requires { IsClientOf map.now client.old }
     ensures { IsClientOf map.now client.new }
 {
     for _ in 0u64..100_000_000 {
-        let done = changed(map.try_apply(client, batch));
+        let done = changed_pixels(map.try_apply(client, batch));
         if done.is_some() {
             return done;
         }
@@ -416,7 +420,7 @@ fn insist(map: &SharedMap, client: &mut Client, batch: &Batch) -> Option<u64>
     None
 }
 
-/// Adds a hundred cells: how many of them changed the map just by themselves.
+/// Adds a hundred cells, and returns how many of them changed the map by exactly one cell.
 fn add_cells(alloc: Global, map: &SharedMap, client: Client) -> (Client, u64)
     requires { IsClientOf map.now client }
     ensures { IsClientOf map.now result.0 }
@@ -426,7 +430,7 @@ fn add_cells(alloc: Global, map: &SharedMap, client: Client) -> (Client, u64)
     let number = u64::from(client.number());
     for j in 0u64..100 {
         if let Some(add) = add_cell(alloc, (100 * number + j) * 15) {
-            if insist(map, &mut client, &add) == Some(CELL) {
+            if apply_with_retries(map, &mut client, &add) == Some(CELL) {
                 good = good.saturating_add(1);
             }
         }
@@ -434,7 +438,7 @@ fn add_cells(alloc: Global, map: &SharedMap, client: Client) -> (Client, u64)
     (client, good)
 }
 
-/// The first client, which has taken the others in, and how often all succeeded.
+/// Returns the first client, which has taken in the others, and how many calls succeeded.
 pub fn gather(map: &SharedMap, ended: Vec<(Client, u64)>) -> Option<(Client, u64)>
     requires { All (λ e. IsClientOf map.now e.0) ended.items }
     ensures { IfSome result (λ r. IsClientOf map.now r.0) }
@@ -475,7 +479,7 @@ fn eight_clients_add_in_threads(rt: HostRuntime) {
     );
 }
 
-/// Adds and removes a set a thousand times, waiting for its parts.
+/// Adds and removes a set a thousand times, and waits for its parts.
 fn come_and_go<R: Wait>(
     rt: &R,
     map: &SharedMap,
@@ -495,7 +499,7 @@ fn come_and_go<R: Wait>(
     (client, true)
 }
 
-/// Counts a thousand times, waiting for the parts: nothing is there, or all of a base pixel.
+/// Counts a thousand times, and waits for the parts: the result is 0, or a whole base pixel.
 fn count_often<R: Wait>(rt: &R, map: &SharedMap, client: Client, count: &Batch) -> (Client, bool)
     requires { IsClientOf map.now client }
     ensures { IsClientOf map.now result.0 }

@@ -1,4 +1,4 @@
-//! How errors and values are shown.
+//! `Display` and `Debug` of errors and values.
 use std::alloc::Global;
 use std::fmt::{Debug, Display};
 use std::process::Abort;
@@ -9,7 +9,7 @@ pub fn is_shown<E: Display>(rt: &impl Abort, alloc: Global, error: &E, text: &st
     assert_eq!(rt; shown.as_str(), text);
 }
 
-/// Checks the text that `{:?}` makes of a value.
+/// Checks the `Debug` text of a value.
 pub fn is_debugged<T: Debug>(rt: &impl Abort, alloc: Global, value: &T, text: &str) {
     let shown = format!(in alloc; "{value:?}").expect(rt, "memory");
     assert_eq!(rt; shown.as_str(), text);

@@ -1,4 +1,4 @@
-//! Schedules that were worked by hand.
+//! Schedules that were worked out by hand.
 ghost use Rattle.std.specs.Prelude.{◌<◌, ◌≤◌, IfOk};
 ghost use Rattle.map_tests.specs.Worlds.{IsMadeInOrder};
 
@@ -12,10 +12,10 @@ use moc_steps::{
 use std::alloc::Global;
 use std::process::Abort;
 
-/// How many pixels a base pixel has: 4^29.
+/// The number of pixels of a base pixel: 4^29.
 const BASE: u64 = 288230376151711744;
 
-/// The set of base pixels from a first up to, not including, a last.
+/// Returns the operand of the base pixels from `from` up to, not including, `to`.
 fn base_pixels(rt: &impl Abort, alloc: Global, from: u64, to: u64) -> Operand
     requires from { from ≤ 12 }
     requires to { to ≤ 12 }
@@ -24,13 +24,13 @@ fn base_pixels(rt: &impl Abort, alloc: Global, from: u64, to: u64) -> Operand
     Operand::from(set.expect(rt, "ranges"))
 }
 
-/// A client begins a batch of one command.
+/// Returns the step in which a client begins a batch of one command.
 fn begin(rt: &impl Abort, alloc: Global, client: u32, command: Command) -> Step {
     let batch = Batch::one(alloc, command).expect(rt, "a batch");
     Step::Begin { client, batch }
 }
 
-/// A world that starts empty.
+/// Returns a world that starts empty.
 fn empty_world(rt: &impl Abort, alloc: Global) -> World {
     World::new(alloc, Coverage::empty(alloc)).expect(rt, "a world")
 }
@@ -57,32 +57,32 @@ fn give(client: u32, b: u8) -> Step
     }
 }
 
-/// Takes a step that is permitted and gives no reply.
+/// Executes a permitted step without a reply.
 fn go(rt: &impl Abort, world: &mut World, step: Step) {
     assert!(rt; world.permits(&step).is_ok());
     let reply = world.step(step).expect(rt, "permitted");
     assert!(rt; reply.is_none());
 }
 
-/// Ends a client's operation: how many pixels it changed or counted.
+/// Ends a client's operation, and returns the number of changed or counted pixels.
 fn end(rt: &impl Abort, world: &mut World, client: u32) -> Option<u64> {
     let replies = world.step(Step::End { client }).expect(rt, "permitted");
     pixels(replies.as_ref())
 }
 
-/// Checks the refusal of a step.
-fn is_refused(rt: &impl Abort, world: &mut World, step: Step, why: StepError) {
+/// Checks the error of a step.
+fn fails_with(rt: &impl Abort, world: &mut World, step: Step, why: StepError) {
     let told = world.permits(&step).err();
     assert_eq!(rt; world.step(step).err(), told);
     assert_eq!(rt; told, Some(why));
 }
 
-/// How many pixels the first reply tells of.
+/// Returns the number of pixels in the first reply.
 fn pixels(replies: Option<&Replies>) -> Option<u64> {
     replies?.first()?.pixels()
 }
 
-/// Whether the operations stand in this order.
+/// Tests whether the operations have this order.
 fn stand(world: &World, begins: &[u64]) -> bool {
     let order = world.order();
     order.len() == begins.len()
@@ -92,32 +92,32 @@ fn stand(world: &World, begins: &[u64]) -> bool {
             .all(|(entry, begin)| entry.begin == *begin)
 }
 
-/// How many pixels the last operation of the order changed or counted.
+/// Returns the number of pixels that the last operation of the order changed or counted.
 fn last_pixels(world: &World) -> Option<u64> {
     pixels(world.order().last()?.reply.as_ref())
 }
 
-/// The set of a world in which nobody is midway.
+/// Returns the set of a world without an active client.
 fn set_of(rt: &impl Abort, world: &World) -> Coverage {
     world.coverage().expect(rt, "nobody is midway")
 }
 
-/// How many clients are midway, so that a world has no set.
-fn midway(world: &World) -> Option<usize> {
+/// Returns the number of active clients, which leave a world without a set.
+fn active_count(world: &World) -> Option<usize> {
     match world.coverage().err()? {
         CoverError::Midway { n } => Some(n),
         CoverError::Memory => None,
     }
 }
 
-/// The world that steps lead to.
-fn played(rt: &impl Abort, alloc: Global, start: &Coverage, steps: &[Step]) -> World {
+/// Returns the world after some steps.
+fn world_after(rt: &impl Abort, alloc: Global, start: &Coverage, steps: &[Step]) -> World {
     replay(alloc, start, steps).expect(rt, "permitted")
 }
 
-/// The world after the eighth line of the first worked schedule: a count stands behind an add that has given one part
-/// back.
-fn overtaken(rt: &impl Abort, alloc: Global) -> World {
+/// Returns the world after the eighth line of the first worked schedule: a count waits for an add that has given one
+/// part back.
+fn world_before_overtaking(rt: &impl Abort, alloc: Global) -> World {
     let mut world = empty_world(rt, alloc);
     go(
         rt,
@@ -135,16 +135,16 @@ fn overtaken(rt: &impl Abort, alloc: Global) -> World {
     go(rt, &mut world, give(1, 0));
     go(rt, &mut world, take(2));
     let part = Part::of(1);
-    is_refused(rt, &mut world, take(2), StepError::PartHeld { part, by: 1 });
+    fails_with(rt, &mut world, take(2), StepError::PartHeld { part, by: 1 });
     world
 }
 
 #[test]
 fn a_count_waits_for_an_add(rt: HostRuntime) {
-    let mut world = overtaken(&rt, rt.alloc());
+    let mut world = world_before_overtaking(&rt, rt.alloc());
     assert_eq!(rt; world.part(Part::of(0)).count(), BASE);
     assert!(rt; world.part(Part::of(1)).is_empty());
-    assert_eq!(rt; midway(&world), Some(2));
+    assert_eq!(rt; active_count(&world), Some(2));
     go(&rt, &mut world, edit(1, 1));
     go(&rt, &mut world, give(1, 1));
     go(&rt, &mut world, take(2));
@@ -161,25 +161,25 @@ fn a_count_waits_for_an_add(rt: HostRuntime) {
 
 #[test]
 fn a_world_is_debugged_by_its_operations(rt: HostRuntime) {
-    let mut world = overtaken(&rt, rt.alloc());
+    let mut world = world_before_overtaking(&rt, rt.alloc());
     assert_eq!(rt; drain(&mut world).expect(&rt, "drained"), 9);
     go(&rt, &mut world, begin(&rt, rt.alloc(), 1, Command::Invert));
     let text = "World { begun: 3, midway: 1 }";
     is_debugged(&rt, rt.alloc(), &world, text);
 }
 
-/// The set of a world that was handed in: what its operations make, done one by one in its order.
+/// The set of a world: the result of its operations, executed one by one in its order.
 fn set_in_order(world: &World) -> Result<Coverage, CoverError>
     ensures { IfOk result (λ a. IsMadeInOrder world.now a) }
 {
-    world.is_reached();
+    world.prove_reachable();
     steps_have_one_order();
     world.coverage()
 }
 
 #[test]
 fn a_world_is_drained(rt: HostRuntime) {
-    let mut world = overtaken(&rt, rt.alloc());
+    let mut world = world_before_overtaking(&rt, rt.alloc());
     assert!(rt; next_step(&world).is_some());
     assert_eq!(rt; drain(&mut world).expect(&rt, "drained"), 9);
     assert_eq!(rt; world.midway(), 0);
@@ -194,31 +194,31 @@ fn a_world_is_drained(rt: HostRuntime) {
 }
 
 #[test]
-fn refusals(rt: HostRuntime) {
+fn errors_of_steps(rt: HostRuntime) {
     let alloc = rt.alloc();
     let mut world = empty_world(&rt, alloc);
-    is_refused(&rt, &mut world, take(7), StepError::Idle);
+    fails_with(&rt, &mut world, take(7), StepError::Idle);
     go(&rt, &mut world, begin(&rt, alloc, 7, Command::Invert));
     let again = begin(&rt, alloc, 7, Command::Invert);
-    is_refused(&rt, &mut world, again, StepError::NotIdle);
-    is_refused(&rt, &mut world, edit(7, 0), StepError::NotAllTaken);
-    is_refused(&rt, &mut world, give(7, 0), StepError::NotHeld);
-    is_refused(
+    fails_with(&rt, &mut world, again, StepError::NotIdle);
+    fails_with(&rt, &mut world, edit(7, 0), StepError::NotAllTaken);
+    fails_with(&rt, &mut world, give(7, 0), StepError::NotHeld);
+    fails_with(
         &rt,
         &mut world,
         Step::End { client: 7 },
         StepError::NothingDone,
     );
     go(&rt, &mut world, take(7));
-    is_refused(
+    fails_with(
         &rt,
         &mut world,
         Step::End { client: 7 },
         StepError::StillHolding,
     );
-    is_refused(&rt, &mut world, give(7, 0), StepError::NotEdited);
+    fails_with(&rt, &mut world, give(7, 0), StepError::NotEdited);
     go(&rt, &mut world, Step::Quit { client: 7 });
-    is_refused(&rt, &mut world, take(7), StepError::Quitting);
+    fails_with(&rt, &mut world, take(7), StepError::Quitting);
     go(&rt, &mut world, give(7, 0));
     go(&rt, &mut world, Step::End { client: 7 });
     assert!(rt; world.order().is_empty());
@@ -232,10 +232,10 @@ fn a_client_that_has_edited(rt: HostRuntime) {
     let read = Command::Read(base_pixels(&rt, alloc, 0, 1));
     go(&rt, &mut world, begin(&rt, alloc, 2, read));
     go(&rt, &mut world, take(2));
-    is_refused(&rt, &mut world, take(2), StepError::AllTaken);
+    fails_with(&rt, &mut world, take(2), StepError::AllTaken);
     go(&rt, &mut world, edit(2, 0));
-    is_refused(&rt, &mut world, edit(2, 0), StepError::AlreadyEdited);
-    is_refused(
+    fails_with(&rt, &mut world, edit(2, 0), StepError::AlreadyEdited);
+    fails_with(
         &rt,
         &mut world,
         Step::Quit { client: 2 },
@@ -243,7 +243,7 @@ fn a_client_that_has_edited(rt: HostRuntime) {
     );
 }
 
-/// A count that begins before an add and edits behind it.
+/// A count that begins before an add and edits after it.
 fn an_add_goes_first(rt: &impl Abort, alloc: Global) -> Vec<Step> {
     let count = Command::Count(base_pixels(rt, alloc, 0, 1));
     let add = Command::Add(base_pixels(rt, alloc, 0, 1));
@@ -266,7 +266,7 @@ fn an_add_goes_first(rt: &impl Abort, alloc: Global) -> Vec<Step> {
 fn the_order_is_by_first_edit(rt: HostRuntime) {
     let alloc = rt.alloc();
     let steps = an_add_goes_first(&rt, alloc);
-    let world = played(&rt, alloc, &Coverage::empty(alloc), &steps);
+    let world = world_after(&rt, alloc, &Coverage::empty(alloc), &steps);
     assert!(rt; stand(&world, &[1, 0]));
     assert_eq!(rt; last_pixels(&world), Some(BASE));
 }
@@ -284,40 +284,40 @@ fn a_take_too_many(rt: &impl Abort, alloc: Global) -> Vec<Step> {
     steps.expect(rt, "steps")
 }
 
-/// A take before anything is begun.
+/// A take before any client has begun.
 fn a_take_too_early(rt: &impl Abort, alloc: Global) -> Vec<Step> {
     vec![in alloc; take(1)].expect(rt, "a step")
 }
 
-/// Where a list of steps was refused, and why.
-fn refused_at(alloc: Global, steps: &[Step]) -> Option<(usize, StepError)> {
+/// Returns the index and the error of the first step that fails.
+fn first_failing_step(alloc: Global, steps: &[Step]) -> Option<(usize, StepError)> {
     let refusal = replay(alloc, &Coverage::empty(alloc), steps).err()?;
     Some((refusal.at, refusal.why))
 }
 
 #[test]
-fn refused_lists(rt: HostRuntime) {
+fn lists_that_fail(rt: HostRuntime) {
     let alloc = rt.alloc();
     let early = a_take_too_early(&rt, alloc);
-    assert!(rt; refused_at(alloc, &early) == Some((0, StepError::Idle)));
+    assert!(rt; first_failing_step(alloc, &early) == Some((0, StepError::Idle)));
     let many = a_take_too_many(&rt, alloc);
-    assert!(rt; refused_at(alloc, &many) == Some((4, StepError::AllTaken)));
+    assert!(rt; first_failing_step(alloc, &many) == Some((4, StepError::AllTaken)));
 }
 
 #[test]
-fn the_steps_before_a_refused_one(rt: HostRuntime) {
+fn the_steps_before_a_failing_one(rt: HostRuntime) {
     let alloc = rt.alloc();
     let many = a_take_too_many(&rt, alloc);
     assert_eq!(rt; many.len(), 5);
-    let world = played(&rt, alloc, &Coverage::empty(alloc), &many[..3]);
-    assert_eq!(rt; midway(&world), Some(1));
+    let world = world_after(&rt, alloc, &Coverage::empty(alloc), &many[..3]);
+    assert_eq!(rt; active_count(&world), Some(1));
 }
 
 #[test]
 fn nothing_is_done_by_no_steps(rt: HostRuntime) {
     let alloc = rt.alloc();
     let start = Coverage::full(alloc).expect(&rt, "memory");
-    let world = played(&rt, alloc, &start, &[]);
+    let world = world_after(&rt, alloc, &start, &[]);
     assert!(rt; world.order().is_empty());
     assert!(rt; set_of(&rt, &world).same(&start));
 }
@@ -349,7 +349,7 @@ fn texts_of_errors(rt: HostRuntime) {
 }
 
 #[test]
-fn texts_of_refusals(rt: HostRuntime) {
+fn texts_of_step_errors(rt: HostRuntime) {
     let alloc = rt.alloc();
     is_shown(
         &rt,

@@ -1,6 +1,6 @@
-//! How long works on a running map take, of so many calls a thread. A line a work has its name, how many calls changed
-//! just a cell, the least and the median time, and how many readings were answered beside the latter. Where no number
-//! is named it makes a few calls, and tells no time. `bench/README.md` has what it measured.
+//! Times of works on a shared map, with a number of calls for each thread. The line of a work has its name, the number
+//! of calls that changed exactly one cell, the least and the median time, and the number of reads during the median
+//! run. Without a number it makes a few calls and prints no times. `bench/README.md` has the measurements.
 ghost use Rattle.std.specs.Prelude.{All, IfSome};
 ghost use Rattle.moc_shared.specs.Clients.{IsClientOf};
 
@@ -19,25 +19,25 @@ use std::sync::Wait;
 use std::thread::{self, Threads};
 use std::time::{Clock, Instant};
 
-/// How often each work is timed.
+/// The number of times that each work is timed.
 const REPEATS: u32 = 25;
 
-/// How many calls are made where nothing is timed.
+/// The number of calls if nothing is timed.
 const FEW: u64 = 24;
 
-/// How many cells, no two side by side, base pixel 0 has where it is read.
+/// The number of separate cells in base pixel 0 if it is read.
 const READ_CELLS: u64 = 1000;
 
-/// What is timed.
+/// The work that is timed.
 #[derive(Clone, Copy)]
 enum Work {
-    /// Adds of one cell each to a map that one user has.
+    /// Adds of one cell each to a `Map`.
     Map,
-    /// The same adds by the one client of a running map, by `try_apply`.
+    /// The same adds by the only client of a shared map, with `try_apply`.
     OneClient,
-    /// So many clients of one map, each on a thread of its own.
+    /// A number of clients of one map, each on its own thread.
     Together(Job, u8),
-    /// So many threads that share nothing: each has a map of its own, with one client.
+    /// A number of threads that share nothing: each has its own map with one client.
     Apart(u8),
 }
 
@@ -52,7 +52,7 @@ fn adds(alloc: Global, calls: u64) -> Result<Vec<Batch>> {
     Ok(batches)
 }
 
-/// Whether clients look at what another changes.
+/// Whether clients read what another one changes.
 fn has_readers(work: Work) -> bool {
     match work {
         Work::Together(job, _) => job.has_readers(),
@@ -60,7 +60,7 @@ fn has_readers(work: Work) -> bool {
     }
 }
 
-/// The set that a map begins with: what is to be read, where something is.
+/// The set that a map starts with: separate cells if it is read.
 fn start(alloc: Global, work: Work) -> Result<Coverage> {
     let mut set = Coverage::empty(alloc);
     if has_readers(work) {
@@ -71,7 +71,7 @@ fn start(alloc: Global, work: Work) -> Result<Coverage> {
     Ok(set)
 }
 
-/// The adds on a map that one user has.
+/// The adds to a `Map`.
 fn on_a_map<R: Clock>(rt: &R, alloc: Global, calls: u64) -> Result<Figure> {
     let mut map = Map::new(alloc, Coverage::empty(alloc))?;
     let batches = adds(alloc, calls)?;
@@ -83,7 +83,7 @@ fn on_a_map<R: Clock>(rt: &R, alloc: Global, calls: u64) -> Result<Figure> {
     Figure::since(rt, &start, good)
 }
 
-/// The last of the clients that are left.
+/// Removes and returns the last client.
 fn next(map: &SharedMap, clients: &mut Vec<Client>) -> Option<Client>
     requires { All (IsClientOf map.now) clients.old.items }
     ensures { IfSome result (IsClientOf map.now) }
@@ -95,7 +95,7 @@ fn next(map: &SharedMap, clients: &mut Vec<Client>) -> Option<Client>
     }
 }
 
-/// The adds by one client of a running map.
+/// The adds by one client of a shared map.
 fn by_one_client<R: Clock>(rt: &R, alloc: Global, calls: u64) -> Result<Figure> {
     let (map, mut clients) = SharedMap::new(alloc, Coverage::empty(alloc), 1)?;
     let Some(mut client) = next(&map, &mut clients) else {
@@ -111,7 +111,7 @@ fn by_one_client<R: Clock>(rt: &R, alloc: Global, calls: u64) -> Result<Figure> 
     Figure::since(rt, &start, good)
 }
 
-/// What clients of one map do, each on a thread of its own.
+/// The work of clients of one map, each on its own thread.
 fn by_threads<R: Threads + Wait + Clock + Sync>(
     rt: &R,
     alloc: Global,
@@ -133,8 +133,8 @@ fn by_threads<R: Threads + Wait + Clock + Sync>(
     Ok(Figure::of_all(ended))
 }
 
-/// What a thread does on a map of its own. Nothing is good where memory is refused.
-fn alone<R: Wait + Clock>(rt: &R, alloc: Global, plan: &Plan) -> Figure {
+/// The work of a thread on its own map. No call counts if an allocation fails.
+fn work_alone<R: Wait + Clock>(rt: &R, alloc: Global, plan: &Plan) -> Figure {
     let Ok((map, mut clients)) = SharedMap::new(alloc, Coverage::empty(alloc), 1) else {
         return Figure::nothing();
     };
@@ -144,7 +144,7 @@ fn alone<R: Wait + Clock>(rt: &R, alloc: Global, plan: &Plan) -> Figure {
     }
 }
 
-/// What threads do that share nothing.
+/// The work of threads that share nothing.
 fn by_threads_apart<R: Threads + Wait + Clock + Sync>(
     rt: &R,
     alloc: Global,
@@ -157,11 +157,15 @@ fn by_threads_apart<R: Threads + Wait + Clock + Sync>(
     }
     let plan = Plan::new(Job::OwnParts, threads, rounds);
     let plan = &plan;
-    let ended = thread::map_vec(rt, numbers, &|_: u8| -> Figure { alone(rt, alloc, plan) })?;
+    let ended = thread::map_vec(
+        rt,
+        numbers,
+        &|_: u8| -> Figure { work_alone(rt, alloc, plan) },
+    )?;
     Ok(Figure::of_all(ended))
 }
 
-/// What the work comes to, once.
+/// Runs the work once, and returns its result.
 fn once<R: Threads + Wait + Clock + Sync>(
     rt: &R,
     alloc: Global,
@@ -178,7 +182,7 @@ fn once<R: Threads + Wait + Clock + Sync>(
     }
 }
 
-/// The works, by name.
+/// The works by name.
 const WORKS: [(&str, Work); 17] = [
     ("a map", Work::Map),
     ("one client", Work::OneClient),
@@ -220,8 +224,7 @@ const WORKS: [(&str, Work); 17] = [
     ),
 ];
 
-/// How often each work is timed, and how it came out, each in turn, so that what else the machine does falls on all
-/// alike.
+/// Times each work in turn, so that the load of the machine falls on all alike, and returns the results.
 fn in_turns<R: Threads + Wait + Clock + Sync>(
     rt: &R,
     alloc: Global,
@@ -256,7 +259,7 @@ fn print_row(rt: &impl Print, name: &str, row: &mut Vec<Figure>) -> Result<()> {
     Ok(())
 }
 
-/// Does each work and prints its line: of so many calls a thread, often enough to tell times, or of a few, once.
+/// Runs each work and prints its line: with this number of calls for each thread, timed, or once with a few calls.
 pub fn run<R: Threads + Wait + Clock + Print + Sync>(
     rt: &R,
     alloc: Global,

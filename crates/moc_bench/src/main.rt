@@ -1,5 +1,5 @@
-//! What the library takes. `moc_bench OP REPEATS [COUNT]` times one operation of it (`timing`), `moc_bench clients
-//! [CALLS]` works of clients of a running map (`clients`).
+//! Benchmarks of the library. `moc_bench OP REPEATS [COUNT]` times one operation (`timing`), `moc_bench clients
+//! [CALLS]` the clients of a shared map (`clients`).
 #![tactic(auto)]
 
 mod clients;

@@ -8,7 +8,7 @@ use moc_steps::{Step, replay};
 use moc_text::{read_ascii, write_ascii, write_json};
 use std::alloc::{AllocError, Global};
 
-/// What is timed.
+/// An operation that is timed.
 #[derive(Clone, Copy)]
 pub enum Operation {
     ReadAscii,
@@ -28,11 +28,11 @@ pub enum Operation {
     Border(u8),
     /// Steps by clients one after another.
     Turns,
-    /// Steps in rounds of so many clients.
+    /// Steps in rounds of a number of clients.
     Rounds(u32),
 }
 
-/// What operations work on.
+/// The input of operations.
 #[derive(Drop)]
 pub struct Input<'a> {
     text: &'a [u8],
@@ -43,8 +43,7 @@ pub struct Input<'a> {
 }
 
 impl<'a> Input<'a> {
-    /// The coverages that the first two lines say, and what else the operation wants: so many numbers or operations, or
-    /// millions.
+    /// The coverages of the first two lines, and the number of numbers or operations, which is in millions by default.
     pub fn new(
         alloc: Global,
         operation: Operation,
@@ -66,7 +65,7 @@ impl<'a> Input<'a> {
 }
 
 impl Operation {
-    pub fn named(word: &str) -> Option<Operation> {
+    pub fn from_name(word: &str) -> Option<Operation> {
         match word {
             "read_a" => Some(Operation::ReadAscii),
             "count" => Some(Operation::Count),
@@ -95,8 +94,7 @@ impl Operation {
         }
     }
 
-    /// So many numbers of the order for an operation on numbers: ten million where none is named, a million for
-    /// touching cells.
+    /// The given number of cell numbers of the order: by default ten million, or a million for touching cells.
     fn cells(self, alloc: Global, count: Option<u32>) -> Result<Vec<u64>, AllocError> {
         match self {
             Operation::Ring(order) | Operation::Nest(order) => {
@@ -108,7 +106,7 @@ impl Operation {
         }
     }
 
-    /// The steps of a schedule of so many operations, of five steps each: a million steps where none is named.
+    /// The steps of a schedule with the given number of operations, of five steps each: by default a million steps.
     fn steps(self, alloc: Global, count: Option<u32>) -> Result<Vec<Step>> {
         let operations = count.unwrap_or(200_000);
         match self {
@@ -119,7 +117,7 @@ impl Operation {
     }
 }
 
-/// Numbers below the count of an order's cells.
+/// Random cell numbers of an order.
 fn random_cells(alloc: Global, order: u8, count: u32) -> Result<Vec<u64>, AllocError> {
     let mut cells = Vec::new(alloc);
     let Some(order) = Order::new(order) else {
@@ -151,7 +149,7 @@ fn border_cells(alloc: Global, order: u8, count: u32) -> Result<Vec<u64>, AllocE
     Ok(cells)
 }
 
-/// Does the operation once, and answers its checksum.
+/// Executes the operation once, and returns its checksum.
 pub fn answer(alloc: Global, operation: Operation, input: &Input<'_>) -> Result<u64> {
     let Input {
         text,
@@ -184,7 +182,7 @@ pub fn answer(alloc: Global, operation: Operation, input: &Input<'_>) -> Result<
     })
 }
 
-/// The sum of the ring numbers of nested cells.
+/// Returns the sum of the ring indices of nested indices.
 fn rings(order: u8, cells: &[u64]) -> u64 {
     let Some(order) = Order::new(order) else {
         return 0;
@@ -198,7 +196,7 @@ fn rings(order: u8, cells: &[u64]) -> u64 {
     sum
 }
 
-/// The sum of the nested numbers of ring numbers.
+/// Returns the sum of the nested indices of ring indices.
 fn nests(order: u8, cells: &[u64]) -> u64 {
     let Some(order) = Order::new(order) else {
         return 0;
@@ -212,7 +210,7 @@ fn nests(order: u8, cells: &[u64]) -> u64 {
     sum
 }
 
-/// The sum of the numbers of the cells that touch nested cells.
+/// Returns the sum of the indices of the cells that touch cells.
 fn touching(alloc: Global, order: u8, cells: &[u64]) -> u64 {
     let Some(order) = Order::new(order) else {
         return 0;

@@ -7,16 +7,16 @@ use moc_sphere::{Cell, Order};
 use moc_steps::Step;
 use std::alloc::Global;
 
-/// How many clients there are where they come one after another.
+/// The number of clients that come one after another.
 const CLIENTS: u32 = 1_000;
 
-/// The cells of order 5.
+/// The order of the cells that commands add and count.
 const ORDER: u8 = 5;
 
-/// The cells of order 5 in a base pixel.
+/// The number of cells of order 5 in a base pixel.
 const CELLS: u64 = 1 << 10;
 
-/// So many operations, by a thousand clients in turn, one after another.
+/// Returns the steps of this number of operations, by a thousand clients in turn, one after another.
 pub fn in_turn(alloc: Global, operations: u32) -> Result<Vec<Step>> {
     let mut random = Random::new();
     let mut steps = Vec::new(alloc);
@@ -30,8 +30,8 @@ pub fn in_turn(alloc: Global, operations: u32) -> Result<Vec<Step>> {
     Ok(steps)
 }
 
-/// So many operations, in rounds in which so many clients begin, and then each takes, edits and gives back its part;
-/// all end together.
+/// Returns the steps of this number of operations, in rounds in which this number of clients begin; then each takes,
+/// edits and gives back its part; all end together.
 pub fn in_rounds(alloc: Global, operations: u32, clients: u32) -> Result<Vec<Step>> {
     let mut random = Random::new();
     let mut steps = Vec::new(alloc);
@@ -50,7 +50,7 @@ pub fn in_rounds(alloc: Global, operations: u32, clients: u32) -> Result<Vec<Ste
     Ok(steps)
 }
 
-/// Begins an add or a count of a random cell, and answers its part.
+/// Begins an add or a count of a random cell, and returns its part.
 fn push_begin(
     alloc: Global,
     random: &mut Random,

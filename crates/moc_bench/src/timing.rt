@@ -1,15 +1,15 @@
 //! The time of one operation of the library, as a line `OP median first least checksum`, in seconds. Standard input has
 //! one coverage in ASCII a line: the first, and for an operation on two sets the second. Operations on numbers and
-//! schedules make their own input, of so many numbers or operations as are asked for, or of millions.
+//! schedules make their own input, of the given number of numbers or operations, or of millions.
 use crate::operation::{Input, Operation, answer};
 use anyhow::{Result, bail};
 use std::fmt;
 use std::io::Read;
 use std::time::Instant;
 
-/// Times an operation on the input so often, and prints its line.
+/// Times an operation on the input this number of times, and prints its line.
 pub fn run(rt: &HostRuntime, word: &str, repeats: u32, count: Option<u32>) -> Result<()> {
-    let Some(operation) = Operation::named(word) else {
+    let Some(operation) = Operation::from_name(word) else {
         bail!("no operation {word}");
     };
     let mut text = Vec::new(rt.alloc());
@@ -24,7 +24,7 @@ pub fn run(rt: &HostRuntime, word: &str, repeats: u32, count: Option<u32>) -> Re
     Ok(())
 }
 
-/// The microseconds that each turn takes, and the operation's checksum.
+/// Returns the microseconds of each run, and the operation's checksum.
 fn times_of(
     rt: &HostRuntime,
     operation: Operation,
@@ -42,7 +42,7 @@ fn times_of(
     Ok((times, sum))
 }
 
-/// A time of so many microseconds.
+/// Formats a time in microseconds.
 #[derive(Clone, Copy)]
 struct Seconds(u64);
 

@@ -6,12 +6,12 @@ use Rattle.moc_blocks.specs.Lemmas.Members.{in_ranges, in_range, in_ranges-appen
 use Rattle.moc_blocks.specs.Private.Walks.{EndsBy}
 use Rattle.std.specs.Prelude.{OnOk, Result, Ok, Err}
 
--- what follows from a fact that holds where a call was not refused
+-- a consequence of a fact that holds if a call succeeded
 pub from_ok : {T E P Q : Type 0} (r : Result T E) → OnOk r P → (P → Q) → OnOk r Q
 from_ok (Ok x) p f = f p
 from_ok (Err e) p f = tt
 
--- what follows from two such facts, or from three
+-- a consequence of two such facts, or of three
 pub from_two_ok : {T E P Q R : Type 0} (r : Result T E) → OnOk r P → OnOk r Q → (P → Q → R) → OnOk r R
 from_two_ok (Ok x) p q f = f p q
 from_two_ok (Err e) p q f = tt

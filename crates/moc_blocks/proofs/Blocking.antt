@@ -5,26 +5,26 @@ use Rattle.std.proofs.lemmas.List.{take_more, take-append-drop, take_all}
 use Rattle.std.proofs.lemmas.List.Sums.{sum_by-append, sum_by-cons}
 use Rattle.moc_blocks.specs.RangeList.{pixel_count, IsNormal, BeginsAfter}
 use Rattle.moc_blocks.specs.Lemmas.Ranges.{len_bounded, len-set_of}
-use Rattle.moc_blocks.specs.Blocks.{joining}
+use Rattle.moc_blocks.specs.Blocks.{concat}
 use Rattle.moc_blocks.specs.Private.Blocks.{first_of, last_of, width_of, rest_of}
 
-pub joining-append : {X : Type 0} (xs ys : List (List X)) → joining (xs ++ ys) ≡ joining xs ++ joining ys
-joining-append {X} [] ys = refl
-joining-append {X} (x ∷ xs) ys = ap (λ (l : List X). x ++ l) (joining-append xs ys) ∙ sym (append_assoc x (joining xs) (joining ys))
+pub concat-append : {X : Type 0} (xs ys : List (List X)) → concat (xs ++ ys) ≡ concat xs ++ concat ys
+concat-append {X} [] ys = refl
+concat-append {X} (x ∷ xs) ys = ap (λ (l : List X). x ++ l) (concat-append xs ys) ∙ sym (append_assoc x (concat xs) (concat ys))
 
 pub nothing_more : {X : Type 0} (xs : List X) → xs ++ [] ≡ xs
 nothing_more {X} [] = refl
 nothing_more {X} (x ∷ xs) = ap (λ (l : List X). x ∷ l) (nothing_more xs)
 
-pub joining-last : {X : Type 0} (xs : List (List X)) (last : List X) → joining (xs ++ last ∷ []) ≡ joining xs ++ last
-joining-last {X} xs last = joining-append xs (last ∷ []) ∙ ap (λ (l : List X). joining xs ++ l) (nothing_more last)
+pub concat-last : {X : Type 0} (xs : List (List X)) (last : List X) → concat (xs ++ last ∷ []) ≡ concat xs ++ last
+concat-last {X} xs last = concat-append xs (last ∷ []) ∙ ap (λ (l : List X). concat xs ++ l) (nothing_more last)
 
--- a node that is begun
-pub begun_node : (node : List (List (ℕ × ℕ))) (nodes : List (List (List (ℕ × ℕ)))) → rest_of [] [] (node ∷ nodes) ≡ joining node ++ joining (joining nodes)
-begun_node node nodes = joining-append node (joining nodes)
+-- a node that was entered
+pub begun_node : (node : List (List (ℕ × ℕ))) (nodes : List (List (List (ℕ × ℕ)))) → rest_of [] [] (node ∷ nodes) ≡ concat node ++ concat (concat nodes)
+begun_node node nodes = concat-append node (concat nodes)
 
 pub begun_block : (block : List (ℕ × ℕ)) (blocks : List (List (ℕ × ℕ))) (nodes : List (List (List (ℕ × ℕ)))) → rest_of [] (block ∷ blocks) nodes ≡ block ++ rest_of [] blocks nodes
-begun_block block blocks nodes = append_assoc block (joining blocks) (joining (joining nodes))
+begun_block block blocks nodes = append_assoc block (concat blocks) (concat (concat nodes))
 
 begins_prefix : (x : ℕ) (rs ss : List (ℕ × ℕ)) → BeginsAfter x (rs ++ ss) → BeginsAfter x rs
 begins_prefix x [] ss after = tt
@@ -38,10 +38,10 @@ pub IsNormal-suffix : (rs ss : List (ℕ × ℕ)) → IsNormal (rs ++ ss) → Is
 IsNormal-suffix [] ss normal = normal
 IsNormal-suffix (r ∷ rs) ss normal = IsNormal-suffix rs ss normal.3
 
--- the rest of a block that is begun, and what is behind it
-pub IsNormal-rest : (whole first rest behind : List (ℕ × ℕ)) → whole ≡ first ++ rest → IsNormal (whole ++ behind) → IsNormal (rest ++ behind)
-IsNormal-rest whole first rest behind parts normal =
-    IsNormal-suffix first (rest ++ behind) (subst IsNormal (ap (λ (l : List (ℕ × ℕ)). l ++ behind) parts ∙ append_assoc first rest behind) normal)
+-- the remaining ranges of a block, and the ranges after it
+pub IsNormal-rest : (whole first rest after : List (ℕ × ℕ)) → whole ≡ first ++ rest → IsNormal (whole ++ after) → IsNormal (rest ++ after)
+IsNormal-rest whole first rest after parts normal =
+    IsNormal-suffix first (rest ++ after) (subst IsNormal (ap (λ (l : List (ℕ × ℕ)). l ++ after) parts ∙ append_assoc first rest after) normal)
 
 -- sizes
 pub range_at : (rs : List (ℕ × ℕ)) (i : ℕ) (d : ℕ × ℕ) → IsNormal rs → i < length rs → (get_or rs i d).0 < (get_or rs i d).1
@@ -55,28 +55,28 @@ width_bounded rs normal = omega (arith, len_bounded rs normal, len-set_of rs nor
 pub width-append : (rs ss : List (ℕ × ℕ)) → width_of (rs ++ ss) ≡ width_of rs + width_of ss
 width-append rs ss = sum_by-append (λ range. range.1 - range.0) rs ss
 
-width_taken : (bs : List (List (ℕ × ℕ))) (i : ℕ) (b : List (ℕ × ℕ)) → i < length bs → b ≡ get_or bs i b → width_of (joining (take (i + 1) bs)) ≡ width_of (joining (take i bs)) + width_of b
+width_taken : (bs : List (List (ℕ × ℕ))) (i : ℕ) (b : List (ℕ × ℕ)) → i < length bs → b ≡ get_or bs i b → width_of (concat (take (i + 1) bs)) ≡ width_of (concat (take i bs)) + width_of b
 width_taken bs i b lt is =
-    ap (λ (l : List (List (ℕ × ℕ))). width_of (joining l)) (take_more bs i b lt)
-    ∙ ap width_of (joining-last (take i bs) (get_or bs i b))
-    ∙ width-append (joining (take i bs)) (get_or bs i b)
-    ∙ ap (λ (l : List (ℕ × ℕ)). width_of (joining (take i bs)) + width_of l) (sym is)
+    ap (λ (l : List (List (ℕ × ℕ))). width_of (concat l)) (take_more bs i b lt)
+    ∙ ap width_of (concat-last (take i bs) (get_or bs i b))
+    ∙ width-append (concat (take i bs)) (get_or bs i b)
+    ∙ ap (λ (l : List (ℕ × ℕ)). width_of (concat (take i bs)) + width_of l) (sym is)
 
-width_part : (bs : List (List (ℕ × ℕ))) (i : ℕ) → width_of (joining (take i bs)) ≤ width_of (joining bs)
+width_part : (bs : List (List (ℕ × ℕ))) (i : ℕ) → width_of (concat (take i bs)) ≤ width_of (concat bs)
 width_part bs i =
-    let parts : width_of (joining (take i bs)) + width_of (joining (drop i bs)) ≡ width_of (joining bs) =
-    sym (width-append (joining (take i bs)) (joining (drop i bs))) ∙ ap width_of (sym (joining-append (take i bs) (drop i bs))) ∙ ap (λ (l : List (List (ℕ × ℕ))). width_of (joining l)) (take-append-drop i bs) in
+    let parts : width_of (concat (take i bs)) + width_of (concat (drop i bs)) ≡ width_of (concat bs) =
+    sym (width-append (concat (take i bs)) (concat (drop i bs))) ∙ ap width_of (sym (concat-append (take i bs) (drop i bs))) ∙ ap (λ (l : List (List (ℕ × ℕ))). width_of (concat l)) (take-append-drop i bs) in
     omega arith
 
-pub count_step : (bs : List (List (ℕ × ℕ))) (i : ℕ) (b : List (ℕ × ℕ)) → IsNormal (joining bs) → i < length bs → b ≡ get_or bs i b → (width_of (joining (take (i + 1) bs)) ≡ width_of (joining (take i bs)) + width_of b) × (width_of (joining (take i bs)) + width_of b ≤ pixel_count)
+pub count_step : (bs : List (List (ℕ × ℕ))) (i : ℕ) (b : List (ℕ × ℕ)) → IsNormal (concat bs) → i < length bs → b ≡ get_or bs i b → (width_of (concat (take (i + 1) bs)) ≡ width_of (concat (take i bs)) + width_of b) × (width_of (concat (take i bs)) + width_of b ≤ pixel_count)
 count_step bs i b normal lt is =
     let more = width_taken bs i b lt is in
     let part = width_part bs (i + 1) in
-    let all = width_bounded (joining bs) normal in
+    let all = width_bounded (concat bs) normal in
     (more, omega arith)
 
-pub count_done : (bs : List (List (ℕ × ℕ))) (i : ℕ) → length bs ≤ i → width_of (joining (take i bs)) ≡ width_of (joining bs)
-count_done bs i le = ap (λ (l : List (List (ℕ × ℕ))). width_of (joining l)) (take_all i bs le)
+pub count_done : (bs : List (List (ℕ × ℕ))) (i : ℕ) → length bs ≤ i → width_of (concat (take i bs)) ≡ width_of (concat bs)
+count_done bs i le = ap (λ (l : List (List (ℕ × ℕ))). width_of (concat l)) (take_all i bs le)
 
 pub first_of-get : (rs : List (ℕ × ℕ)) (d : ℕ × ℕ) → 0 < length rs → first_of rs ≡ (get_or rs 0 d).0
 first_of-get [] d lt = absurd (omega arith)
@@ -99,24 +99,24 @@ last_of-append (r ∷ []) [] some = absurd (omega arith)
 last_of-append (r ∷ []) (s ∷ ss) some = refl
 last_of-append (r ∷ (r' ∷ rs)) ss some = last_of-append (r' ∷ rs) ss some
 
-pub length_last : (bs : List (List (ℕ × ℕ))) (d : List (ℕ × ℕ)) (i : ℕ) → i < length bs → 0 < length (get_or bs i d) → 0 < length (joining bs)
+pub length_last : (bs : List (List (ℕ × ℕ))) (d : List (ℕ × ℕ)) (i : ℕ) → i < length bs → 0 < length (get_or bs i d) → 0 < length (concat bs)
 length_last [] d i lt filled = absurd (omega arith)
-length_last (b ∷ bs) d zero lt filled = omega (arith, length-append b (joining bs))
-length_last (b ∷ bs) d (suc i) lt filled = omega (arith, length-append b (joining bs), length_last bs d i (omega arith) filled)
+length_last (b ∷ bs) d zero lt filled = omega (arith, length-append b (concat bs))
+length_last (b ∷ bs) d (suc i) lt filled = omega (arith, length-append b (concat bs), length_last bs d i (omega arith) filled)
 
--- a node's ends are those of its first and last block
-pub first_of-joining : (bs : List (List (ℕ × ℕ))) (d : List (ℕ × ℕ)) → 0 < length bs → 0 < length (get_or bs 0 d) → first_of (joining bs) ≡ first_of (get_or bs 0 d)
-first_of-joining [] d some filled = absurd (omega arith)
-first_of-joining (b ∷ bs) d some filled = first_of-append b (joining bs) filled
+-- a node's bounds are those of its first and last block
+pub first_of-concat : (bs : List (List (ℕ × ℕ))) (d : List (ℕ × ℕ)) → 0 < length bs → 0 < length (get_or bs 0 d) → first_of (concat bs) ≡ first_of (get_or bs 0 d)
+first_of-concat [] d some filled = absurd (omega arith)
+first_of-concat (b ∷ bs) d some filled = first_of-append b (concat bs) filled
 
-pub last_of-joining : (bs : List (List (ℕ × ℕ))) (d : List (ℕ × ℕ)) (i : ℕ) → i + 1 ≡ length bs → 0 < length (get_or bs i d) → last_of (joining bs) ≡ last_of (get_or bs i d)
-last_of-joining [] d i e filled = absurd (omega arith)
-last_of-joining (b ∷ []) d zero e filled = ap last_of (nothing_more b)
-last_of-joining (b ∷ []) d (suc i) e filled = absurd (omega arith)
-last_of-joining (b ∷ (b' ∷ bs)) d zero e filled = absurd (omega arith)
-last_of-joining (b ∷ (b' ∷ bs)) d (suc i) e filled = last_of-append b (joining (b' ∷ bs)) (length_last (b' ∷ bs) d i (omega arith) filled) ∙ last_of-joining (b' ∷ bs) d i (omega arith) filled
+pub last_of-concat : (bs : List (List (ℕ × ℕ))) (d : List (ℕ × ℕ)) (i : ℕ) → i + 1 ≡ length bs → 0 < length (get_or bs i d) → last_of (concat bs) ≡ last_of (get_or bs i d)
+last_of-concat [] d i e filled = absurd (omega arith)
+last_of-concat (b ∷ []) d zero e filled = ap last_of (nothing_more b)
+last_of-concat (b ∷ []) d (suc i) e filled = absurd (omega arith)
+last_of-concat (b ∷ (b' ∷ bs)) d zero e filled = absurd (omega arith)
+last_of-concat (b ∷ (b' ∷ bs)) d (suc i) e filled = last_of-append b (concat (b' ∷ bs)) (length_last (b' ∷ bs) d i (omega arith) filled) ∙ last_of-concat (b' ∷ bs) d i (omega arith) filled
 
--- a list that is not empty, by its first element and the rest
+-- a nonempty list is its first element and the rest
 pub split_first : {X : Type 0} (xs : List X) (x : X) → 1 ≤ length xs → x ≡ get_or xs 0 x → xs ≡ x ∷ take (length xs - 1) (drop 1 xs)
 split_first {X} [] x some is = absurd (omega arith)
 split_first {X} (y ∷ ys) x some is =
@@ -124,9 +124,9 @@ split_first {X} (y ∷ ys) x some is =
     let whole : take (suc (length ys) - 1) ys ≡ ys = ap (λ n. take n ys) e ∙ take_all (length ys) ys (omega arith) in
     λ i. sym is i ∷ sym whole i
 
-pub node_split : (nodes : List (List (List (ℕ × ℕ)))) (node : List (List (ℕ × ℕ))) → 1 ≤ length nodes → node ≡ get_or nodes 0 node → joining (joining nodes) ≡ joining node ++ joining (joining (take (length nodes - 1) (drop 1 nodes)))
+pub node_split : (nodes : List (List (List (ℕ × ℕ)))) (node : List (List (ℕ × ℕ))) → 1 ≤ length nodes → node ≡ get_or nodes 0 node → concat (concat nodes) ≡ concat node ++ concat (concat (take (length nodes - 1) (drop 1 nodes)))
 node_split nodes node some is =
-    ap (λ (l : List (List (List (ℕ × ℕ)))). joining (joining l)) (split_first nodes node some is)
+    ap (λ (l : List (List (List (ℕ × ℕ)))). concat (concat l)) (split_first nodes node some is)
     ∙ begun_node node (take (length nodes - 1) (drop 1 nodes))
 
 pub block_split : (blocks : List (List (ℕ × ℕ))) (nodes : List (List (List (ℕ × ℕ)))) (block : List (ℕ × ℕ)) → 1 ≤ length blocks → block ≡ get_or blocks 0 block → rest_of [] blocks nodes ≡ block ++ rest_of [] (take (length blocks - 1) (drop 1 blocks)) nodes
@@ -139,26 +139,26 @@ none_there {X} [] e = refl
 none_there {X} (x ∷ xs) e = absurd (omega arith)
 
 -- sizes of nodes
-all_taken : (ns : List (List (List (ℕ × ℕ)))) (i : ℕ) (n : List (List (ℕ × ℕ))) → i < length ns → n ≡ get_or ns i n → joining (joining (take (i + 1) ns)) ≡ joining (joining (take i ns)) ++ joining n
+all_taken : (ns : List (List (List (ℕ × ℕ)))) (i : ℕ) (n : List (List (ℕ × ℕ))) → i < length ns → n ≡ get_or ns i n → concat (concat (take (i + 1) ns)) ≡ concat (concat (take i ns)) ++ concat n
 all_taken ns i n lt is =
-    ap (λ (l : List (List (List (ℕ × ℕ)))). joining (joining l)) (take_more ns i n lt)
-    ∙ ap joining (joining-last (take i ns) (get_or ns i n))
-    ∙ joining-append (joining (take i ns)) (get_or ns i n)
-    ∙ ap (λ (l : List (List (ℕ × ℕ))). joining (joining (take i ns)) ++ joining l) (sym is)
+    ap (λ (l : List (List (List (ℕ × ℕ)))). concat (concat l)) (take_more ns i n lt)
+    ∙ ap concat (concat-last (take i ns) (get_or ns i n))
+    ∙ concat-append (concat (take i ns)) (get_or ns i n)
+    ∙ ap (λ (l : List (List (ℕ × ℕ))). concat (concat (take i ns)) ++ concat l) (sym is)
 
-pub node_step : (ns : List (List (List (ℕ × ℕ)))) (i : ℕ) (n : List (List (ℕ × ℕ))) → IsNormal (joining (joining ns)) → i < length ns → n ≡ get_or ns i n → (width_of (joining (joining (take (i + 1) ns))) ≡ width_of (joining (joining (take i ns))) + width_of (joining n)) × (width_of (joining (joining (take i ns))) + width_of (joining n) ≤ pixel_count)
+pub node_step : (ns : List (List (List (ℕ × ℕ)))) (i : ℕ) (n : List (List (ℕ × ℕ))) → IsNormal (concat (concat ns)) → i < length ns → n ≡ get_or ns i n → (width_of (concat (concat (take (i + 1) ns))) ≡ width_of (concat (concat (take i ns))) + width_of (concat n)) × (width_of (concat (concat (take i ns))) + width_of (concat n) ≤ pixel_count)
 node_step ns i n normal lt is =
-    let more = ap width_of (all_taken ns i n lt is) ∙ width-append (joining (joining (take i ns))) (joining n) in
-    let parts : joining (joining (take (i + 1) ns)) ++ joining (joining (drop (i + 1) ns)) ≡ joining (joining ns) =
-    sym (joining-append (joining (take (i + 1) ns)) (joining (drop (i + 1) ns))) ∙ ap joining (sym (joining-append (take (i + 1) ns) (drop (i + 1) ns))) ∙ ap (λ (l : List (List (List (ℕ × ℕ)))). joining (joining l)) (take-append-drop (i + 1) ns) in
-    let whole = width-append (joining (joining (take (i + 1) ns))) (joining (joining (drop (i + 1) ns))) in
-    let all = width_bounded (joining (joining ns)) normal in
+    let more = ap width_of (all_taken ns i n lt is) ∙ width-append (concat (concat (take i ns))) (concat n) in
+    let parts : concat (concat (take (i + 1) ns)) ++ concat (concat (drop (i + 1) ns)) ≡ concat (concat ns) =
+    sym (concat-append (concat (take (i + 1) ns)) (concat (drop (i + 1) ns))) ∙ ap concat (sym (concat-append (take (i + 1) ns) (drop (i + 1) ns))) ∙ ap (λ (l : List (List (List (ℕ × ℕ)))). concat (concat l)) (take-append-drop (i + 1) ns) in
+    let whole = width-append (concat (concat (take (i + 1) ns))) (concat (concat (drop (i + 1) ns))) in
+    let all = width_bounded (concat (concat ns)) normal in
     (more, omega (arith, more, whole, ap width_of parts, all))
 
-pub nodes_done : (ns : List (List (List (ℕ × ℕ)))) (i : ℕ) → length ns ≤ i → width_of (joining (joining (take i ns))) ≡ width_of (joining (joining ns))
-nodes_done ns i le = ap (λ (l : List (List (List (ℕ × ℕ)))). width_of (joining (joining l))) (take_all i ns le)
+pub nodes_done : (ns : List (List (List (ℕ × ℕ)))) (i : ℕ) → length ns ≤ i → width_of (concat (concat (take i ns))) ≡ width_of (concat (concat ns))
+nodes_done ns i le = ap (λ (l : List (List (List (ℕ × ℕ)))). width_of (concat (concat l))) (take_all i ns le)
 
--- how many ranges there are
+-- the number of ranges
 length_bounded : (rs : List (ℕ × ℕ)) → IsNormal rs → length rs ≤ width_of rs
 length_bounded [] normal = omega arith
 length_bounded (r ∷ rs) normal = omega (arith, length_bounded rs normal.3, normal.0, sum_by-cons (λ (range : ℕ × ℕ). range.1 - range.0) r rs)
@@ -166,43 +166,43 @@ length_bounded (r ∷ rs) normal = omega (arith, length_bounded rs normal.3, nor
 pub few_ranges : (rs : List (ℕ × ℕ)) → IsNormal rs → length rs ≤ pixel_count
 few_ranges rs normal = omega (arith, length_bounded rs normal, width_bounded rs normal)
 
-pub length_step : (bs : List (List (ℕ × ℕ))) (i : ℕ) (b : List (ℕ × ℕ)) → IsNormal (joining bs) → i < length bs → b ≡ get_or bs i b → (length (joining (take (i + 1) bs)) ≡ length (joining (take i bs)) + length b) × (length (joining (take i bs)) + length b ≤ pixel_count)
+pub length_step : (bs : List (List (ℕ × ℕ))) (i : ℕ) (b : List (ℕ × ℕ)) → IsNormal (concat bs) → i < length bs → b ≡ get_or bs i b → (length (concat (take (i + 1) bs)) ≡ length (concat (take i bs)) + length b) × (length (concat (take i bs)) + length b ≤ pixel_count)
 length_step bs i b normal lt is =
-    let more : length (joining (take (i + 1) bs)) ≡ length (joining (take i bs)) + length b =
-    ap (λ (l : List (List (ℕ × ℕ))). length (joining l)) (take_more bs i b lt)
-    ∙ ap length (joining-last (take i bs) (get_or bs i b))
-    ∙ length-append (joining (take i bs)) (get_or bs i b)
-    ∙ ap (λ (l : List (ℕ × ℕ)). length (joining (take i bs)) + length l) (sym is) in
-    let parts : length (joining (take (i + 1) bs)) + length (joining (drop (i + 1) bs)) ≡ length (joining bs) =
-    sym (length-append (joining (take (i + 1) bs)) (joining (drop (i + 1) bs))) ∙ ap length (sym (joining-append (take (i + 1) bs) (drop (i + 1) bs))) ∙ ap (λ (l : List (List (ℕ × ℕ))). length (joining l)) (take-append-drop (i + 1) bs) in
-    (more, omega (arith, more, parts, few_ranges (joining bs) normal))
+    let more : length (concat (take (i + 1) bs)) ≡ length (concat (take i bs)) + length b =
+    ap (λ (l : List (List (ℕ × ℕ))). length (concat l)) (take_more bs i b lt)
+    ∙ ap length (concat-last (take i bs) (get_or bs i b))
+    ∙ length-append (concat (take i bs)) (get_or bs i b)
+    ∙ ap (λ (l : List (ℕ × ℕ)). length (concat (take i bs)) + length l) (sym is) in
+    let parts : length (concat (take (i + 1) bs)) + length (concat (drop (i + 1) bs)) ≡ length (concat bs) =
+    sym (length-append (concat (take (i + 1) bs)) (concat (drop (i + 1) bs))) ∙ ap length (sym (concat-append (take (i + 1) bs) (drop (i + 1) bs))) ∙ ap (λ (l : List (List (ℕ × ℕ))). length (concat l)) (take-append-drop (i + 1) bs) in
+    (more, omega (arith, more, parts, few_ranges (concat bs) normal))
 
--- how many elements lists have with one list more
-pub joined_step : {X : Type 0} (ls : List (List X)) (i : ℕ) (l : List X) → i < length ls → l ≡ get_or ls i l → length (joining (take (i + 1) ls)) ≡ length (joining (take i ls)) + length l
+-- the length of a concatenation with one list more
+pub joined_step : {X : Type 0} (ls : List (List X)) (i : ℕ) (l : List X) → i < length ls → l ≡ get_or ls i l → length (concat (take (i + 1) ls)) ≡ length (concat (take i ls)) + length l
 joined_step {X} ls i l lt is =
-    ap (λ (k : List (List X)). length (joining k)) (take_more ls i l lt) ∙ ap length (joining-last (take i ls) (get_or ls i l))
-    ∙ length-append (joining (take i ls)) (get_or ls i l) ∙ ap (λ (k : List X). length (joining (take i ls)) + length k) (sym is)
+    ap (λ (k : List (List X)). length (concat k)) (take_more ls i l lt) ∙ ap length (concat-last (take i ls) (get_or ls i l))
+    ∙ length-append (concat (take i ls)) (get_or ls i l) ∙ ap (λ (k : List X). length (concat (take i ls)) + length k) (sym is)
 
-pub length_done : (bs : List (List (ℕ × ℕ))) (i : ℕ) → length bs ≤ i → length (joining (take i bs)) ≡ length (joining bs)
-length_done bs i le = ap (λ (l : List (List (ℕ × ℕ))). length (joining l)) (take_all i bs le)
+pub length_done : (bs : List (List (ℕ × ℕ))) (i : ℕ) → length bs ≤ i → length (concat (take i bs)) ≡ length (concat bs)
+length_done bs i le = ap (λ (l : List (List (ℕ × ℕ))). length (concat l)) (take_all i bs le)
 
-pub length_node_step : (ns : List (List (List (ℕ × ℕ)))) (i : ℕ) (n : List (List (ℕ × ℕ))) → IsNormal (joining (joining ns)) → i < length ns → n ≡ get_or ns i n → (length (joining (joining (take (i + 1) ns))) ≡ length (joining (joining (take i ns))) + length (joining n)) × (length (joining (joining (take i ns))) + length (joining n) ≤ pixel_count)
+pub length_node_step : (ns : List (List (List (ℕ × ℕ)))) (i : ℕ) (n : List (List (ℕ × ℕ))) → IsNormal (concat (concat ns)) → i < length ns → n ≡ get_or ns i n → (length (concat (concat (take (i + 1) ns))) ≡ length (concat (concat (take i ns))) + length (concat n)) × (length (concat (concat (take i ns))) + length (concat n) ≤ pixel_count)
 length_node_step ns i n normal lt is =
-    let more = ap length (all_taken ns i n lt is) ∙ length-append (joining (joining (take i ns))) (joining n) in
-    let parts : joining (joining (take (i + 1) ns)) ++ joining (joining (drop (i + 1) ns)) ≡ joining (joining ns) =
-    sym (joining-append (joining (take (i + 1) ns)) (joining (drop (i + 1) ns))) ∙ ap joining (sym (joining-append (take (i + 1) ns) (drop (i + 1) ns))) ∙ ap (λ (l : List (List (List (ℕ × ℕ)))). joining (joining l)) (take-append-drop (i + 1) ns) in
-    let whole = length-append (joining (joining (take (i + 1) ns))) (joining (joining (drop (i + 1) ns))) in
-    (more, omega (arith, more, whole, ap length parts, few_ranges (joining (joining ns)) normal))
+    let more = ap length (all_taken ns i n lt is) ∙ length-append (concat (concat (take i ns))) (concat n) in
+    let parts : concat (concat (take (i + 1) ns)) ++ concat (concat (drop (i + 1) ns)) ≡ concat (concat ns) =
+    sym (concat-append (concat (take (i + 1) ns)) (concat (drop (i + 1) ns))) ∙ ap concat (sym (concat-append (take (i + 1) ns) (drop (i + 1) ns))) ∙ ap (λ (l : List (List (List (ℕ × ℕ)))). concat (concat l)) (take-append-drop (i + 1) ns) in
+    let whole = length-append (concat (concat (take (i + 1) ns))) (concat (concat (drop (i + 1) ns))) in
+    (more, omega (arith, more, whole, ap length parts, few_ranges (concat (concat ns)) normal))
 
-pub length_nodes_done : (ns : List (List (List (ℕ × ℕ)))) (i : ℕ) → length ns ≤ i → length (joining (joining (take i ns))) ≡ length (joining (joining ns))
-length_nodes_done ns i le = ap (λ (l : List (List (List (ℕ × ℕ)))). length (joining (joining l))) (take_all i ns le)
+pub length_nodes_done : (ns : List (List (List (ℕ × ℕ)))) (i : ℕ) → length ns ≤ i → length (concat (concat (take i ns))) ≡ length (concat (concat ns))
+length_nodes_done ns i le = ap (λ (l : List (List (List (ℕ × ℕ)))). length (concat (concat l))) (take_all i ns le)
 
--- the parts of what a walk still has to go
-pub rest_blocks : (rs : List (ℕ × ℕ)) (bs : List (List (ℕ × ℕ))) (ns : List (List (List (ℕ × ℕ)))) → IsNormal (rest_of rs bs ns) → IsNormal (joining bs)
-rest_blocks rs bs ns normal = IsNormal-prefix (joining bs) (joining (joining ns)) (IsNormal-suffix rs (joining bs ++ joining (joining ns)) normal)
+-- the parts of the remaining ranges of a traversal
+pub rest_blocks : (rs : List (ℕ × ℕ)) (bs : List (List (ℕ × ℕ))) (ns : List (List (List (ℕ × ℕ)))) → IsNormal (rest_of rs bs ns) → IsNormal (concat bs)
+rest_blocks rs bs ns normal = IsNormal-prefix (concat bs) (concat (concat ns)) (IsNormal-suffix rs (concat bs ++ concat (concat ns)) normal)
 
-pub rest_nodes : (rs : List (ℕ × ℕ)) (bs : List (List (ℕ × ℕ))) (ns : List (List (List (ℕ × ℕ)))) → IsNormal (rest_of rs bs ns) → IsNormal (joining (joining ns))
-rest_nodes rs bs ns normal = IsNormal-suffix (joining bs) (joining (joining ns)) (IsNormal-suffix rs (joining bs ++ joining (joining ns)) normal)
+pub rest_nodes : (rs : List (ℕ × ℕ)) (bs : List (List (ℕ × ℕ))) (ns : List (List (List (ℕ × ℕ)))) → IsNormal (rest_of rs bs ns) → IsNormal (concat (concat ns))
+rest_nodes rs bs ns normal = IsNormal-suffix (concat bs) (concat (concat ns)) (IsNormal-suffix rs (concat bs ++ concat (concat ns)) normal)
 
-pub length-rest : (rs : List (ℕ × ℕ)) (bs : List (List (ℕ × ℕ))) (ns : List (List (List (ℕ × ℕ)))) → length (rest_of rs bs ns) ≡ length rs + (length (joining bs) + length (joining (joining ns)))
-length-rest rs bs ns = omega (arith, length-append rs (joining bs ++ joining (joining ns)), length-append (joining bs) (joining (joining ns)))
+pub length-rest : (rs : List (ℕ × ℕ)) (bs : List (List (ℕ × ℕ))) (ns : List (List (List (ℕ × ℕ)))) → length (rest_of rs bs ns) ≡ length rs + (length (concat bs) + length (concat (concat ns)))
+length-rest rs bs ns = omega (arith, length-append rs (concat bs ++ concat (concat ns)), length-append (concat bs) (concat (concat ns)))

@@ -1,4 +1,4 @@
--- What is built, block by block.
+-- The state of a builder, block by block.
 use Rattle.std.proofs.Common.{◌≡◌, ℕ, zero, suc, ◌+◌, ◌<◌, ◌≤◌, Bool, true, false, ◌||◌, List, [], ◌∷◌, ◌++◌, length}
 use Rattle.std.proofs.Common.{get_or, take, drop, max, refl, sym, ap, subst, ◌∙◌, arith, append_assoc, length-append}
 use Rattle.std.proofs.lemmas.Bool.Decides.{nat_tests}
@@ -8,29 +8,29 @@ use Rattle.std.specs.Prelude.{nat_lt}
 use Rattle.std.proofs.lemmas.List.{take_more, take-append-drop, length-take}
 use Rattle.moc_blocks.specs.RangeList.{pixel_count, IsNormal}
 use Rattle.moc_blocks.specs.Lemmas.Members.{in_range, in_ranges, in_ranges-append, or_false}
-use Rattle.moc_blocks.specs.Blocks.{joining, AreBlocks}
+use Rattle.moc_blocks.specs.Blocks.{concat, AreBlocks}
 use Rattle.moc_blocks.specs.Private.Blocks.{last_of}
-use Rattle.moc_blocks.specs.Private.Built.{Growing, ranges_of, IsBuilt, AreGrouped, CanJoin, EndsBelow, BeginsBy}
-use Rattle.moc_blocks.specs.Private.Built.{kept_of, first_length, last_length}
+use Rattle.moc_blocks.specs.Private.Built.{GrowingList, ranges_of, IsBuilderState, AreGrouped, CanMerge, EndsBelow, BeginsBy}
+use Rattle.moc_blocks.specs.Private.Built.{builder_ranges, first_length, last_length}
 use Rattle.moc_blocks.proofs.Filling.{last_length-append, filled_longer, filled_append, some_blocks}
-use Rattle.moc_blocks.proofs.Blocking.{IsNormal-prefix, IsNormal-suffix, nothing_more, joining-append, joining-last}
+use Rattle.moc_blocks.proofs.Blocking.{IsNormal-prefix, IsNormal-suffix, nothing_more, concat-append, concat-last}
 use Rattle.moc_blocks.proofs.Blocking.{last_of-get}
 use Rattle.moc_blocks.proofs.Merging.{ends_by_last, normal_append, EndsBelow-append, EndsBelow-first}
 use Rattle.moc_blocks.proofs.Merging.{EndsBelow-more, ends_second, begins_of_ends, ends_next}
 
-length_in : (ns : List (List (List (ℕ × ℕ)))) (d : List (List (ℕ × ℕ))) (i : ℕ) → i < length ns → 0 < length (get_or ns i d) → 0 < length (joining ns)
+length_in : (ns : List (List (List (ℕ × ℕ)))) (d : List (List (ℕ × ℕ))) (i : ℕ) → i < length ns → 0 < length (get_or ns i d) → 0 < length (concat ns)
 length_in [] d i lt filled = absurd (omega arith)
-length_in (n ∷ ns) d zero lt filled = omega (arith, length-append n (joining ns))
-length_in (n ∷ ns) d (suc i) lt filled = omega (arith, length-append n (joining ns), length_in ns d i (omega arith) filled)
+length_in (n ∷ ns) d zero lt filled = omega (arith, length-append n (concat ns))
+length_in (n ∷ ns) d (suc i) lt filled = omega (arith, length-append n (concat ns), length_in ns d i (omega arith) filled)
 
-pub last_length-nodes : (ns : List (List (List (ℕ × ℕ)))) (d : List (List (ℕ × ℕ))) (i : ℕ) → i + 1 ≡ length ns → 0 < length (get_or ns i d) → last_length (joining ns) ≡ last_length (get_or ns i d)
+pub last_length-nodes : (ns : List (List (List (ℕ × ℕ)))) (d : List (List (ℕ × ℕ))) (i : ℕ) → i + 1 ≡ length ns → 0 < length (get_or ns i d) → last_length (concat ns) ≡ last_length (get_or ns i d)
 last_length-nodes [] d i e filled = absurd (omega arith)
 last_length-nodes (n ∷ []) d zero e filled = ap last_length (nothing_more n)
 last_length-nodes (n ∷ []) d (suc i) e filled = absurd (omega arith)
 last_length-nodes (n ∷ (m ∷ ns)) d zero e filled = absurd (omega arith)
-last_length-nodes (n ∷ (m ∷ ns)) d (suc i) e filled = last_length-append n (joining (m ∷ ns)) (length_in (m ∷ ns) d i (omega arith) filled) ∙ last_length-nodes (m ∷ ns) d i (omega arith) filled
+last_length-nodes (n ∷ (m ∷ ns)) d (suc i) e filled = last_length-append n (concat (m ∷ ns)) (length_in (m ∷ ns) d i (omega arith) filled) ∙ last_length-nodes (m ∷ ns) d i (omega arith) filled
 
--- the last block was joined with another
+-- the last block was merged with another
 pub joined_sized : (node init bs bs' : List (List (ℕ × ℕ))) (stack : List (List (ℕ × ℕ))) (last block : List (ℕ × ℕ)) → node ++ bs ≡ stack → AreBlocks stack → bs ≡ init ++ last ∷ [] → bs' ≡ init ++ (last ++ block) ∷ [] → last_length stack + length block ≤ 128 → AreBlocks (node ++ bs')
 joined_sized node init bs bs' stack last block same ok old new room =
     let whole : stack ≡ (node ++ init) ++ last ∷ [] = sym same ∙ ap (λ (l : List (List (ℕ × ℕ))). node ++ l) old ∙ sym (append_assoc node init (last ∷ [])) in
@@ -38,17 +38,17 @@ joined_sized node init bs bs' stack last block same ok old new room =
     let made : node ++ bs' ≡ (node ++ init) ++ (last ++ block) ∷ [] = ap (λ (l : List (List (ℕ × ℕ))). node ++ l) new ∙ sym (append_assoc node init ((last ++ block) ∷ [])) in
     subst AreBlocks (sym made) (filled_longer 128 (node ++ init) last (last ++ block) (subst AreBlocks whole ok) (omega (arith, length-append last block)) (omega (arith, length-append last block)))
 
-pub joined_all : (node init bs bs' : List (List (ℕ × ℕ))) (stack : List (List (ℕ × ℕ))) (last block : List (ℕ × ℕ)) → node ++ bs ≡ stack → bs ≡ init ++ last ∷ [] → bs' ≡ init ++ (last ++ block) ∷ [] → joining (node ++ bs') ≡ joining stack ++ block
+pub joined_all : (node init bs bs' : List (List (ℕ × ℕ))) (stack : List (List (ℕ × ℕ))) (last block : List (ℕ × ℕ)) → node ++ bs ≡ stack → bs ≡ init ++ last ∷ [] → bs' ≡ init ++ (last ++ block) ∷ [] → concat (node ++ bs') ≡ concat stack ++ block
 joined_all node init bs bs' stack last block same old new =
     let whole : stack ≡ (node ++ init) ++ last ∷ [] = sym same ∙ ap (λ (l : List (List (ℕ × ℕ))). node ++ l) old ∙ sym (append_assoc node init (last ∷ [])) in
     let made : node ++ bs' ≡ (node ++ init) ++ (last ++ block) ∷ [] = ap (λ (l : List (List (ℕ × ℕ))). node ++ l) new ∙ sym (append_assoc node init ((last ++ block) ∷ [])) in
-    ap joining made ∙ joining-last (node ++ init) (last ++ block) ∙ sym (append_assoc (joining (node ++ init)) last block)
-    ∙ ap (λ (l : List (ℕ × ℕ)). l ++ block) (sym (joining-last (node ++ init) last) ∙ ap joining (sym whole))
+    ap concat made ∙ concat-last (node ++ init) (last ++ block) ∙ sym (append_assoc (concat (node ++ init)) last block)
+    ∙ ap (λ (l : List (ℕ × ℕ)). l ++ block) (sym (concat-last (node ++ init) last) ∙ ap concat (sym whole))
 
-pub suffix_normal : (node bs stack : List (List (ℕ × ℕ))) (block : List (ℕ × ℕ)) → node ++ bs ≡ stack → IsNormal (joining stack ++ block) → IsNormal (joining bs ++ block)
+pub suffix_normal : (node bs stack : List (List (ℕ × ℕ))) (block : List (ℕ × ℕ)) → node ++ bs ≡ stack → IsNormal (concat stack ++ block) → IsNormal (concat bs ++ block)
 suffix_normal node bs stack block same normal =
-    let parts : joining stack ++ block ≡ joining node ++ (joining bs ++ block) = ap (λ (l : List (ℕ × ℕ)). l ++ block) (ap joining (sym same) ∙ joining-append node bs) ∙ append_assoc (joining node) (joining bs) block in
-    IsNormal-suffix (joining node) (joining bs ++ block) (subst IsNormal parts normal)
+    let parts : concat stack ++ block ≡ concat node ++ (concat bs ++ block) = ap (λ (l : List (ℕ × ℕ)). l ++ block) (ap concat (sym same) ∙ concat-append node bs) ∙ append_assoc (concat node) (concat bs) block in
+    IsNormal-suffix (concat node) (concat bs ++ block) (subst IsNormal parts normal)
 
 pub last_length-suffix : (node bs stack : List (List (ℕ × ℕ))) → node ++ bs ≡ stack → 0 < length bs → last_length bs ≡ last_length stack
 last_length-suffix node bs stack same some = sym (last_length-append node bs some) ∙ ap last_length same
@@ -60,7 +60,7 @@ pushed_all node bs bs' stack block same new = ap (λ (l : List (List (ℕ × ℕ
 pub pushed_normal : (kept : List (ℕ × ℕ)) (range : ℕ × ℕ) → IsNormal kept → range.0 < range.1 → range.1 ≤ pixel_count → EndsBelow range.0 kept → IsNormal (kept ++ range ∷ [])
 pushed_normal kept range normal filled within below = normal_append kept (range ∷ []) normal (filled, within, tt, tt) below
 
--- the last range made longer
+-- the last range was extended
 pub longer_normal : (rs : List (ℕ × ℕ)) (last : ℕ × ℕ) (to : ℕ) → IsNormal (rs ++ last ∷ []) → last.1 ≤ to → to ≤ pixel_count → IsNormal (rs ++ (last.0, to) ∷ [])
 longer_normal [] last to normal le within = (omega (arith, normal.0), within, tt, tt)
 longer_normal (r ∷ []) last to normal le within = (normal.0, normal.1, normal.2, (omega (arith, normal.3.0), within, tt, tt))
@@ -86,7 +86,7 @@ longer_range a b from to q false af fb ab ft = grind (arith, nat_tests)
 pub last_filled : (rs : List (ℕ × ℕ)) (last : ℕ × ℕ) → IsNormal (rs ++ last ∷ []) → last.0 < last.1
 last_filled rs last normal = (IsNormal-suffix rs (last ∷ []) normal).0
 
--- the last range was joined with one that begins in it
+-- the last range was merged with one that begins in it
 pub longer_same : (all init rs rs' : List (ℕ × ℕ)) (last : ℕ × ℕ) (from to : ℕ) → IsNormal (all ++ rs) → rs ≡ init ++ last ∷ [] → rs' ≡ init ++ (last.0, max last.1 to) ∷ [] → BeginsBy from rs → from ≤ last_of rs → from < to → (q : ℕ) → in_ranges (all ++ rs') q ≡ (in_ranges (all ++ rs) q || in_range (from, to) q)
 longer_same all init rs rs' last from to normal old new begins reached filled q =
     let whole : all ++ rs ≡ (all ++ init) ++ last ∷ [] = ap (λ (l : List (ℕ × ℕ)). all ++ l) old ∙ sym (append_assoc all init (last ∷ [])) in
@@ -100,9 +100,9 @@ longer_same all init rs rs' last from to normal old new begins reached filled q 
     ∙ longer_range last.0 last.1 from to q (in_ranges (all ++ init) q) a b ab filled
     ∙ ap (λ x. x || in_range (from, to) q) (sym (in_ranges-append (all ++ init) (last ∷ []) q) ∙ ap (λ (l : List (ℕ × ℕ)). in_ranges l q) (sym whole))
 
-pub longer_built : (ns : List (List (List (ℕ × ℕ)))) (bs : List (List (ℕ × ℕ))) (rs rs' init : List (ℕ × ℕ)) (last : ℕ × ℕ) (to : ℕ) → IsBuilt ns bs rs → rs ≡ init ++ last ∷ [] → rs' ≡ init ++ (last.0, max last.1 to) ∷ [] → to ≤ pixel_count → IsBuilt ns bs rs'
+pub longer_built : (ns : List (List (List (ℕ × ℕ)))) (bs : List (List (ℕ × ℕ))) (rs rs' init : List (ℕ × ℕ)) (last : ℕ × ℕ) (to : ℕ) → IsBuilderState ns bs rs → rs ≡ init ++ last ∷ [] → rs' ≡ init ++ (last.0, max last.1 to) ∷ [] → to ≤ pixel_count → IsBuilderState ns bs rs'
 longer_built ns bs rs rs' init last to built old new within =
-    let all : List (ℕ × ℕ) = joining (joining ns ++ bs) in
+    let all : List (ℕ × ℕ) = concat (concat ns ++ bs) in
     let whole : all ++ rs ≡ (all ++ init) ++ last ∷ [] = ap (λ (l : List (ℕ × ℕ)). all ++ l) old ∙ sym (append_assoc all init (last ∷ [])) in
     let made : all ++ rs' ≡ (all ++ init) ++ (last.0, max last.1 to) ∷ [] = ap (λ (l : List (ℕ × ℕ)). all ++ l) new ∙ sym (append_assoc all init ((last.0, max last.1 to) ∷ [])) in
     let normal : IsNormal ((all ++ init) ++ last ∷ []) = subst IsNormal whole built.normal in
@@ -114,7 +114,7 @@ longer_built ns bs rs rs' init last to built old new within =
       normal = subst IsNormal (sym made) (longer_normal (all ++ init) last (max last.1 to) normal (omega arith) (omega arith));
     }
 
-pub longer_can : (u u' : Growing) (init : List (ℕ × ℕ)) (last : ℕ × ℕ) (to f : ℕ) → CanJoin u f → u'.closed ≡ u.closed → u.loose ≡ init ++ last ∷ [] → u'.loose ≡ init ++ (last.0, to) ∷ [] → CanJoin u' f
+pub longer_can : (u u' : GrowingList) (init : List (ℕ × ℕ)) (last : ℕ × ℕ) (to f : ℕ) → CanMerge u f → u'.closed ≡ u.closed → u.loose ≡ init ++ last ∷ [] → u'.loose ≡ init ++ (last.0, to) ∷ [] → CanMerge u' f
 longer_can u u' init last to f can closed old new = record {
   before = subst (λ (l : List (ℕ × ℕ)). EndsBelow f l) (sym closed) can.before;
   begun = subst (λ (l : List (ℕ × ℕ)). BeginsBy f l) (sym new) (longer_begins f init last to (subst (λ (l : List (ℕ × ℕ)). BeginsBy f l) old can.begun));
@@ -124,8 +124,8 @@ begins_append : (f : ℕ) (rs ss : List (ℕ × ℕ)) → BeginsBy f rs → Begi
 begins_append f [] ss all more = more
 begins_append f (r ∷ rs) ss all more = (all.0, begins_append f rs ss all.1 more)
 
--- what a range that was pushed lets be joined
-pub pushed_can : (u : Growing) (init : List (ℕ × ℕ)) (range : ℕ × ℕ) → IsNormal (ranges_of u) → u.loose ≡ init ++ range ∷ [] → CanJoin u range.0
+-- ranges that can be merged in after a range was pushed
+pub pushed_can : (u : GrowingList) (init : List (ℕ × ℕ)) (range : ℕ × ℕ) → IsNormal (ranges_of u) → u.loose ≡ init ++ range ∷ [] → CanMerge u range.0
 pushed_can u init range built is =
     let whole : ranges_of u ≡ (u.closed ++ init) ++ range ∷ [] = ap (λ (l : List (ℕ × ℕ)). u.closed ++ l) is ∙ sym (append_assoc u.closed init (range ∷ [])) in
     let normal : IsNormal ((u.closed ++ init) ++ range ∷ []) = subst IsNormal whole built in
@@ -136,11 +136,11 @@ pushed_can u init range built is =
       begun = subst (λ (l : List (ℕ × ℕ)). BeginsBy range.0 l) (sym is) (begins_append range.0 init (range ∷ []) (begins_of_ends range.0 init inner (ends_second range.0 u.closed init below)) (omega arith, tt));
     }
 
--- the first k of some ranges were put behind those in no block, where there was room for k
-pub filled_built : (ns : List (List (List (ℕ × ℕ)))) (bs : List (List (ℕ × ℕ))) (rs rs' kept ranges : List (ℕ × ℕ)) (k : ℕ) → IsBuilt ns bs rs → kept_of ns bs rs ≡ kept → rs' ≡ rs ++ take k ranges → length rs + k ≤ 128 → IsNormal (kept ++ ranges) → IsBuilt ns bs rs'
+-- the first k ranges were appended to those in no block, which had room for k
+pub filled_built : (ns : List (List (List (ℕ × ℕ)))) (bs : List (List (ℕ × ℕ))) (rs rs' kept ranges : List (ℕ × ℕ)) (k : ℕ) → IsBuilderState ns bs rs → builder_ranges ns bs rs ≡ kept → rs' ≡ rs ++ take k ranges → length rs + k ≤ 128 → IsNormal (kept ++ ranges) → IsBuilderState ns bs rs'
 filled_built ns bs rs rs' kept ranges k built same new room normal =
-    let all : List (ℕ × ℕ) = joining (joining ns ++ bs) in
-    let made : kept_of ns bs rs' ≡ kept ++ take k ranges = ap (λ (l : List (ℕ × ℕ)). all ++ l) new ∙ sym (append_assoc all rs (take k ranges)) ∙ ap (λ (l : List (ℕ × ℕ)). l ++ take k ranges) same in
+    let all : List (ℕ × ℕ) = concat (concat ns ++ bs) in
+    let made : builder_ranges ns bs rs' ≡ kept ++ take k ranges = ap (λ (l : List (ℕ × ℕ)). all ++ l) new ∙ sym (append_assoc all rs (take k ranges)) ∙ ap (λ (l : List (ℕ × ℕ)). l ++ take k ranges) same in
     let parts : kept ++ ranges ≡ (kept ++ take k ranges) ++ drop k ranges = ap (λ (l : List (ℕ × ℕ)). kept ++ l) (sym (take-append-drop k ranges)) ∙ sym (append_assoc kept (take k ranges) (drop k ranges)) in
     record {
       sized = built.sized;
@@ -149,28 +149,28 @@ filled_built ns bs rs rs' kept ranges k built same new room normal =
       normal = subst IsNormal (sym made) (IsNormal-prefix (kept ++ take k ranges) (drop k ranges) (subst IsNormal parts normal));
     }
 
--- a range was pushed where there was room
-pub pushed_built : (ns : List (List (List (ℕ × ℕ)))) (bs : List (List (ℕ × ℕ))) (rs rs' kept : List (ℕ × ℕ)) (range : ℕ × ℕ) → IsBuilt ns bs rs → kept_of ns bs rs ≡ kept → length rs < 128 → rs' ≡ rs ++ range ∷ [] → range.0 < range.1 → range.1 ≤ pixel_count → EndsBelow range.0 kept → IsBuilt ns bs rs'
+-- a range was pushed, and there was room for it
+pub pushed_built : (ns : List (List (List (ℕ × ℕ)))) (bs : List (List (ℕ × ℕ))) (rs rs' kept : List (ℕ × ℕ)) (range : ℕ × ℕ) → IsBuilderState ns bs rs → builder_ranges ns bs rs ≡ kept → length rs < 128 → rs' ≡ rs ++ range ∷ [] → range.0 < range.1 → range.1 ≤ pixel_count → EndsBelow range.0 kept → IsBuilderState ns bs rs'
 pushed_built ns bs rs rs' kept range built same room new filled within below =
-    let made : kept_of ns bs rs' ≡ kept_of ns bs rs ++ range ∷ [] = ap (λ (l : List (ℕ × ℕ)). joining (joining ns ++ bs) ++ l) new ∙ sym (append_assoc (joining (joining ns ++ bs)) rs (range ∷ [])) in
+    let made : builder_ranges ns bs rs' ≡ builder_ranges ns bs rs ++ range ∷ [] = ap (λ (l : List (ℕ × ℕ)). concat (concat ns ++ bs) ++ l) new ∙ sym (append_assoc (concat (concat ns ++ bs)) rs (range ∷ [])) in
     record {
       sized = built.sized;
       wide = built.wide;
       fits = omega (arith, ap length new, length-append rs (range ∷ []));
-      normal = subst IsNormal (sym made) (pushed_normal (kept_of ns bs rs) range built.normal filled within (subst (λ (l : List (ℕ × ℕ)). EndsBelow range.0 l) (sym same) below));
+      normal = subst IsNormal (sym made) (pushed_normal (builder_ranges ns bs rs) range built.normal filled within (subst (λ (l : List (ℕ × ℕ)). EndsBelow range.0 l) (sym same) below));
     }
 
--- a node was put behind
-pub stack_noded : (ns ns' : List (List (List (ℕ × ℕ)))) (node bs bs' stack : List (List (ℕ × ℕ))) → joining ns ++ bs ≡ stack → bs ≡ [] → joining ns' ++ bs' ≡ joining ns ++ node → joining ns' ++ bs' ≡ stack ++ node
+-- a node was appended
+pub stack_noded : (ns ns' : List (List (List (ℕ × ℕ)))) (node bs bs' stack : List (List (ℕ × ℕ))) → concat ns ++ bs ≡ stack → bs ≡ [] → concat ns' ++ bs' ≡ concat ns ++ node → concat ns' ++ bs' ≡ stack ++ node
 stack_noded ns ns' node bs bs' stack same none new =
-    let all : joining ns ≡ stack = sym (nothing_more (joining ns)) ∙ ap (λ (l : List (List (ℕ × ℕ))). joining ns ++ l) (sym none) ∙ same in
+    let all : concat ns ≡ stack = sym (nothing_more (concat ns)) ∙ ap (λ (l : List (List (ℕ × ℕ))). concat ns ++ l) (sym none) ∙ same in
     new ∙ ap (λ (l : List (List (ℕ × ℕ))). l ++ node) all
 
-pub node_kept : (ns : List (List (List (ℕ × ℕ)))) (bs stack node : List (List (ℕ × ℕ))) (rs kept : List (ℕ × ℕ)) → joining ns ++ bs ≡ stack ++ node → rs ≡ [] → joining stack ≡ kept → kept_of ns bs rs ≡ kept ++ joining node
+pub node_kept : (ns : List (List (List (ℕ × ℕ)))) (bs stack node : List (List (ℕ × ℕ))) (rs kept : List (ℕ × ℕ)) → concat ns ++ bs ≡ stack ++ node → rs ≡ [] → concat stack ≡ kept → builder_ranges ns bs rs ≡ kept ++ concat node
 node_kept ns bs stack node rs kept same none is =
-    (λ i. joining (same i) ++ none i) ∙ nothing_more (joining (stack ++ node)) ∙ joining-append stack node ∙ ap (λ (l : List (ℕ × ℕ)). l ++ joining node) is
+    (λ i. concat (same i) ++ none i) ∙ nothing_more (concat (stack ++ node)) ∙ concat-append stack node ∙ ap (λ (l : List (ℕ × ℕ)). l ++ concat node) is
 
-pub node_built : (ns : List (List (List (ℕ × ℕ)))) (bs stack node : List (List (ℕ × ℕ))) (rs kept : List (ℕ × ℕ)) → joining ns ++ bs ≡ stack ++ node → rs ≡ [] → joining stack ≡ kept → AreBlocks stack → AreBlocks node → (0 < last_length stack → 128 < last_length stack + first_length node) → AreGrouped ns bs → IsNormal (kept ++ joining node) → IsBuilt ns bs rs
+pub node_built : (ns : List (List (List (ℕ × ℕ)))) (bs stack node : List (List (ℕ × ℕ))) (rs kept : List (ℕ × ℕ)) → concat ns ++ bs ≡ stack ++ node → rs ≡ [] → concat stack ≡ kept → AreBlocks stack → AreBlocks node → (0 < last_length stack → 128 < last_length stack + first_length node) → AreGrouped ns bs → IsNormal (kept ++ concat node) → IsBuilderState ns bs rs
 node_built ns bs stack node rs kept same none is ok more seam wide normal = record {
   wide = wide;
   sized = subst AreBlocks (sym same) (filled_append 128 stack node ok more seam);
@@ -178,32 +178,32 @@ node_built ns bs stack node rs kept same none is ok more seam wide normal = reco
   normal = subst IsNormal (sym (node_kept ns bs stack node rs kept same none is)) normal;
 }
 
--- what is sealed is all in blocks
+-- after sealing, all ranges are in blocks
 pub sealed_all : (all rs kept : List (ℕ × ℕ)) → all ++ rs ≡ kept → rs ≡ [] → all ≡ kept
 sealed_all all rs kept same none = sym (nothing_more all) ∙ ap (λ (l : List (ℕ × ℕ)). all ++ l) (sym none) ∙ same
 
--- one of some blocks more
-pub each_more : (blocks : List (List (ℕ × ℕ))) (i : ℕ) (b : List (ℕ × ℕ)) (all now next : List (ℕ × ℕ)) → i < length blocks → b ≡ get_or blocks i b → now ≡ all ++ joining (take i blocks) → next ≡ now ++ b → next ≡ all ++ joining (take (i + 1) blocks)
+-- one more of the blocks
+pub each_more : (blocks : List (List (ℕ × ℕ))) (i : ℕ) (b : List (ℕ × ℕ)) (all now next : List (ℕ × ℕ)) → i < length blocks → b ≡ get_or blocks i b → now ≡ all ++ concat (take i blocks) → next ≡ now ++ b → next ≡ all ++ concat (take (i + 1) blocks)
 each_more blocks i b all now next lt is before new =
-    new ∙ ap (λ (l : List (ℕ × ℕ)). l ++ b) before ∙ append_assoc all (joining (take i blocks)) b
-    ∙ ap (λ (l : List (ℕ × ℕ)). all ++ l) (ap (λ (l : List (ℕ × ℕ)). joining (take i blocks) ++ l) is ∙ sym (joining-last (take i blocks) (get_or blocks i b)) ∙ ap joining (sym (take_more blocks i b lt)))
+    new ∙ ap (λ (l : List (ℕ × ℕ)). l ++ b) before ∙ append_assoc all (concat (take i blocks)) b
+    ∙ ap (λ (l : List (ℕ × ℕ)). all ++ l) (ap (λ (l : List (ℕ × ℕ)). concat (take i blocks) ++ l) is ∙ sym (concat-last (take i blocks) (get_or blocks i b)) ∙ ap concat (sym (take_more blocks i b lt)))
 
-pub each_normal : (blocks : List (List (ℕ × ℕ))) (i : ℕ) (b : List (ℕ × ℕ)) (all now : List (ℕ × ℕ)) → i < length blocks → b ≡ get_or blocks i b → now ≡ all ++ joining (take i blocks) → IsNormal (all ++ joining blocks) → IsNormal (now ++ b)
+pub each_normal : (blocks : List (List (ℕ × ℕ))) (i : ℕ) (b : List (ℕ × ℕ)) (all now : List (ℕ × ℕ)) → i < length blocks → b ≡ get_or blocks i b → now ≡ all ++ concat (take i blocks) → IsNormal (all ++ concat blocks) → IsNormal (now ++ b)
 each_normal blocks i b all now lt is before normal =
     let next = each_more blocks i b all now (now ++ b) lt is before refl in
-    let whole : all ++ joining blocks ≡ (all ++ joining (take (i + 1) blocks)) ++ joining (drop (i + 1) blocks) =
-    ap (λ (l : List (ℕ × ℕ)). all ++ l) (ap joining (sym (take-append-drop (i + 1) blocks)) ∙ joining-append (take (i + 1) blocks) (drop (i + 1) blocks)) ∙ sym (append_assoc all (joining (take (i + 1) blocks)) (joining (drop (i + 1) blocks))) in
-    subst IsNormal (sym next) (IsNormal-prefix (all ++ joining (take (i + 1) blocks)) (joining (drop (i + 1) blocks)) (subst IsNormal whole normal))
+    let whole : all ++ concat blocks ≡ (all ++ concat (take (i + 1) blocks)) ++ concat (drop (i + 1) blocks) =
+    ap (λ (l : List (ℕ × ℕ)). all ++ l) (ap concat (sym (take-append-drop (i + 1) blocks)) ∙ concat-append (take (i + 1) blocks) (drop (i + 1) blocks)) ∙ sym (append_assoc all (concat (take (i + 1) blocks)) (concat (drop (i + 1) blocks))) in
+    subst IsNormal (sym next) (IsNormal-prefix (all ++ concat (take (i + 1) blocks)) (concat (drop (i + 1) blocks)) (subst IsNormal whole normal))
 
--- blocks that became a node
-pub noded : (ns ns' : List (List (List (ℕ × ℕ)))) (node blocks rest : List (List (ℕ × ℕ))) → ns' ≡ ns ++ node ∷ [] → node ≡ blocks → rest ≡ [] → joining ns' ++ rest ≡ joining ns ++ blocks
+-- blocks became a node
+pub noded : (ns ns' : List (List (List (ℕ × ℕ)))) (node blocks rest : List (List (ℕ × ℕ))) → ns' ≡ ns ++ node ∷ [] → node ≡ blocks → rest ≡ [] → concat ns' ++ rest ≡ concat ns ++ blocks
 noded ns ns' node blocks rest new is none =
-    (λ i. joining (new i) ++ none i) ∙ nothing_more (joining (ns ++ node ∷ [])) ∙ joining-last ns node ∙ ap (λ (l : List (List (ℕ × ℕ))). joining ns ++ l) is
+    (λ i. concat (new i) ++ none i) ∙ nothing_more (concat (ns ++ node ∷ [])) ∙ concat-last ns node ∙ ap (λ (l : List (List (ℕ × ℕ))). concat ns ++ l) is
 
--- a node that became blocks
-pub reopened : (ns ns' : List (List (List (ℕ × ℕ)))) (node blocks blocks' : List (List (ℕ × ℕ))) → ns ≡ ns' ++ node ∷ [] → blocks' ≡ node → blocks ≡ [] → joining ns' ++ blocks' ≡ joining ns ++ blocks
+-- a node was reopened to blocks
+pub reopened : (ns ns' : List (List (List (ℕ × ℕ)))) (node blocks blocks' : List (List (ℕ × ℕ))) → ns ≡ ns' ++ node ∷ [] → blocks' ≡ node → blocks ≡ [] → concat ns' ++ blocks' ≡ concat ns ++ blocks
 reopened ns ns' node blocks blocks' old is none =
-    ap (λ (l : List (List (ℕ × ℕ))). joining ns' ++ l) is ∙ sym (joining-last ns' node) ∙ ap joining (sym old) ∙ sym (nothing_more (joining ns)) ∙ ap (λ (l : List (List (ℕ × ℕ))). joining ns ++ l) (sym none)
+    ap (λ (l : List (List (ℕ × ℕ))). concat ns' ++ l) is ∙ sym (concat-last ns' node) ∙ ap concat (sym old) ∙ sym (nothing_more (concat ns)) ∙ ap (λ (l : List (List (ℕ × ℕ))). concat ns ++ l) (sym none)
 
 pub test_below : (f : ℕ) (rs : List (ℕ × ℕ)) (d : ℕ × ℕ) (i : ℕ) → IsNormal rs → i + 1 ≡ length rs → OnTrue (nat_lt (get_or rs i d).1 f) (EndsBelow f rs)
 test_below f rs d i normal e =
@@ -219,10 +219,10 @@ test_reached f rs d i e =
       | false ↦ λ t. let ge = ltb-false (get_or rs i d).1 f t in omega (arith, last_of-get rs d i e)
     ] refl
 
-pub node_read : (ns : List (List (List (ℕ × ℕ)))) (last : List (List (ℕ × ℕ))) (i : ℕ) → i + 1 ≡ length ns → last ≡ get_or ns i last → 0 < length (joining last) → last_length last ≡ last_length (joining ns)
+pub node_read : (ns : List (List (List (ℕ × ℕ)))) (last : List (List (ℕ × ℕ))) (i : ℕ) → i + 1 ≡ length ns → last ≡ get_or ns i last → 0 < length (concat last) → last_length last ≡ last_length (concat ns)
 node_read ns last i e is some = ap last_length is ∙ sym (last_length-nodes ns last i e (subst (λ (l : List (List (ℕ × ℕ))). 0 < length l) is (some_blocks last some)))
 
--- an open range behind those that are kept
+-- an open range after the others
 pub open_longer : (kept : List (ℕ × ℕ)) (last : ℕ × ℕ) (to end : ℕ) → IsNormal (kept ++ last ∷ []) → to ≤ pixel_count → end ≡ max last.1 to → IsNormal (kept ++ (last.0, end) ∷ [])
 open_longer kept last to end opened within is =
     let last_in : last.1 ≤ pixel_count = (IsNormal-suffix kept (last ∷ []) opened).1 in
@@ -255,16 +255,16 @@ open_next-same kept kept' last range q is =
     in_ranges-append kept' (range ∷ []) q ∙ (λ i. in_ranges (is i) q || or_false (in_range range q) i)
 
 -- the ranges that are in no block are normal
-pub ranges_normal : (ns : List (List (List (ℕ × ℕ)))) (bs : List (List (ℕ × ℕ))) (rs : List (ℕ × ℕ)) → IsBuilt ns bs rs → IsNormal rs
-ranges_normal ns bs rs built = IsNormal-suffix (joining (joining ns ++ bs)) rs built.normal
+pub ranges_normal : (ns : List (List (List (ℕ × ℕ)))) (bs : List (List (ℕ × ℕ))) (rs : List (ℕ × ℕ)) → IsBuilderState ns bs rs → IsNormal rs
+ranges_normal ns bs rs built = IsNormal-suffix (concat (concat ns ++ bs)) rs built.normal
 
--- some were taken off at their end
-pub prefix_built : (ns : List (List (List (ℕ × ℕ)))) (bs : List (List (ℕ × ℕ))) (rs rs' gone : List (ℕ × ℕ)) → IsBuilt ns bs rs → rs ≡ rs' ++ gone → IsBuilt ns bs rs'
-prefix_built ns bs rs rs' gone built old =
-    let all : List (ℕ × ℕ) = joining (joining ns ++ bs) in
+-- ranges were removed at the end
+pub prefix_built : (ns : List (List (List (ℕ × ℕ)))) (bs : List (List (ℕ × ℕ))) (rs rs' removed : List (ℕ × ℕ)) → IsBuilderState ns bs rs → rs ≡ rs' ++ removed → IsBuilderState ns bs rs'
+prefix_built ns bs rs rs' removed built old =
+    let all : List (ℕ × ℕ) = concat (concat ns ++ bs) in
     record {
       sized = built.sized;
       wide = built.wide;
-      fits = omega (arith, built.fits, ap length old, length-append rs' gone);
-      normal = IsNormal-prefix (all ++ rs') gone (subst IsNormal (ap (λ (l : List (ℕ × ℕ)). all ++ l) old ∙ sym (append_assoc all rs' gone)) built.normal);
+      fits = omega (arith, built.fits, ap length old, length-append rs' removed);
+      normal = IsNormal-prefix (all ++ rs') removed (subst IsNormal (ap (λ (l : List (ℕ × ℕ)). all ++ l) old ∙ sym (append_assoc all rs' removed)) built.normal);
     }

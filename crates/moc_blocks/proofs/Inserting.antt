@@ -1,4 +1,4 @@
--- One range more in the list of a block.
+-- Inserting a range into the list of a block.
 use Rattle.std.proofs.Common.{◌≡◌, ℕ, zero, suc, ◌+◌, ◌-◌, ◌<◌, ◌≤◌, Bool, true, List, [], ◌∷◌, ◌++◌, length, get_or}
 use Rattle.std.proofs.Common.{take, drop, refl, sym, ap, subst, ◌∙◌, arith, append_assoc, length-append, length-drop}
 use Rattle.std.proofs.Common.{length-take-le}
@@ -9,11 +9,11 @@ use Rattle.std.proofs.lemmas.List.{take-append-drop}
 use Rattle.std.proofs.lemmas.List.Edits.{get_or-insert_at}
 use Rattle.std.proofs.lemmas.List.Sums.{sum_by-cons}
 use Rattle.moc_blocks.specs.RangeList.{pixel_count, IsNormal}
-use Rattle.moc_blocks.specs.Blocks.{joining, AreBlocks}
+use Rattle.moc_blocks.specs.Blocks.{concat, AreBlocks}
 use Rattle.moc_blocks.specs.Private.Blocks.{next_of, width_of, AreNodes, IsStored}
 use Rattle.moc_blocks.specs.Private.Built.{EndsBelow, first_length, last_length}
-use Rattle.moc_blocks.specs.Private.Walks.{joined, EndsBy, IsPastAt}
-use Rattle.moc_blocks.specs.Private.Added.{inserted, IsCut, IsGap, HasGap, HasGrown, HasOneMore}
+use Rattle.moc_blocks.specs.Private.Walks.{all_ranges, EndsBy, EndsAfterAt}
+use Rattle.moc_blocks.specs.Private.Added.{with_range_inserted, IsCut, IsGap, HasGap, IsInsertion, IsInserted}
 use Rattle.moc_blocks.proofs.Blocking.{IsNormal-prefix, IsNormal-suffix, nothing_more, range_at, width-append}
 use Rattle.moc_blocks.proofs.Adding.{one_more_cut, parted, reaching_start, reach_done, regrown_all, run_normal}
 use Rattle.moc_blocks.proofs.Filling.{filled_suffix}
@@ -33,55 +33,55 @@ get_same {X} [] i d lt = refl
 get_same {X} (x ∷ xs) zero d lt = refl
 get_same {X} (x ∷ xs) (suc i) d lt = get_same xs i d (omega arith)
 
--- a range between those that end below it and those that begin behind it
-gap_more : (from to k : ℕ) (run : List (ℕ × ℕ)) → IsNormal run → from < to → to ≤ pixel_count → to < next_of (drop k run) → EndsBy (from - 1) (joined (λ (r : ℕ × ℕ). r ∷ []) (take k run)) → IsPastAt (λ (r : ℕ × ℕ). r ∷ []) run (from - 1) k → HasOneMore from to run (insert run k (from, to))
+-- a range between ranges that end before it and ranges that begin after it
+gap_more : (from to k : ℕ) (run : List (ℕ × ℕ)) → IsNormal run → from < to → to ≤ pixel_count → to < next_of (drop k run) → EndsBy (from - 1) (all_ranges (λ (r : ℕ × ℕ). r ∷ []) (take k run)) → EndsAfterAt (λ (r : ℕ × ℕ). r ∷ []) run (from - 1) k → IsInserted from to run (insert run k (from, to))
 gap_more from to k run normal filled within above ended past =
     let rest = drop k run in
     let rest_normal = IsNormal-suffix (take k run) rest (subst IsNormal (sym (take-append-drop k run)) normal) in
     one_more_cut from to from to k run rest (insert run k (from, to)) normal filled within ended past (omega arith)
     (reach_done from to to rest rest (reaching_start from to rest rest_normal filled within (omega arith)) above) refl
 
-gap_cut : (before behind : List (List (ℕ × ℕ))) (run ranges : List (ℕ × ℕ)) → AreBlocks (before ++ run ∷ behind) → length ranges ≡ length run + 1 → length run < 128 → IsCut 128 (last_length before) (first_length behind) ranges ranges []
-gap_cut before behind run ranges sized more room =
-    let here = filled_suffix 128 before (run ∷ behind) sized in
+gap_cut : (before after : List (List (ℕ × ℕ))) (run ranges : List (ℕ × ℕ)) → AreBlocks (before ++ run ∷ after) → length ranges ≡ length run + 1 → length run < 128 → IsCut 128 (last_length before) (first_length after) ranges ranges []
+gap_cut before after run ranges sized more room =
+    let here = filled_suffix 128 before (run ∷ after) sized in
     record {
       parts = nothing_more ranges;
       filled = (omega arith, omega arith, tt, tt);
-      front = λ some. omega (arith, beside_last 128 before behind run sized some);
-      back = λ some. omega (arith, beside_next 128 behind run here some);
+      front = λ some. omega (arith, beside_last 128 before after run sized some);
+      back = λ some. omega (arith, beside_next 128 after run here some);
     }
 
-around : (before left right behind : List (List (ℕ × ℕ))) (run : List (ℕ × ℕ)) → before ++ ((left ++ run ∷ right) ++ behind) ≡ (before ++ left) ++ run ∷ (right ++ behind)
-around before left right behind run =
-    ap (λ (l : List (List (ℕ × ℕ))). before ++ l) (append_assoc left (run ∷ right) behind) ∙ sym (append_assoc before left (run ∷ (right ++ behind)))
+around : (before left right after : List (List (ℕ × ℕ))) (run : List (ℕ × ℕ)) → before ++ ((left ++ run ∷ right) ++ after) ≡ (before ++ left) ++ run ∷ (right ++ after)
+around before left right after run =
+    ap (λ (l : List (List (ℕ × ℕ))). before ++ l) (append_assoc left (run ∷ right) after) ∙ sym (append_assoc before left (run ∷ (right ++ after)))
 
-pub gap_here : (from to k : ℕ) (nodes before behind : List (List (List (ℕ × ℕ)))) (node left right : List (List (ℕ × ℕ))) (run : List (ℕ × ℕ)) → IsStored [] nodes → nodes ≡ before ++ node ∷ behind → EndsBelow from (joining (joining before)) → node ≡ left ++ run ∷ right → EndsBelow from (joining left) → from < to → to ≤ pixel_count → to < next_of (joining right ++ joining (joining behind)) → to < next_of (drop k run) → EndsBy (from - 1) (joined (λ (r : ℕ × ℕ). r ∷ []) (take k run)) → IsPastAt (λ (r : ℕ × ℕ). r ∷ []) run (from - 1) k → length run < 128 → k ≤ length run → IsGap from to nodes (length before) (length left) k
-gap_here from to k nodes before behind node left right run stored parts below1 here below2 filled within above next ended past room inside =
-    let sized = subst AreBlocks (parted nodes before behind node parts) stored.sized in
-    let normal = subst (λ (l : List (List (ℕ × ℕ))). IsNormal (joining l)) (parted nodes before behind node parts) stored.normal in
-    let flat = subst AreBlocks (ap (λ (l : List (List (ℕ × ℕ))). joining before ++ (l ++ joining behind)) here ∙ around (joining before) left right (joining behind) run) sized in
-    let one : IsNormal run = run_normal (joining before) node node left right (joining behind) run refl here normal in
+pub gap_here : (from to k : ℕ) (nodes before after : List (List (List (ℕ × ℕ)))) (node left right : List (List (ℕ × ℕ))) (run : List (ℕ × ℕ)) → IsStored [] nodes → nodes ≡ before ++ node ∷ after → EndsBelow from (concat (concat before)) → node ≡ left ++ run ∷ right → EndsBelow from (concat left) → from < to → to ≤ pixel_count → to < next_of (concat right ++ concat (concat after)) → to < next_of (drop k run) → EndsBy (from - 1) (all_ranges (λ (r : ℕ × ℕ). r ∷ []) (take k run)) → EndsAfterAt (λ (r : ℕ × ℕ). r ∷ []) run (from - 1) k → length run < 128 → k ≤ length run → IsGap from to nodes (length before) (length left) k
+gap_here from to k nodes before after node left right run stored parts below1 here below2 filled within above next ended past room inside =
+    let sized = subst AreBlocks (parted nodes before after node parts) stored.sized in
+    let normal = subst (λ (l : List (List (ℕ × ℕ))). IsNormal (concat l)) (parted nodes before after node parts) stored.normal in
+    let flat = subst AreBlocks (ap (λ (l : List (List (ℕ × ℕ))). concat before ++ (l ++ concat after)) here ∙ around (concat before) left right (concat after) run) sized in
+    let one : IsNormal run = run_normal (concat before) node node left right (concat after) run refl here normal in
     let more = gap_more from to k run one filled within next ended past in
     let ranges = insert run k (from, to) in
     let many : length ranges ≡ length run + 1 = insert_length run k (from, to) inside in
     record {
       ranges = ranges;
-      spot = record {
+      block_edit = record {
         before = before;
         old = node;
-        behind = behind;
+        after = after;
         parts = parts;
         at = refl;
         left = left;
         run = run;
         right = right;
         place = refl;
-        grown = record {
+        growing_list = record {
           parts = here;
-          filled = (gap_cut (joining before ++ left) (right ++ joining behind) run ranges flat many room).filled;
+          filled = (gap_cut (concat before ++ left) (right ++ concat after) run ranges flat many room).filled;
           normal = subst IsNormal (sym (nothing_more ranges)) more.normal;
-          regrown = regrown_all from to (joining before) (joining behind) node left right run ranges ranges [] _ _ (to - from) (left ++ ranges ∷ right) sized normal here below1 below2 above more (insert_width run k (from, to)) refl refl
-              (gap_cut (joining before ++ left) (right ++ joining behind) run ranges flat many room) refl;
+          node_blocks = regrown_all from to (concat before) (concat after) node left right run ranges ranges [] _ _ (to - from) (left ++ ranges ∷ right) sized normal here below1 below2 above more (insert_width run k (from, to)) refl refl
+              (gap_cut (concat before ++ left) (right ++ concat after) run ranges flat many room) refl;
         };
       };
       inside = inside;
@@ -89,25 +89,25 @@ gap_here from to k nodes before behind node left right run stored parts below1 h
       made = refl;
     }
 
--- ---- the range put there
+-- ---- the inserted range
 
 -- the block of the gap, as the code finds it
-gap_run : (from to node block place : ℕ) (nodes nodes' : List (List (List (ℕ × ℕ)))) (found : List (List (ℕ × ℕ))) → nodes' ≡ nodes → (g : IsGap from to nodes' node block place) → found ≡ get_or nodes node found → get_or found block [] ≡ g.spot.run
+gap_run : (from to node block place : ℕ) (nodes nodes' : List (List (List (ℕ × ℕ)))) (found : List (List (ℕ × ℕ))) → nodes' ≡ nodes → (g : IsGap from to nodes' node block place) → found ≡ get_or nodes node found → get_or found block [] ≡ g.block_edit.run
 gap_run from to node block place nodes nodes' found same g is =
-    let whole = spot_node from to node block (to - from) nodes nodes' g.ranges found same g.spot is ∙ g.spot.grown.parts in
-    ap (λ (l : List (List (ℕ × ℕ))). get_or l block []) whole ∙ get_between g.spot.left g.spot.right g.spot.run [] block g.spot.place
+    let whole = spot_node from to node block (to - from) nodes nodes' g.ranges found same g.block_edit is ∙ g.block_edit.growing_list.parts in
+    ap (λ (l : List (List (ℕ × ℕ))). get_or l block []) whole ∙ get_between g.block_edit.left g.block_edit.right g.block_edit.run [] block g.block_edit.place
 
 gap_ranges : (from to node block place : ℕ) (nodes nodes' : List (List (List (ℕ × ℕ)))) (found : List (List (ℕ × ℕ))) → nodes' ≡ nodes → (g : IsGap from to nodes' node block place) → found ≡ get_or nodes node found → insert (get_or found block []) place (from, to) ≡ g.ranges
 gap_ranges from to node block place nodes nodes' found same g is =
     ap (λ (l : List (ℕ × ℕ)). insert l place (from, to)) (gap_run from to node block place nodes nodes' found same g is) ∙ sym g.made
 
--- a block with one range more is one of its node
-inserted_there : (node : List (List (ℕ × ℕ))) (block : ℕ) (run : List (ℕ × ℕ)) → block < length node → IsNormal (joining (slice_set node block run)) → IsNormal run
+-- a block with a range inserted is a block of its node
+inserted_there : (node : List (List (ℕ × ℕ))) (block : ℕ) (run : List (ℕ × ℕ)) → block < length node → IsNormal (concat (slice_set node block run)) → IsNormal run
 inserted_there [] block run there normal = absurd (omega arith)
-inserted_there (b ∷ bs) zero run there normal = IsNormal-prefix run (joining bs) normal
-inserted_there (b ∷ bs) (suc block) run there normal = inserted_there bs block run (omega arith) (IsNormal-suffix b (joining (slice_set bs block run)) normal)
+inserted_there (b ∷ bs) zero run there normal = IsNormal-prefix run (concat bs) normal
+inserted_there (b ∷ bs) (suc block) run there normal = inserted_there bs block run (omega arith) (IsNormal-suffix b (concat (slice_set bs block run)) normal)
 
--- what putting a range there asks of the block
+-- the requirements of the insertion on the block
 pub gap_normal : (node : List (List (ℕ × ℕ))) (block place : ℕ) (range : ℕ × ℕ) → HasGap node block place range → IsNormal (insert (get_or node block []) place range)
 gap_normal node block place range gap = inserted_there node block (insert (get_or node block []) place range) gap.there gap.normal
 
@@ -117,63 +117,63 @@ gap_filled node block place range gap =
     subst (λ (r : ℕ × ℕ). r.0 < r.1) (get_or-insert_at run place range range gap.inside)
     (range_at (insert run place range) place range (gap_normal node block place range gap) (omega (arith, insert_length run place range gap.inside, gap.inside)))
 
--- what putting it there asks of the node
+-- the requirements of the insertion on the node
 pub gap_can : (from to node block place : ℕ) (nodes nodes' : List (List (List (ℕ × ℕ)))) (found : List (List (ℕ × ℕ))) → nodes' ≡ nodes → IsGap from to nodes' node block place → found ≡ get_or nodes node found → HasGap found block place (from, to)
 gap_can from to node block place nodes nodes' found same g is =
     let run = gap_run from to node block place nodes nodes' found same g is in
     let made = gap_ranges from to node block place nodes nodes' found same g is in
-    let whole = spot_node from to node block (to - from) nodes nodes' g.ranges found same g.spot is ∙ g.spot.grown.parts in
+    let whole = spot_node from to node block (to - from) nodes nodes' g.ranges found same g.block_edit is ∙ g.block_edit.growing_list.parts in
     record {
-      there = omega (arith, ap length whole, length-append g.spot.left (g.spot.run ∷ g.spot.right), g.spot.place);
+      there = omega (arith, ap length whole, length-append g.block_edit.left (g.block_edit.run ∷ g.block_edit.right), g.block_edit.place);
       inside = omega (arith, ap length run, g.inside);
       room = omega (arith, ap length run, g.room);
-      normal = spot_normal from to node block (to - from) nodes nodes' g.ranges _ found same g.spot is made;
-      sized = spot_sized from to node block (to - from) nodes nodes' g.ranges _ found same g.spot is made;
+      normal = spot_normal from to node block (to - from) nodes nodes' g.ranges _ found same g.block_edit is made;
+      sized = spot_sized from to node block (to - from) nodes nodes' g.ranges _ found same g.block_edit is made;
     }
 
--- the nodes with the range
+-- the nodes after the insertion
 pub record IsPut (from to : ℕ) (nodes new : List (List (List (ℕ × ℕ)))) (starts : List ℕ) (size count : ℕ) : Type 0 where
   pub stored : IsStored [] new
-  pub grown : HasGrown from to (joining (joining nodes)) (joining (joining new)) (to - from)
+  pub growing_list : IsInsertion from to (concat (concat nodes)) (concat (concat new)) (to - from)
   pub index : AreNodes starts (size + (to - from)) (count + 1) new
 
-pub gap_put : (from to node block place size count : ℕ) (nodes nodes' : List (List (List (ℕ × ℕ)))) (starts : List ℕ) (found put : List (List (ℕ × ℕ))) → from < to → IsStored [] nodes → AreNodes starts size count nodes → nodes' ≡ nodes → IsGap from to nodes' node block place → found ≡ get_or nodes node found → put ≡ inserted found block place (from, to) → IsPut from to nodes (slice_set nodes node put) starts size count
+pub gap_put : (from to node block place size count : ℕ) (nodes nodes' : List (List (List (ℕ × ℕ)))) (starts : List ℕ) (found put : List (List (ℕ × ℕ))) → from < to → IsStored [] nodes → AreNodes starts size count nodes → nodes' ≡ nodes → IsGap from to nodes' node block place → found ≡ get_or nodes node found → put ≡ with_range_inserted found block place (from, to) → IsPut from to nodes (slice_set nodes node put) starts size count
 gap_put from to node block place size count nodes nodes' starts found put filled stored index same g is done =
     let run = gap_run from to node block place nodes nodes' found same g is in
     let made = gap_ranges from to node block place nodes nodes' found same g is in
     let can = gap_can from to node block place nodes nodes' found same g is in
-    let inside = spot_inside from to node block (to - from) nodes nodes' g.ranges same g.spot in
-    let new = spot_put from to node block (to - from) nodes nodes' g.ranges _ found put stored same g.spot is made done in
+    let inside = spot_inside from to node block (to - from) nodes nodes' g.ranges same g.block_edit in
+    let new = spot_put from to node block (to - from) nodes nodes' g.ranges _ found put stored same g.block_edit is made done in
     let longer = length_replaced found block (get_or found block []) (insert (get_or found block []) place (from, to)) can.there (get_same found block [] can.there) in
     let many = insert_length (get_or found block []) place (from, to) can.inside in
     record {
       stored = new.0;
-      grown = new.1;
+      growing_list = new.1;
       index = record {
         placed = index.placed ∙ sym (starts_set 0 nodes node found put is (ap length done ∙ as_many found block _));
         measured = omega (arith, new.1.more, index.measured);
-        counted = omega (arith, node_set nodes node found put inside is, ap (λ (l : List (List (ℕ × ℕ))). length (joining l)) done, longer, many, index.counted);
+        counted = omega (arith, node_set nodes node found put inside is, ap (λ (l : List (List (ℕ × ℕ))). length (concat l)) done, longer, many, index.counted);
       };
     }
 
--- ---- the node with the range
+-- ---- the node after the insertion
 
 same_at : {X : Type 0} (xs : List X) (i : ℕ) (x d : X) → i < length xs → x ≡ get_or xs i x → x ≡ get_or xs i d
 same_at {X} [] i x d lt is = absurd (omega arith)
 same_at {X} (y ∷ xs) zero x d lt is = is
 same_at {X} (y ∷ xs) (suc i) x d lt is = same_at xs i x d (omega arith) is
 
-pub inserted_is : (blocks node : List (List (ℕ × ℕ))) (block place : ℕ) (range : ℕ × ℕ) (found new : List (ℕ × ℕ)) → blocks ≡ node → block < length node → found ≡ get_or blocks block found → new ≡ insert found place range → slice_set blocks block new ≡ inserted node block place range
+pub inserted_is : (blocks node : List (List (ℕ × ℕ))) (block place : ℕ) (range : ℕ × ℕ) (found new : List (ℕ × ℕ)) → blocks ≡ node → block < length node → found ≡ get_or blocks block found → new ≡ insert found place range → slice_set blocks block new ≡ with_range_inserted node block place range
 inserted_is blocks node block place range found new same lt is made =
     let there : found ≡ get_or node block [] = same_at node block found [] lt (is ∙ ap (λ (l : List (List (ℕ × ℕ))). get_or l block found) same) in
     λ i. slice_set (same i) block ((made ∙ ap (λ (l : List (ℕ × ℕ)). insert l place range) there) i)
 
-pub inserted_width : (node : List (List (ℕ × ℕ))) (block place : ℕ) (range : ℕ × ℕ) → block < length node → width_of (joining (inserted node block place range)) ≡ width_of (joining node) + (range.1 - range.0)
+pub inserted_width : (node : List (List (ℕ × ℕ))) (block place : ℕ) (range : ℕ × ℕ) → block < length node → width_of (concat (with_range_inserted node block place range)) ≡ width_of (concat node) + (range.1 - range.0)
 inserted_width node block place range lt =
     let run = get_or node block [] in
     omega (arith, width_replaced node block run (insert run place range) lt (get_same node block [] lt), insert_width run place range)
 
-pub inserted_count : (node : List (List (ℕ × ℕ))) (block place : ℕ) (range : ℕ × ℕ) → block < length node → place ≤ length (get_or node block []) → length (joining (inserted node block place range)) ≡ length (joining node) + 1
+pub inserted_count : (node : List (List (ℕ × ℕ))) (block place : ℕ) (range : ℕ × ℕ) → block < length node → place ≤ length (get_or node block []) → length (concat (with_range_inserted node block place range)) ≡ length (concat node) + 1
 inserted_count node block place range lt inside =
     let run = get_or node block [] in
     omega (arith, length_replaced node block run (insert run place range) lt (get_same node block [] lt), insert_length run place range inside)

@@ -1,4 +1,4 @@
--- Joining lists of ranges at their ends, block by block.
+-- Concatenating lists of ranges, block by block.
 use Rattle.std.proofs.Common.{◌≡◌, ℕ, ◌<◌, ◌≤◌, List, [], ◌∷◌, ◌++◌, length, refl, arith}
 use Rattle.moc_blocks.specs.RangeList.{IsNormal}
 use Rattle.moc_blocks.specs.Private.Blocks.{last_of, next_of}
@@ -28,20 +28,20 @@ pub begins_of_ends : (f : ℕ) (rs : List (ℕ × ℕ)) → IsNormal rs → Ends
 begins_of_ends f [] normal all = tt
 begins_of_ends f (r ∷ rs) normal all = (omega (arith, normal.0, all.0), begins_of_ends f rs normal.3 all.1)
 
--- where the last range ends below f, each does
+-- if the last range ends below f, each range does
 pub ends_by_last : (f : ℕ) (rs : List (ℕ × ℕ)) → IsNormal rs → last_of rs < f → EndsBelow f rs
 ends_by_last f [] normal lt = tt
 ends_by_last f (r ∷ []) normal lt = (lt, tt)
 ends_by_last f (r ∷ (s ∷ rs)) normal lt = let rest = first_le_last s rs normal.3 in (omega arith, ends_by_last f (s ∷ rs) normal.3 lt)
 
--- ranges end below where the next begins
+-- ranges end before the next range begins
 pub ends_next : (rs ss : List (ℕ × ℕ)) → IsNormal (rs ++ ss) → EndsBelow (next_of ss) rs
 ends_next [] ss normal = tt
 ends_next (r ∷ []) [] normal = (omega arith, tt)
 ends_next (r ∷ []) (s ∷ ss) normal = (normal.2, tt)
 ends_next (r ∷ (r' ∷ rs)) ss normal = let rest = ends_next (r' ∷ rs) ss normal.3 in (omega arith, rest)
 
--- two normal lists, of which the first ends before the second begins
+-- two normal lists, if the first ends before the second begins, make a normal list
 pub normal_append : (rs ss : List (ℕ × ℕ)) → IsNormal rs → IsNormal ss → EndsBelow (next_of ss) rs → IsNormal (rs ++ ss)
 normal_append [] ss nr ns below = ns
 normal_append (r ∷ []) [] nr ns below = nr

@@ -1,21 +1,21 @@
--- Halving a list of ranges, or of blocks, in search of a number.
+-- Binary search for a number in a list of ranges or blocks.
 use Rattle.std.proofs.Common.{◌≡◌, ℕ, zero, suc, ◌+◌, ◌-◌, ◌*◌, ◌/◌, ◌^◌, ◌<◌, ◌≤◌, true, false, ◌||◌, List, []}
 use Rattle.std.proofs.Common.{◌∷◌, ◌++◌, length, take, drop, get_or, refl, sym, ap, subst, ◌∙◌, arith, length-append}
 use Rattle.std.proofs.lemmas.Bool.Decides.{nat_tests}
 use Rattle.std.proofs.lemmas.List.{take_more, drop_more, take-append-drop, take_all}
 use Rattle.std.proofs.lemmas.List.Sums.{sum_by-cons}
 use Rattle.moc_blocks.specs.RangeList.{NumberSet, pixel_count, IsNormal, set_of}
-use Rattle.moc_blocks.specs.Blocks.{IsSearchOf, joining, AreBlocks}
+use Rattle.moc_blocks.specs.Blocks.{IsSearchOf, concat, AreBlocks}
 use Rattle.moc_blocks.specs.Lemmas.Members.{in_ranges, in_ranges-append, or_false}
 use Rattle.moc_blocks.specs.Private.Blocks.{first_of, last_of, width_of, rest_of, AreStored, IsStored}
 use Rattle.moc_blocks.specs.Private.Walks.{EndsBy}
 use Rattle.moc_blocks.specs.Lemmas.Ranges.{later_only}
-use Rattle.moc_blocks.proofs.Blocking.{nothing_more, IsNormal-prefix, IsNormal-suffix, joining-append, joining-last}
+use Rattle.moc_blocks.proofs.Blocking.{nothing_more, IsNormal-prefix, IsNormal-suffix, concat-append, concat-last}
 use Rattle.moc_blocks.proofs.Blocking.{first_of-append, last_of-append, width_bounded, width-append}
 use Rattle.moc_blocks.proofs.Passing.{ends_by_last}
 use Rattle.moc_blocks.proofs.Basics.{none_ended}
 
--- nothing before the first range, nothing from the end of the last
+-- no number before the first range or from the end of the last range on is a member
 none_before : (rs : List (ℕ × ℕ)) (q : ℕ) → IsNormal rs → q < first_of rs → in_ranges rs q ≡ false
 none_before [] q normal lt = refl
 none_before (r ∷ rs) q normal lt = let later = later_only r.1 q rs normal.3 normal.2 (omega (arith, normal.0)) in grind (arith, nat_tests)
@@ -23,7 +23,7 @@ none_before (r ∷ rs) q normal lt = let later = later_only r.1 q rs normal.3 no
 none_after : (rs : List (ℕ × ℕ)) (q : ℕ) → IsNormal rs → last_of rs ≤ q → in_ranges rs q ≡ false
 none_after rs q normal le = none_ended (last_of rs) q rs (ends_by_last (last_of rs) rs normal (omega arith)) le
 
--- a block in the middle of others
+-- a block between other blocks
 pub left_none : (a b c : List (ℕ × ℕ)) (q : ℕ) → IsNormal (a ++ (b ++ c)) → 0 < length b → q < first_of b → in_ranges (b ++ c) q ≡ false
 left_none a b c q normal some lt = none_before (b ++ c) q (IsNormal-suffix a (b ++ c) normal) (omega (arith, first_of-append b c some))
 
@@ -53,7 +53,7 @@ only_here a b c q normal some from to =
     let c_none = begins_after b c q (IsNormal-suffix a (b ++ c) normal) some to in
     in_ranges-append a (b ++ c) q ∙ (λ i. a_none i || in_ranges-append b c q i) ∙ ap (λ x. in_ranges b q || x) c_none ∙ or_false (in_ranges b q)
 
--- a search that is narrowed to the places from low to high
+-- a search that is narrowed to the positions from low to high
 pub record IsNarrowed (before after : List (ℕ × ℕ)) (q low high len start steps : ℕ) : Type 0 where
   pub ordered : low ≤ high
   pub within : high ≤ len
@@ -79,7 +79,7 @@ spend len start steps w w' spent some le d lt =
     let h = halved w w' s.0 s.1.0 some le in
     (h.0, (h.1.0, omega (arith, s.1.1, h.1.1)))
 
--- what one more step costs at most
+-- the maximum cost of one more step
 pub spent_one : (len start steps w : ℕ) → ((d : ℕ) → len < 2 ^ d → (e : ℕ) × ((w < 2 ^ e) × (steps + e ≤ start + d))) → 0 < w → (d : ℕ) → len < 2 ^ d → steps + 1 ≤ start + d
 spent_one len start steps w spent some d lt = let s = spend len start steps w 0 spent some (omega arith) d lt in omega (arith, s.1.1)
 
@@ -115,29 +115,29 @@ block_size [] i b ok lt is = absurd (omega arith)
 block_size (a ∷ bs) zero b ok lt is = (omega (arith, ok.0, ap length is), omega (arith, ok.1, ap length is))
 block_size (a ∷ bs) (suc i) b ok lt is = block_size bs i b ok.3 (omega arith) is
 
-joining_at : (bs : List (List (ℕ × ℕ))) (i : ℕ) (b : List (ℕ × ℕ)) → i < length bs → b ≡ get_or bs i b → joining bs ≡ joining (take i bs) ++ (b ++ joining (drop (i + 1) bs))
-joining_at bs i b lt is = ap joining (sym (take-append-drop i bs)) ∙ joining-append (take i bs) (drop i bs) ∙ ap (λ (l : List (List (ℕ × ℕ))). joining (take i bs) ++ joining l) (drop_more bs i b lt) ∙ ap (λ (l : List (ℕ × ℕ)). joining (take i bs) ++ (l ++ joining (drop (i + 1) bs))) (sym is)
+joining_at : (bs : List (List (ℕ × ℕ))) (i : ℕ) (b : List (ℕ × ℕ)) → i < length bs → b ≡ get_or bs i b → concat bs ≡ concat (take i bs) ++ (b ++ concat (drop (i + 1) bs))
+joining_at bs i b lt is = ap concat (sym (take-append-drop i bs)) ∙ concat-append (take i bs) (drop i bs) ∙ ap (λ (l : List (List (ℕ × ℕ))). concat (take i bs) ++ concat l) (drop_more bs i b lt) ∙ ap (λ (l : List (ℕ × ℕ)). concat (take i bs) ++ (l ++ concat (drop (i + 1) bs))) (sym is)
 
-pub block_left : (bs : List (List (ℕ × ℕ))) (i q : ℕ) (b : List (ℕ × ℕ)) → AreStored bs → i < length bs → b ≡ get_or bs i b → q < first_of b → in_ranges (joining (drop i bs)) q ≡ false
+pub block_left : (bs : List (List (ℕ × ℕ))) (i q : ℕ) (b : List (ℕ × ℕ)) → AreStored bs → i < length bs → b ≡ get_or bs i b → q < first_of b → in_ranges (concat (drop i bs)) q ≡ false
 block_left bs i q b ok lt is less =
-    let same : joining (drop i bs) ≡ b ++ joining (drop (i + 1) bs) = ap joining (drop_more bs i b lt) ∙ ap (λ (l : List (ℕ × ℕ)). l ++ joining (drop (i + 1) bs)) (sym is) in
-    ap (λ (l : List (ℕ × ℕ)). in_ranges l q) same ∙ left_none (joining (take i bs)) b (joining (drop (i + 1) bs)) q (subst IsNormal (joining_at bs i b lt is) ok.normal) (block_size bs i b ok.sized lt is).0 less
+    let same : concat (drop i bs) ≡ b ++ concat (drop (i + 1) bs) = ap concat (drop_more bs i b lt) ∙ ap (λ (l : List (ℕ × ℕ)). l ++ concat (drop (i + 1) bs)) (sym is) in
+    ap (λ (l : List (ℕ × ℕ)). in_ranges l q) same ∙ left_none (concat (take i bs)) b (concat (drop (i + 1) bs)) q (subst IsNormal (joining_at bs i b lt is) ok.normal) (block_size bs i b ok.sized lt is).0 less
 
-pub block_right : (bs : List (List (ℕ × ℕ))) (i q : ℕ) (b : List (ℕ × ℕ)) → AreStored bs → i < length bs → b ≡ get_or bs i b → last_of b ≤ q → in_ranges (joining (take (i + 1) bs)) q ≡ false
+pub block_right : (bs : List (List (ℕ × ℕ))) (i q : ℕ) (b : List (ℕ × ℕ)) → AreStored bs → i < length bs → b ≡ get_or bs i b → last_of b ≤ q → in_ranges (concat (take (i + 1) bs)) q ≡ false
 block_right bs i q b ok lt is le =
-    let same : joining (take (i + 1) bs) ≡ joining (take i bs) ++ b = ap joining (take_more bs i b lt) ∙ joining-last (take i bs) (get_or bs i b) ∙ ap (λ (l : List (ℕ × ℕ)). joining (take i bs) ++ l) (sym is) in
-    let n : IsNormal (joining (take (i + 1) bs)) = IsNormal-prefix (joining (take (i + 1) bs)) (joining (drop (i + 1) bs)) (subst IsNormal (ap joining (sym (take-append-drop (i + 1) bs)) ∙ joining-append (take (i + 1) bs) (drop (i + 1) bs)) ok.normal) in
-    ap (λ (l : List (ℕ × ℕ)). in_ranges l q) same ∙ right_none (joining (take i bs)) b q (subst IsNormal same n) (block_size bs i b ok.sized lt is).0 le
+    let same : concat (take (i + 1) bs) ≡ concat (take i bs) ++ b = ap concat (take_more bs i b lt) ∙ concat-last (take i bs) (get_or bs i b) ∙ ap (λ (l : List (ℕ × ℕ)). concat (take i bs) ++ l) (sym is) in
+    let n : IsNormal (concat (take (i + 1) bs)) = IsNormal-prefix (concat (take (i + 1) bs)) (concat (drop (i + 1) bs)) (subst IsNormal (ap concat (sym (take-append-drop (i + 1) bs)) ∙ concat-append (take (i + 1) bs) (drop (i + 1) bs)) ok.normal) in
+    ap (λ (l : List (ℕ × ℕ)). in_ranges l q) same ∙ right_none (concat (take i bs)) b q (subst IsNormal same n) (block_size bs i b ok.sized lt is).0 le
 
-pub block_here : (bs : List (List (ℕ × ℕ))) (i q : ℕ) (b : List (ℕ × ℕ)) → AreStored bs → i < length bs → b ≡ get_or bs i b → first_of b ≤ q → q < last_of b → in_ranges (joining bs) q ≡ in_ranges b q
+pub block_here : (bs : List (List (ℕ × ℕ))) (i q : ℕ) (b : List (ℕ × ℕ)) → AreStored bs → i < length bs → b ≡ get_or bs i b → first_of b ≤ q → q < last_of b → in_ranges (concat bs) q ≡ in_ranges b q
 block_here bs i q b ok lt is from to =
     let e = joining_at bs i b lt is in
-    ap (λ (l : List (ℕ × ℕ)). in_ranges l q) e ∙ only_here (joining (take i bs)) b (joining (drop (i + 1) bs)) q (subst IsNormal e ok.normal) (block_size bs i b ok.sized lt is).0 from to
+    ap (λ (l : List (ℕ × ℕ)). in_ranges l q) e ∙ only_here (concat (take i bs)) b (concat (drop (i + 1) bs)) q (subst IsNormal e ok.normal) (block_size bs i b ok.sized lt is).0 from to
 
 pub block_ok : (bs : List (List (ℕ × ℕ))) (i : ℕ) (b : List (ℕ × ℕ)) → AreStored bs → i < length bs → b ≡ get_or bs i b → IsNormal b × (length b ≤ 128)
 block_ok bs i b ok lt is =
     let n = subst IsNormal (joining_at bs i b lt is) ok.normal in
-    (IsNormal-prefix b (joining (drop (i + 1) bs)) (IsNormal-suffix (joining (take i bs)) _ n), (block_size bs i b ok.sized lt is).1)
+    (IsNormal-prefix b (concat (drop (i + 1) bs)) (IsNormal-suffix (concat (take i bs)) _ n), (block_size bs i b ok.sized lt is).1)
 
 pub narrow_left : (before after after' : List (ℕ × ℕ)) (q low high len start steps steps' : ℕ) → IsNarrowed before after q low high len start steps → low < high → in_ranges after' q ≡ false → steps' ≡ steps + 1 → IsNarrowed before after' q low (low + (high - low) / 2) len start steps'
 narrow_left before after after' q low high len start steps steps' n lt none e =
@@ -165,7 +165,7 @@ narrow_right before before' after q low high len start steps steps' n lt none e 
       spent = λ d lt. let m = more d lt in (m.0, (m.1.0, omega (arith, m.1.1)));
     }
 
--- how much has been counted, for a list within memory
+-- the number of counted steps, for a list that fits in memory
 pub spent_within : (before after : List (ℕ × ℕ)) (q low high len start steps : ℕ) → IsNarrowed before after q low high len start steps → len < 18446744073709551616 → steps ≤ start + 64
 spent_within before after q low high len start steps n lt = let s = n.spent 64 (omega arith) in omega (arith, s.1.1)
 
@@ -177,24 +177,24 @@ found_none rs q low high len start steps n le =
     let same : low ≡ high = omega (arith, n.ordered) in
     no_more rs (take low rs) (drop low rs) q (sym (take-append-drop low rs)) n.none_before (ap (λ i. in_ranges (drop i rs) q) same ∙ n.none_after)
 
-pub found_none_blocks : (bs : List (List (ℕ × ℕ))) (q low high len start steps : ℕ) → IsNarrowed (joining (take low bs)) (joining (drop high bs)) q low high len start steps → high ≤ low → in_ranges (joining bs) q ≡ false
+pub found_none_blocks : (bs : List (List (ℕ × ℕ))) (q low high len start steps : ℕ) → IsNarrowed (concat (take low bs)) (concat (drop high bs)) q low high len start steps → high ≤ low → in_ranges (concat bs) q ≡ false
 found_none_blocks bs q low high len start steps n le =
     let same : low ≡ high = omega (arith, n.ordered) in
-    no_more (joining bs) (joining (take low bs)) (joining (drop low bs)) q (ap joining (sym (take-append-drop low bs)) ∙ joining-append (take low bs) (drop low bs)) n.none_before (ap (λ i. in_ranges (joining (drop i bs)) q) same ∙ n.none_after)
+    no_more (concat bs) (concat (take low bs)) (concat (drop low bs)) q (ap concat (sym (take-append-drop low bs)) ∙ concat-append (take low bs) (drop low bs)) n.none_before (ap (λ i. in_ranges (concat (drop i bs)) q) same ∙ n.none_after)
 
 some_width : (rs : List (ℕ × ℕ)) → IsNormal rs → 0 < length rs → 0 < width_of rs
 some_width [] normal some = absurd (omega arith)
 some_width (r ∷ rs) normal some = omega (arith, sum_by-cons (λ (range : ℕ × ℕ). range.1 - range.0) r rs, normal.0)
 
-blocks_few : (bs : List (List (ℕ × ℕ))) → AreBlocks bs → IsNormal (joining bs) → length bs ≤ width_of (joining bs)
+blocks_few : (bs : List (List (ℕ × ℕ))) → AreBlocks bs → IsNormal (concat bs) → length bs ≤ width_of (concat bs)
 blocks_few [] ok normal = omega arith
 blocks_few (b ∷ bs) ok normal =
-    let rest = blocks_few bs ok.3 (IsNormal-suffix b (joining bs) normal) in
-    let here = some_width b (IsNormal-prefix b (joining bs) normal) ok.0 in
-    omega (arith, width-append b (joining bs))
+    let rest = blocks_few bs ok.3 (IsNormal-suffix b (concat bs) normal) in
+    let here = some_width b (IsNormal-prefix b (concat bs) normal) ok.0 in
+    omega (arith, width-append b (concat bs))
 
 pub few_blocks : (bs : List (List (ℕ × ℕ))) → AreStored bs → length bs ≤ pixel_count
-few_blocks bs ok = let few = blocks_few bs ok.sized ok.normal in let all = width_bounded (joining bs) ok.normal in omega arith
+few_blocks bs ok = let few = blocks_few bs ok.sized ok.normal in let all = width_bounded (concat bs) ok.normal in omega arith
 
 -- ---- the blocks of nodes
 
@@ -207,30 +207,30 @@ get_first {X} [] ys i d lt = absurd (omega arith)
 get_first {X} (x ∷ xs) ys zero d lt = refl
 get_first {X} (x ∷ xs) ys (suc i) d lt = get_first xs ys i d (omega arith)
 
-nodes_at : (ns : List (List (List (ℕ × ℕ)))) (i : ℕ) (n : List (List (ℕ × ℕ))) → i < length ns → n ≡ get_or ns i n → joining ns ≡ joining (take i ns) ++ (n ++ joining (drop (i + 1) ns))
+nodes_at : (ns : List (List (List (ℕ × ℕ)))) (i : ℕ) (n : List (List (ℕ × ℕ))) → i < length ns → n ≡ get_or ns i n → concat ns ≡ concat (take i ns) ++ (n ++ concat (drop (i + 1) ns))
 nodes_at ns i n lt is =
-    ap joining (sym (take-append-drop i ns)) ∙ joining-append (take i ns) (drop i ns)
-    ∙ ap (λ (l : List (List (List (ℕ × ℕ)))). joining (take i ns) ++ joining l) (drop_more ns i n lt)
-    ∙ ap (λ (l : List (List (ℕ × ℕ))). joining (take i ns) ++ (l ++ joining (drop (i + 1) ns))) (sym is)
+    ap concat (sym (take-append-drop i ns)) ∙ concat-append (take i ns) (drop i ns)
+    ∙ ap (λ (l : List (List (List (ℕ × ℕ)))). concat (take i ns) ++ concat l) (drop_more ns i n lt)
+    ∙ ap (λ (l : List (List (ℕ × ℕ))). concat (take i ns) ++ (l ++ concat (drop (i + 1) ns))) (sym is)
 
-pub nodes_taken : (ns : List (List (List (ℕ × ℕ)))) (i : ℕ) (n : List (List (ℕ × ℕ))) → i < length ns → n ≡ get_or ns i n → (length (joining (take (i + 1) ns)) ≡ length (joining (take i ns)) + length n) × (length (joining (take i ns)) + length n ≤ length (joining ns))
+pub nodes_taken : (ns : List (List (List (ℕ × ℕ)))) (i : ℕ) (n : List (List (ℕ × ℕ))) → i < length ns → n ≡ get_or ns i n → (length (concat (take (i + 1) ns)) ≡ length (concat (take i ns)) + length n) × (length (concat (take i ns)) + length n ≤ length (concat ns))
 nodes_taken ns i n lt is =
-    let more : joining (take (i + 1) ns) ≡ joining (take i ns) ++ n = ap joining (take_more ns i n lt) ∙ joining-last (take i ns) (get_or ns i n) ∙ ap (λ (l : List (List (ℕ × ℕ))). joining (take i ns) ++ l) (sym is) in
+    let more : concat (take (i + 1) ns) ≡ concat (take i ns) ++ n = ap concat (take_more ns i n lt) ∙ concat-last (take i ns) (get_or ns i n) ∙ ap (λ (l : List (List (ℕ × ℕ))). concat (take i ns) ++ l) (sym is) in
     let all = ap length (nodes_at ns i n lt is) in
-    (ap length more ∙ length-append (joining (take i ns)) n, omega (arith, all, length-append (joining (take i ns)) (n ++ joining (drop (i + 1) ns)), length-append n (joining (drop (i + 1) ns))))
+    (ap length more ∙ length-append (concat (take i ns)) n, omega (arith, all, length-append (concat (take i ns)) (n ++ concat (drop (i + 1) ns)), length-append n (concat (drop (i + 1) ns))))
 
-pub block_found : (ns : List (List (List (ℕ × ℕ)))) (i left place : ℕ) (n : List (List (ℕ × ℕ))) (b : List (ℕ × ℕ)) → i < length ns → n ≡ get_or ns i n → place ≡ length (joining (take i ns)) + left → left < length n → b ≡ get_or n left b → (place < length (joining ns)) × (b ≡ get_or (joining ns) place b)
+pub block_found : (ns : List (List (List (ℕ × ℕ)))) (i left place : ℕ) (n : List (List (ℕ × ℕ))) (b : List (ℕ × ℕ)) → i < length ns → n ≡ get_or ns i n → place ≡ length (concat (take i ns)) + left → left < length n → b ≡ get_or n left b → (place < length (concat ns)) × (b ≡ get_or (concat ns) place b)
 block_found ns i left place n b lt is at inside same =
     let room = nodes_taken ns i n lt is in (
       omega (arith, room.1),
       same ∙ sym (ap (λ (l : List (List (ℕ × ℕ))). get_or l place b) (nodes_at ns i n lt is)
-          ∙ ap (λ k. get_or (joining (take i ns) ++ (n ++ joining (drop (i + 1) ns))) k b) at
-          ∙ get_past (joining (take i ns)) (n ++ joining (drop (i + 1) ns)) left b
-          ∙ get_first n (joining (drop (i + 1) ns)) left b inside),
+          ∙ ap (λ k. get_or (concat (take i ns) ++ (n ++ concat (drop (i + 1) ns))) k b) at
+          ∙ get_past (concat (take i ns)) (n ++ concat (drop (i + 1) ns)) left b
+          ∙ get_first n (concat (drop (i + 1) ns)) left b inside),
     )
 
-pub blocks_done : (ns : List (List (List (ℕ × ℕ)))) (i : ℕ) → length ns ≤ i → length (joining (take i ns)) ≡ length (joining ns)
-blocks_done ns i le = ap (λ (l : List (List (List (ℕ × ℕ)))). length (joining l)) (take_all i ns le)
+pub blocks_done : (ns : List (List (List (ℕ × ℕ)))) (i : ℕ) → length ns ≤ i → length (concat (take i ns)) ≡ length (concat ns)
+blocks_done ns i le = ap (λ (l : List (List (List (ℕ × ℕ)))). length (concat l)) (take_all i ns le)
 
 -- ---- sets
 
@@ -238,7 +238,7 @@ few_alone : (few : List (ℕ × ℕ)) (nodes : List (List (List (ℕ × ℕ)))) 
 few_alone few nodes s some = ap (λ (l : List (List (List (ℕ × ℕ)))). rest_of few [] l) (s.alone some) ∙ nothing_more few
 
 pub cost_few : (few : List (ℕ × ℕ)) (nodes : List (List (List (ℕ × ℕ)))) (a : NumberSet) (old new : ℕ) → set_of (rest_of few [] nodes) ≡ a → IsStored few nodes → 0 < length few → old ≤ new → ((d : ℕ) → length few < 2 ^ d → new ≤ old + d) → IsSearchOf a old new
-cost_few few nodes a old new is s some rises cost =
+cost_few few nodes a old new is s some increases cost =
     let alone = few_alone few nodes s some in
     let fits = s.fits in
     let small : length few < 2 ^ 8 = omega arith in
@@ -247,6 +247,6 @@ cost_few few nodes a old new is s some rises cost =
       blocks = few ∷ [];
       sized = (some, s.fits, tt, tt);
       ranges = (subst IsNormal (alone ∙ sym (nothing_more few)) s.normal, ap set_of (nothing_more few ∙ sym alone) ∙ is);
-      rises = rises;
+      increases = increases;
       cost = λ digits lt. omega (arith, most);
     }

@@ -1,32 +1,32 @@
--- A set that is kept in blocks of ranges.
+-- A set as blocks of ranges.
 use Rattle.std.specs.Prelude.{◌≡◌, ℕ, ◌+◌, ◌<◌, ◌≤◌, ◌^◌, List, [], ◌∷◌, ◌++◌, length, ⊤}
 use Rattle.moc_blocks.specs.RangeList.{NumberSet, AreRangesOf}
 
--- lists, one after the other
-abbrev pub joining : {X : Type 0} → List (List X) → List X
-joining [] = []
-joining (xs ∷ more) = xs ++ joining more
+-- the concatenation of lists
+abbrev pub concat : {X : Type 0} → List (List X) → List X
+concat [] = []
+concat (xs ∷ more) = xs ++ concat more
 
--- with the list that follows, if one does, it has more elements than one list may have
-abbrev pub NeedsBoth : {X : Type 0} → ℕ → List X → List (List X) → Type 0
-NeedsBoth most list [] = ⊤
-NeedsBoth most list (next ∷ lists) = most < length list + length next
+-- together with the next list, if there is one, the list has more than `most` elements
+abbrev pub ExceedsWithNext : {X : Type 0} → ℕ → List X → List (List X) → Type 0
+ExceedsWithNext most list [] = ⊤
+ExceedsWithNext most list (next ∷ lists) = most < length list + length next
 
--- each list has 1 to so many elements, and two side by side have together more
-abbrev pub AreFilled : {X : Type 0} → ℕ → List (List X) → Type 0
-AreFilled most [] = ⊤
-AreFilled most (list ∷ lists) =
-    (0 < length list) × (length list ≤ most) × NeedsBoth most list lists × AreFilled most lists
+-- the fill rule: each list has 1 to `most` elements, and two adjacent lists together have more than `most`
+abbrev pub ObeysFillRule : {X : Type 0} → ℕ → List (List X) → Type 0
+ObeysFillRule most [] = ⊤
+ObeysFillRule most (list ∷ lists) =
+    (0 < length list) × (length list ≤ most) × ExceedsWithNext most list lists × ObeysFillRule most lists
 
--- each block has 1 to 128 ranges, and two side by side have together more than 128
+-- the fill rule for blocks: each block has 1 to 128 ranges, and two adjacent blocks together have more than 128
 abbrev pub AreBlocks : List (List (ℕ × ℕ)) → Type 0
-AreBlocks blocks = AreFilled 128 blocks
+AreBlocks blocks = ObeysFillRule 128 blocks
 
--- a search counted on from `old` to `new`: it takes none back, and adds at most 8 more than the number of blocks has
--- binary digits, for some blocks whose ranges, one block after the other, are the normal range list of the set
+-- a search increased the counter from `old` to `new`: by at most 8 more than the number of binary digits of the number
+-- of blocks, for some blocks whose concatenated ranges are the normal range list of the set
 pub record IsSearchOf (a : NumberSet) (old new : ℕ) : Type 0 where
   pub blocks : List (List (ℕ × ℕ))
   pub sized : AreBlocks blocks
-  pub ranges : AreRangesOf a (joining blocks)
-  pub rises : old ≤ new
+  pub ranges : AreRangesOf a (concat blocks)
+  pub increases : old ≤ new
   pub cost : (digits : ℕ) → length blocks < 2 ^ digits → new ≤ old + digits + 8

@@ -1,4 +1,4 @@
--- What serves this crate and those that were one with it, up to `moc_ranges`, alone.
+-- Definitions that only this crate and the crates over it, up to `moc_ranges`, use.
 pub mod Blocks
 pub mod Built
 pub mod Walks

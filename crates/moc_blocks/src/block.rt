@@ -1,4 +1,4 @@
-//! A block: some ranges behind an `Arc`, with what a search and a count need beside it.
+//! Blocks: shared lists of ranges, with their bounds and their total width.
 
 ghost use Rattle.std.specs.Prelude.{◌≡◌, ◌++◌, ◌+◌, ◌<◌, ◌≤◌, ℕ, length, IfOk, OnOk, OnErr};
 ghost use Rattle.std.specs.Bool.{OnTrue, OnFalse};
@@ -10,13 +10,13 @@ use std::alloc::{AllocError, Global};
 use std::marker::Model;
 use std::sync::Arc;
 
-/// The most ranges that a block has.
-pub const LONGEST: usize = 128;
+/// The maximum number of ranges of a block.
+pub const MAX_BLOCK_RANGES: usize = 128;
 
-/// For how many ranges more a block's list gets room where it has none left.
-const ROOM: usize = 16;
+/// The number of ranges by which a full list of ranges grows.
+const GROWTH: usize = 16;
 
-/// 1 to 128 ranges in rising order.
+/// A block: 1 to 128 ranges in ascending order, in a list that several blocks can share.
 #[derive(Drop)]
 pub struct Block {
     from: u64,
@@ -37,8 +37,8 @@ impl Model for Block {
     ghost invariant = { λ b. IsBlock b.from b.to b.size (arc_value b.ranges).items };
 }
 
-/// How many numbers lie in ranges.
-pub fn measure_ranges(ranges: &[(u64, u64)]) -> u64
+/// Returns the number of pixels in the ranges.
+pub fn width_of_ranges(ranges: &[(u64, u64)]) -> u64
     requires { IsNormal ranges.now }
     ensures { result ≡ width_of ranges.now }
 {
@@ -49,8 +49,8 @@ pub fn measure_ranges(ranges: &[(u64, u64)]) -> u64
     total
 }
 
-/// Puts a range among others, at a place; where their list has no room left, it gets room for some more.
-fn put_among(
+/// Inserts a range into a list at a position; a full list grows by `GROWTH`.
+fn insert_into(
     ranges: &mut Vec<(u64, u64)>,
     place: usize,
     range: (u64, u64),
@@ -60,23 +60,31 @@ fn put_among(
     ensures unchanged { OnErr result (ranges.new.items ≡ ranges.old.items) }
 {
     if ranges.len() == ranges.capacity() {
-        ranges.reserve_exact(ROOM)?;
+        ranges.reserve_exact(GROWTH)?;
     }
     ranges.insert(place, range)?;
     Ok(())
 }
 
 impl Block {
-    /// The block of some ranges; refused where memory runs out. Linear in them.
+    /// Returns the block of the given ranges.
+    ///
+    /// # Errors
+    ///
+    /// Fails if an allocation fails.
+    ///
+    /// # Complexity
+    ///
+    /// Linear in the number of ranges.
     pub fn new(alloc: Global, ranges: Vec<(u64, u64)>) -> Result<Block, AllocError>
         requires normal { IsNormal ranges.items }
         requires some { 0 < length ranges.items }
-        requires fits { length ranges.items ≤ LONGEST }
+        requires fits { length ranges.items ≤ MAX_BLOCK_RANGES }
         ensures { IfOk result (λ b. b ≡ ranges.items) }
     {
         let from = ranges[0].0;
         let to = ranges[ranges.len() - 1].1;
-        let size = measure_ranges(&ranges);
+        let size = width_of_ranges(&ranges);
         let ranges = Arc::new(alloc, ranges)?;
         Ok(Block {
             from,
@@ -86,51 +94,55 @@ impl Block {
         })
     }
 
-    /// Where the first range begins.
+    /// Returns the start of the first range.
     #[inline]
     pub fn from(&self) -> u64
         ensures value { result ≡ first_of self.now }
         ensures some { 0 < length self.now }
-        ensures fits { length self.now ≤ LONGEST }
+        ensures fits { length self.now ≤ MAX_BLOCK_RANGES }
     {
         self.from
     }
 
-    /// Where the last range ends.
+    /// Returns the end of the last range.
     #[inline]
     pub fn to(&self) -> u64
         ensures value { result ≡ last_of self.now }
         ensures some { 0 < length self.now }
-        ensures fits { length self.now ≤ LONGEST }
+        ensures fits { length self.now ≤ MAX_BLOCK_RANGES }
     {
         self.to
     }
 
-    /// How many numbers the ranges have.
+    /// Returns the number of pixels in the ranges.
     #[inline]
     pub fn size(&self) -> u64
         ensures value { result ≡ width_of self.now }
         ensures some { 0 < length self.now }
-        ensures fits { length self.now ≤ LONGEST }
+        ensures fits { length self.now ≤ MAX_BLOCK_RANGES }
     {
         self.size
     }
 
-    /// The ranges.
+    /// Returns the ranges.
     #[inline]
     pub fn ranges(&self) -> &[(u64, u64)]
         ensures value { result.now ≡ self.now }
         ensures some { 0 < length self.now }
-        ensures fits { length self.now ≤ LONGEST }
+        ensures fits { length self.now ≤ MAX_BLOCK_RANGES }
     {
         &self.ranges
     }
 
-    /// Puts a range among those of the block, and says whether that was done: it is where nobody else has their list,
-    /// which then stays where it is, unless it has no room.
+    /// Inserts a range at a position if this block is the only owner of its list, and returns whether it was inserted.
+    /// The list is not copied, unless it is full.
+    ///
+    /// # Errors
+    ///
+    /// Fails if an allocation fails; the block is unchanged.
     pub fn insert(&mut self, place: usize, range: (u64, u64)) -> Result<bool, AllocError>
         requires inside { place ≤ length self.old }
-        requires room { length self.old < LONGEST }
+        requires capacity { length self.old < MAX_BLOCK_RANGES }
         requires filled { range.0 < range.1 }
         requires normal { IsNormal (insert self.old place range) }
         ensures put { IfOk result (λ done. OnTrue done (self.new ≡ insert self.old place range)) }
@@ -140,19 +152,23 @@ impl Block {
         let Some(ranges) = Arc::get_mut(&mut self.ranges) else {
             return Ok(false);
         };
-        put_among(ranges, place, range)?;
+        insert_into(ranges, place, range)?;
         self.size += range.1 - range.0;
         self.from = ranges[0].0;
         self.to = ranges[ranges.len() - 1].1;
         Ok(true)
     }
 
-    /// The same block once more.
+    /// Returns a block that shares the ranges of this block. O(1); allocates nothing.
+    ///
+    /// # Errors
+    ///
+    /// Fails if the reference count of the ranges is at its maximum.
     #[inline]
     pub fn share(&self) -> Result<Block, AllocError>
         ensures same { IfOk result (λ b. b ≡ self.now) }
         ensures some { 0 < length self.now }
-        ensures fits { length self.now ≤ LONGEST }
+        ensures fits { length self.now ≤ MAX_BLOCK_RANGES }
     {
         let ranges = Arc::try_clone(&self.ranges)?;
         Ok(Block {
@@ -163,10 +179,14 @@ impl Block {
         })
     }
 
-    /// The ranges of this block, then those of the other.
+    /// Returns the block of the ranges of this block and then those of the other. The ranges are copied.
+    ///
+    /// # Errors
+    ///
+    /// Fails if an allocation fails.
     pub fn followed_by(&self, alloc: Global, other: &Block) -> Result<Block, AllocError>
         requires normal { IsNormal (self.now ++ other.now) }
-        requires room { length self.now + length other.now ≤ LONGEST }
+        requires capacity { length self.now + length other.now ≤ MAX_BLOCK_RANGES }
         ensures { IfOk result (λ b. b ≡ self.now ++ other.now) }
     {
         let mut ranges = Vec::with_capacity(alloc, self.ranges().len() + other.ranges().len())?;

@@ -1,15 +1,15 @@
-//! How many ranges and blocks stand at the ends of blocks and nodes.
+//! The lengths of the first and the last blocks and nodes.
 ghost use Rattle.std.specs.Prelude.{◌≡◌, ◌≤◌, ◌++◌};
-ghost use Rattle.moc_blocks.specs.Blocks.{joining};
+ghost use Rattle.moc_blocks.specs.Blocks.{concat};
 ghost use Rattle.moc_blocks.specs.Private.Built.{first_length, last_length};
 
-use crate::block::{Block, LONGEST};
-use crate::node::{Node, WIDEST};
+use crate::block::{Block, MAX_BLOCK_RANGES};
+use crate::node::{MAX_NODE_BLOCKS, Node};
 
-/// How many ranges the first of some blocks has, 0 if there is none.
+/// Returns the number of ranges of the first block, or 0 if the list is empty.
 pub fn length_of_first(blocks: &[Block]) -> usize
     ensures value { result ≡ first_length blocks.now }
-    ensures fits { result ≤ LONGEST }
+    ensures fits { result ≤ MAX_BLOCK_RANGES }
 {
     match blocks {
         [block, ..] => block.ranges().len(),
@@ -17,7 +17,7 @@ pub fn length_of_first(blocks: &[Block]) -> usize
     }
 }
 
-/// How many ranges the last of some blocks has, 0 if there is none.
+/// Returns the number of ranges of the last of these blocks, or 0 if the list is empty.
 fn length_of_block(blocks: &[Block]) -> usize
     ensures { result ≡ last_length blocks.now }
 {
@@ -27,9 +27,9 @@ fn length_of_block(blocks: &[Block]) -> usize
     }
 }
 
-/// How many ranges the last block of some nodes has, 0 if there is none.
+/// Returns the number of ranges of the last block of these nodes, or 0 if the list is empty.
 fn length_in_nodes(nodes: &[Node]) -> usize
-    ensures { result ≡ last_length (joining nodes.now) }
+    ensures { result ≡ last_length (concat nodes.now) }
 {
     match nodes {
         [.., node] => length_of_block(node.blocks()),
@@ -37,9 +37,9 @@ fn length_in_nodes(nodes: &[Node]) -> usize
     }
 }
 
-/// How many ranges the last block has, 0 if there is none.
+/// Returns the number of ranges of the last block of these nodes and blocks, or 0 if the list is empty.
 pub fn length_of_last(nodes: &[Node], blocks: &[Block]) -> usize
-    ensures { result ≡ last_length (joining nodes.now ++ blocks.now) }
+    ensures { result ≡ last_length (concat nodes.now ++ blocks.now) }
 {
     match blocks {
         [] => length_in_nodes(nodes),
@@ -47,10 +47,10 @@ pub fn length_of_last(nodes: &[Node], blocks: &[Block]) -> usize
     }
 }
 
-/// How many blocks the last node has, 0 if there is none.
+/// Returns the number of blocks of the last node, or 0 if the list is empty.
 pub fn width_of_last(nodes: &[Node]) -> usize
     ensures value { result ≡ last_length nodes.now }
-    ensures fits { result ≤ WIDEST }
+    ensures fits { result ≤ MAX_NODE_BLOCKS }
 {
     match nodes {
         [.., node] => node.blocks().len(),

@@ -1,21 +1,21 @@
-//! A node: some blocks behind an `Arc`.
+//! Nodes: shared lists of blocks, with their bounds and counts.
 
 ghost use Rattle.std.specs.Prelude.{◌≡◌, ◌+◌, ◌*◌, ◌<◌, ◌≤◌, ℕ, length, slice_set, false, true, IfOk, OnErr};
 ghost use Rattle.std.specs.Bool.{OnTrue, OnFalse};
 ghost use Rattle.moc_blocks.specs.RangeList.{IsNormal};
 ghost use Rattle.moc_blocks.specs.Private.Blocks.{first_of, last_of, width_of};
-ghost use Rattle.moc_blocks.specs.Blocks.{joining, AreBlocks};
-ghost use Rattle.moc_blocks.specs.Private.Added.{inserted, HasGap};
+ghost use Rattle.moc_blocks.specs.Blocks.{concat, AreBlocks};
+ghost use Rattle.moc_blocks.specs.Private.Added.{with_range_inserted, HasGap};
 
 use crate::block::Block;
 use std::alloc::{AllocError, Global};
 use std::marker::Model;
 use std::sync::Arc;
 
-/// The most blocks that a node has.
-pub const WIDEST: usize = 16;
+/// The maximum number of blocks of a node.
+pub const MAX_NODE_BLOCKS: usize = 16;
 
-/// 1 to 16 blocks in rising order.
+/// A node: 1 to 16 blocks in ascending order, in a list that several nodes can share.
 #[derive(Drop)]
 pub struct Node {
     from: u64,
@@ -37,10 +37,10 @@ impl Model for Node {
     ghost invariant = { λ n. IsNode n.from n.to n.size n.count (arc_value n.blocks).items };
 }
 
-/// How many numbers lie in blocks.
-fn measure(blocks: &[Block]) -> u64
-    requires { IsNormal (joining blocks.now) }
-    ensures { result ≡ width_of (joining blocks.now) }
+/// Returns the number of pixels in the blocks.
+fn width_of_blocks(blocks: &[Block]) -> u64
+    requires { IsNormal (concat blocks.now) }
+    ensures { result ≡ width_of (concat blocks.now) }
 {
     let mut total = 0;
     for block in blocks {
@@ -49,10 +49,10 @@ fn measure(blocks: &[Block]) -> u64
     total
 }
 
-/// How many ranges blocks have.
+/// Returns the number of ranges in the blocks.
 pub fn count_in_blocks(blocks: &[Block]) -> usize
-    requires { IsNormal (joining blocks.now) }
-    ensures { result ≡ length (joining blocks.now) }
+    requires { IsNormal (concat blocks.now) }
+    ensures { result ≡ length (concat blocks.now) }
 {
     let mut total = 0;
     for block in blocks {
@@ -61,10 +61,10 @@ pub fn count_in_blocks(blocks: &[Block]) -> usize
     total
 }
 
-/// How many ranges nodes have.
+/// Returns the number of ranges in the nodes.
 pub fn count_in_nodes(nodes: &[Node]) -> usize
-    requires { IsNormal (joining (joining nodes.now)) }
-    ensures { result ≡ length (joining (joining nodes.now)) }
+    requires { IsNormal (concat (concat nodes.now)) }
+    ensures { result ≡ length (concat (concat nodes.now)) }
 {
     let mut total = 0;
     for node in nodes {
@@ -73,10 +73,10 @@ pub fn count_in_nodes(nodes: &[Node]) -> usize
     total
 }
 
-/// How many blocks nodes have.
+/// Returns the number of blocks in the nodes.
 pub fn blocks_in_nodes(nodes: &[Node]) -> usize
-    ensures value { result ≡ length (joining nodes.now) }
-    ensures bound { result ≤ WIDEST * length nodes.now }
+    ensures value { result ≡ length (concat nodes.now) }
+    ensures bound { result ≤ MAX_NODE_BLOCKS * length nodes.now }
 {
     let mut total = 0;
     for node in nodes {
@@ -86,17 +86,25 @@ pub fn blocks_in_nodes(nodes: &[Node]) -> usize
 }
 
 impl Node {
-    /// The node of some blocks; refused where memory runs out. Linear in the blocks.
+    /// Returns the node of the given blocks.
+    ///
+    /// # Errors
+    ///
+    /// Fails if an allocation fails.
+    ///
+    /// # Complexity
+    ///
+    /// Linear in the number of blocks.
     pub fn new(alloc: Global, blocks: Vec<Block>) -> Result<Node, AllocError>
-        requires normal { IsNormal (joining blocks.items) }
+        requires normal { IsNormal (concat blocks.items) }
         requires some { 0 < length blocks.items }
-        requires fits { length blocks.items ≤ WIDEST }
+        requires fits { length blocks.items ≤ MAX_NODE_BLOCKS }
         requires sized { AreBlocks blocks.items }
         ensures { IfOk result (λ n. n ≡ blocks.items) }
     {
         let from = blocks[0].from();
         let to = blocks[blocks.len() - 1].to();
-        let size = measure(&blocks);
+        let size = width_of_blocks(&blocks);
         let count = count_in_blocks(&blocks);
         let blocks = Arc::new(alloc, blocks)?;
         Ok(Node {
@@ -108,58 +116,58 @@ impl Node {
         })
     }
 
-    /// Where the first range begins.
+    /// Returns the start of the first range.
     #[inline]
     pub fn from(&self) -> u64
-        ensures value { result ≡ first_of (joining self.now) }
-        ensures some { 0 < length (joining self.now) }
+        ensures value { result ≡ first_of (concat self.now) }
+        ensures some { 0 < length (concat self.now) }
     {
         self.from
     }
 
-    /// Where the last range ends.
+    /// Returns the end of the last range.
     #[inline]
     pub fn to(&self) -> u64
-        ensures value { result ≡ last_of (joining self.now) }
-        ensures some { 0 < length (joining self.now) }
+        ensures value { result ≡ last_of (concat self.now) }
+        ensures some { 0 < length (concat self.now) }
     {
         self.to
     }
 
-    /// How many numbers the ranges have.
+    /// Returns the number of pixels in the ranges.
     #[inline]
     pub fn size(&self) -> u64
-        ensures value { result ≡ width_of (joining self.now) }
-        ensures some { 0 < length (joining self.now) }
+        ensures value { result ≡ width_of (concat self.now) }
+        ensures some { 0 < length (concat self.now) }
     {
         self.size
     }
 
-    /// How many ranges the node has.
+    /// Returns the number of ranges.
     #[inline]
     pub fn count(&self) -> usize
-        ensures value { result ≡ length (joining self.now) }
-        ensures some { 0 < length (joining self.now) }
+        ensures value { result ≡ length (concat self.now) }
+        ensures some { 0 < length (concat self.now) }
     {
         self.count
     }
 
-    /// The blocks.
+    /// Returns the blocks.
     #[inline]
     pub fn blocks(&self) -> &[Block]
         ensures value { result.now ≡ self.now }
         ensures sized { AreBlocks self.now }
-        ensures fits { length self.now ≤ WIDEST }
-        ensures some { 0 < length (joining self.now) }
+        ensures fits { length self.now ≤ MAX_NODE_BLOCKS }
+        ensures some { 0 < length (concat self.now) }
     {
         &self.blocks
     }
 
-    /// Puts a block in place of one, and says whether that was done: it is where nobody else has the node's list of
-    /// blocks, which then stays where it is.
-    pub fn put_block(&mut self, place: usize, block: Block) -> bool
+    /// Replaces a block if this node is the only owner of its list of blocks, and returns whether it was replaced. The
+    /// list is not copied.
+    pub fn replace_block(&mut self, place: usize, block: Block) -> bool
         requires place { place < length self.old }
-        requires normal { IsNormal (joining (slice_set self.old place block)) }
+        requires normal { IsNormal (concat (slice_set self.old place block)) }
         requires sized { AreBlocks (slice_set self.old place block) }
         ensures put { result ≡ true → self.new ≡ slice_set self.old place block }
         ensures unchanged { result ≡ false → self.new ≡ self.old }
@@ -175,8 +183,12 @@ impl Node {
         true
     }
 
-    /// Puts a range among those of a block, and says whether that was done: it is where nobody else has the node's list
-    /// of blocks, nor that block's of ranges.
+    /// Inserts a range into a block in place if this node is the only owner of its list of blocks, and the block of its
+    /// list of ranges. Returns whether it was inserted.
+    ///
+    /// # Errors
+    ///
+    /// Fails if an allocation fails; the node is unchanged.
     pub fn insert(
         &mut self,
         block: usize,
@@ -184,7 +196,7 @@ impl Node {
         range: (u64, u64),
     ) -> Result<bool, AllocError>
         requires { HasGap self.old block place range }
-        ensures put { IfOk result (λ done. OnTrue done (self.new ≡ inserted self.old block place range)) }
+        ensures put { IfOk result (λ done. OnTrue done (self.new ≡ with_range_inserted self.old block place range)) }
         ensures same { IfOk result (λ done. OnFalse done (self.new ≡ self.old)) }
         ensures unchanged { OnErr result (self.new ≡ self.old) }
     {
@@ -201,13 +213,17 @@ impl Node {
         Ok(true)
     }
 
-    /// The same node once more.
+    /// Returns a node that shares the blocks of this node. O(1); allocates nothing.
+    ///
+    /// # Errors
+    ///
+    /// Fails if the reference count of the blocks is at its maximum.
     #[inline]
     pub fn share(&self) -> Result<Node, AllocError>
         ensures same { IfOk result (λ n. n ≡ self.now) }
         ensures sized { AreBlocks self.now }
-        ensures fits { length self.now ≤ WIDEST }
-        ensures some { 0 < length (joining self.now) }
+        ensures fits { length self.now ≤ MAX_NODE_BLOCKS }
+        ensures some { 0 < length (concat self.now) }
     {
         let blocks = Arc::try_clone(&self.blocks)?;
         Ok(Node {
@@ -220,7 +236,11 @@ impl Node {
     }
 }
 
-/// The same blocks once more.
+/// Returns blocks that share the ranges of the given blocks. Linear in the number of blocks.
+///
+/// # Errors
+///
+/// Fails if an allocation fails, or if a reference count is at its maximum.
 pub fn share_blocks(alloc: Global, blocks: &[Block]) -> Result<Vec<Block>, AllocError>
     ensures { IfOk result (λ v. v.items ≡ blocks.now) }
 {
@@ -231,7 +251,11 @@ pub fn share_blocks(alloc: Global, blocks: &[Block]) -> Result<Vec<Block>, Alloc
     Ok(shared)
 }
 
-/// The same nodes once more.
+/// Returns nodes that share the blocks of the given nodes. Linear in the number of nodes.
+///
+/// # Errors
+///
+/// Fails if an allocation fails, or if a reference count is at its maximum.
 pub fn share_nodes(alloc: Global, nodes: &[Node]) -> Result<Vec<Node>, AllocError>
     ensures { IfOk result (λ v. v.items ≡ nodes.now) }
 {

@@ -1,32 +1,32 @@
-//! Going on in a list of ranges, past those that end early or lie whole in a range.
+//! Skips the ranges of a list that end early or are inside a given range.
 ghost use Rattle.std.specs.Prelude.{◌≡◌, ◌+◌, ◌<◌, ◌≤◌, List, ℕ, [], ◌∷◌, ◌++◌, length, take, IfSome, MatchOption};
 ghost use Rattle.moc_blocks.specs.RangeList.{IsNormal};
-ghost use Rattle.moc_blocks.specs.Blocks.{joining};
+ghost use Rattle.moc_blocks.specs.Blocks.{concat};
 ghost use Rattle.moc_blocks.specs.Private.Blocks.{first_of, last_of, width_of, rest_of};
-ghost use Rattle.moc_blocks.specs.Private.Walks.{joined, EndsBy, Passes, IsPastAt, IsSkipping, IsFirstPast};
+ghost use Rattle.moc_blocks.specs.Private.Walks.{all_ranges, EndsBy, Skips, EndsAfterAt, IsSkipping, IsFirstAfter};
 
-use crate::ahead::{Ahead, Begun, begin_node};
 use crate::block::Block;
+use crate::cursor::{BlockCursor, Cursor, enter_node};
 use crate::node::Node;
 
-/// How far round a guess a count is looked for first.
+/// The search near a guess covers this many runs to each side.
 const NEAR: usize = 8;
 
-/// What has one or more ranges in rising order: a range, a block, a node.
+/// One or more ranges in ascending order: a range, a block, or a node.
 pub(crate) trait Run {
     ghost ranges: { Self → List (ℕ × ℕ) };
 
-    /// Where its first range begins.
+    /// Returns the start of the first range.
     fn start(&self) -> u64
         ensures value { result ≡ first_of (ranges self.now) }
         ensures some { 0 < length (ranges self.now) };
 
-    /// Where its last range ends.
+    /// Returns the end of the last range.
     fn end(&self) -> u64
         ensures value { result ≡ last_of (ranges self.now) }
         ensures some { 0 < length (ranges self.now) };
 
-    /// How many numbers it has.
+    /// Returns the number of pixels.
     fn width(&self) -> u64
         requires { IsNormal (ranges self.now) }
         ensures value { result ≡ width_of (ranges self.now) }
@@ -74,9 +74,9 @@ impl Run for Block {
 }
 
 impl Run for Node {
-    ghost use Rattle.moc_blocks.specs.Blocks.{joining};
+    ghost use Rattle.moc_blocks.specs.Blocks.{concat};
 
-    ghost ranges = { λ node. joining node };
+    ghost ranges = { λ node. concat node };
 
     #[inline]
     fn start(&self) -> u64 {
@@ -94,14 +94,15 @@ impl Run for Node {
     }
 }
 
-/// How many of the runs end by a number, where all before `low` do, and none from `low + size` on does. O(log size).
+/// Returns the number of runs that end at or before the limit. Requires that all runs before `low` do, and that none
+/// from `low + size` on does. O(log size).
 #[inline]
 fn count_ended_from<T: Run>(runs: &[T], limit: u64, low: usize, size: usize) -> usize
-    requires normal { IsNormal (joined T.ranges runs.now) }
+    requires normal { IsNormal (all_ranges T.ranges runs.now) }
     requires there { IsSkipping T.ranges runs.now limit low size }
     ensures bound { result ≤ length runs.now }
-    ensures ended { EndsBy limit (joined T.ranges (take result runs.now)) }
-    ensures past { IsPastAt T.ranges runs.now limit result }
+    ensures ended { EndsBy limit (all_ranges T.ranges (take result runs.now)) }
+    ensures past { EndsAfterAt T.ranges runs.now limit result }
 {
     let mut low = low;
     let mut size = size;
@@ -118,24 +119,25 @@ fn count_ended_from<T: Run>(runs: &[T], limit: u64, low: usize, size: usize) -> 
     low
 }
 
-/// How many of the runs end by a number. O(log n).
+/// Returns the number of runs that end at or before the limit. O(log n).
 #[inline]
 pub(crate) fn count_ended<T: Run>(runs: &[T], limit: u64) -> usize
-    requires { IsNormal (joined T.ranges runs.now) }
+    requires { IsNormal (all_ranges T.ranges runs.now) }
     ensures bound { result ≤ length runs.now }
-    ensures ended { EndsBy limit (joined T.ranges (take result runs.now)) }
-    ensures past { IsPastAt T.ranges runs.now limit result }
+    ensures ended { EndsBy limit (all_ranges T.ranges (take result runs.now)) }
+    ensures past { EndsAfterAt T.ranges runs.now limit result }
 {
     count_ended_from(runs, limit, 0, runs.len())
 }
 
-/// As `count_ended`, by a guess: the runs round it are looked at first, and others only where it is far off. O(log n).
+/// Returns the same number as `count_ended`, from a guess: searches the runs near the guess first, and others only if
+/// the guess is far off. O(log n).
 #[inline]
-pub(crate) fn count_ended_about<T: Run>(runs: &[T], limit: u64, about: usize) -> usize
-    requires { IsNormal (joined T.ranges runs.now) }
+pub(crate) fn count_ended_near<T: Run>(runs: &[T], limit: u64, about: usize) -> usize
+    requires { IsNormal (all_ranges T.ranges runs.now) }
     ensures bound { result ≤ length runs.now }
-    ensures ended { EndsBy limit (joined T.ranges (take result runs.now)) }
-    ensures past { IsPastAt T.ranges runs.now limit result }
+    ensures ended { EndsBy limit (all_ranges T.ranges (take result runs.now)) }
+    ensures past { EndsAfterAt T.ranges runs.now limit result }
 {
     let len = runs.len();
     let low = about.saturating_sub(NEAR).min(len);
@@ -149,27 +151,27 @@ pub(crate) fn count_ended_about<T: Run>(runs: &[T], limit: u64, about: usize) ->
     count_ended_from(runs, limit, low, high - low)
 }
 
-/// The first of the runs that ends after a number, if there is one. O(log n).
+/// Returns the first run that ends after the limit, if any. O(log n).
 #[inline]
-pub(crate) fn first_past<T: Run>(runs: &[T], limit: u64) -> Option<&T>
-    requires { IsNormal (joined T.ranges runs.now) }
+pub(crate) fn first_ending_after<T: Run>(runs: &[T], limit: u64) -> Option<&T>
+    requires { IsNormal (all_ranges T.ranges runs.now) }
     ensures { MatchOption result
-        (EndsBy limit (joined T.ranges runs.entry.now))
-        (λ run. IsFirstPast limit (T.ranges run.now) (joined T.ranges runs.entry.now)) }
+        (EndsBy limit (all_ranges T.ranges runs.entry.now))
+        (λ run. IsFirstAfter limit (T.ranges run.now) (all_ranges T.ranges runs.entry.now)) }
 {
     runs.get(count_ended(runs, limit))
 }
 
-/// Ranges that come first, and those behind them.
+/// Ranges at the front of a list, and the ranges after them.
 #[derive(Clone, Copy)]
-pub struct Leading<'a> {
+pub struct SplitRanges<'a> {
     pub first: &'a [(u64, u64)],
     pub rest: &'a [(u64, u64)],
 }
 
-/// Parts the ranges that end below a limit from the others, where there are some. O(log n).
+/// Splits off the ranges that end below the limit, or returns `None` if there are none. O(log n).
 #[inline]
-pub fn leading_below(ranges: &[(u64, u64)], limit: u64) -> Option<Leading<'_>>
+pub fn split_below(ranges: &[(u64, u64)], limit: u64) -> Option<SplitRanges<'_>>
     requires { IsNormal ranges.now }
     ensures parts { IfSome result (λ l. ranges.entry.now ≡ l.first.now ++ l.rest.now) }
     ensures below { IfSome result (λ l. last_of l.first.now < limit) }
@@ -182,25 +184,26 @@ pub fn leading_below(ranges: &[(u64, u64)], limit: u64) -> Option<Leading<'_>>
         return None;
     }
     let count = count_ended(ranges, limit - 1);
-    Some(Leading {
+    Some(SplitRanges {
         first: &ranges[..count],
         rest: &ranges[count..],
     })
 }
 
-/// How many numbers were passed, and the runs behind them.
+/// The number of common pixels of the runs that were skipped, and the runs after them.
 #[derive(Clone, Copy)]
-struct Passed<'a, T> {
+struct SkippedRuns<'a, T> {
     common: u64,
     rest: &'a [T],
 }
 
-/// Goes past the runs that end where the range begins, and past those after them that lie in it.
+/// Skips the runs that end at or before the start of the range, and then those that are inside the range. Counts the
+/// pixels that they have in common with the range.
 #[inline]
-fn pass_runs<T: Run>(runs: &[T], range: (u64, u64)) -> Passed<'_, T>
-    requires normal { IsNormal (joined T.ranges runs.now) }
-    requires rising { range.0 ≤ range.1 }
-    ensures { Passes range (joined T.ranges runs.entry.now) (joined T.ranges result.rest.now) result.common }
+fn skip_runs<T: Run>(runs: &[T], range: (u64, u64)) -> SkippedRuns<'_, T>
+    requires normal { IsNormal (all_ranges T.ranges runs.now) }
+    requires ascending { range.0 ≤ range.1 }
+    ensures { Skips range (all_ranges T.ranges runs.entry.now) (all_ranges T.ranges result.rest.now) result.common }
 {
     let mut place = count_ended(runs, range.0);
     let mut common = 0;
@@ -212,116 +215,119 @@ fn pass_runs<T: Run>(runs: &[T], range: (u64, u64)) -> Passed<'_, T>
         common += run.width();
         place += 1;
     }
-    Passed {
+    SkippedRuns {
         common,
         rest: &runs[place..],
     }
 }
 
-/// How many numbers were passed, and the blocks and nodes behind them.
+/// The number of common pixels of the runs that were skipped, and the cursor after them.
 #[derive(Clone, Copy)]
-struct PassedBlocks<'a> {
+struct SkippedBlocks<'a> {
     common: u64,
-    ahead: Ahead<'a>,
+    cursor: Cursor<'a>,
 }
 
-/// The same as `pass_runs`, over blocks and the nodes behind them.
-fn pass_blocks(ahead: Ahead<'_>, range: (u64, u64)) -> PassedBlocks<'_>
-    requires normal { IsNormal (rest_of [] ahead.blocks.now ahead.nodes.now) }
-    requires rising { range.0 ≤ range.1 }
-    ensures { Passes range
-        (rest_of [] ahead.entry.blocks.now ahead.entry.nodes.now)
-        (rest_of [] result.ahead.blocks.now result.ahead.nodes.now)
+/// Does the same as `skip_runs`, over blocks and the nodes after them.
+fn skip_blocks(cursor: Cursor<'_>, range: (u64, u64)) -> SkippedBlocks<'_>
+    requires normal { IsNormal (rest_of [] cursor.blocks.now cursor.nodes.now) }
+    requires ascending { range.0 ≤ range.1 }
+    ensures { Skips range
+        (rest_of [] cursor.entry.blocks.now cursor.entry.nodes.now)
+        (rest_of [] result.cursor.blocks.now result.cursor.nodes.now)
         result.common }
 {
-    let begun = pass_runs(ahead.blocks, range);
-    let [] = begun.rest else {
-        return PassedBlocks {
-            common: begun.common,
-            ahead: Ahead {
-                blocks: begun.rest,
-                nodes: ahead.nodes,
+    let current = skip_runs(cursor.blocks, range);
+    let [] = current.rest else {
+        return SkippedBlocks {
+            common: current.common,
+            cursor: Cursor {
+                blocks: current.rest,
+                nodes: cursor.nodes,
             },
         };
     };
-    let nodes = pass_runs(ahead.nodes, range);
-    let next = begin_node(Ahead {
+    let nodes = skip_runs(cursor.nodes, range);
+    let next = enter_node(Cursor {
         blocks: &[],
         nodes: nodes.rest,
     });
-    let blocks = pass_runs(next.blocks, range);
-    PassedBlocks {
-        common: begun.common + nodes.common + blocks.common,
-        ahead: Ahead {
+    let blocks = skip_runs(next.blocks, range);
+    SkippedBlocks {
+        common: current.common + nodes.common + blocks.common,
+        cursor: Cursor {
             blocks: blocks.rest,
             nodes: next.nodes,
         },
     }
 }
 
-/// How many numbers were passed, and what is behind them.
+/// The number of common pixels of the ranges that were skipped, and the position after them.
 #[derive(Clone, Copy)]
-pub struct PassedRanges<'a> {
+pub struct SkippedRanges<'a> {
     pub common: u64,
-    pub begun: Begun<'a>,
+    pub current: BlockCursor<'a>,
 }
 
-/// The same as `pass_runs`, over blocks and nodes and the ranges of the first block behind.
-fn pass_behind(ahead: Ahead<'_>, range: (u64, u64)) -> PassedRanges<'_>
-    requires normal { IsNormal (rest_of [] ahead.blocks.now ahead.nodes.now) }
-    requires rising { range.0 ≤ range.1 }
-    ensures { Passes range
-        (rest_of [] ahead.entry.blocks.now ahead.entry.nodes.now)
-        (rest_of result.begun.ranges.now result.begun.ahead.blocks.now result.begun.ahead.nodes.now)
+/// Does the same as `skip_runs`, over blocks and nodes, and then over the ranges of the next block.
+fn skip_after_block(cursor: Cursor<'_>, range: (u64, u64)) -> SkippedRanges<'_>
+    requires normal { IsNormal (rest_of [] cursor.blocks.now cursor.nodes.now) }
+    requires ascending { range.0 ≤ range.1 }
+    ensures { Skips range
+        (rest_of [] cursor.entry.blocks.now cursor.entry.nodes.now)
+        (rest_of result.current.ranges.now result.current.cursor.blocks.now result.current.cursor.nodes.now)
         result.common }
 {
-    let PassedBlocks { common, ahead } = pass_blocks(ahead, range);
-    let [block, blocks @ ..] = ahead.blocks else {
-        return PassedRanges {
+    let SkippedBlocks { common, cursor } = skip_blocks(cursor, range);
+    let [block, blocks @ ..] = cursor.blocks else {
+        return SkippedRanges {
             common,
-            begun: Begun { ranges: &[], ahead },
+            current: BlockCursor {
+                ranges: &[],
+                cursor,
+            },
         };
     };
-    let there = pass_runs(block.ranges(), range);
-    PassedRanges {
+    let there = skip_runs(block.ranges(), range);
+    SkippedRanges {
         common: common + there.common,
-        begun: Begun {
+        current: BlockCursor {
             ranges: there.rest,
-            ahead: Ahead {
+            cursor: Cursor {
                 blocks,
-                nodes: ahead.nodes,
+                nodes: cursor.nodes,
             },
         },
     }
 }
 
-/// The same as `pass_runs`, over the rest of a block that is begun and what is behind it.
+/// Does the same as `skip_runs`, over the remaining ranges of a block and the blocks and nodes after it.
 #[inline]
-pub fn pass_ranges(begun: Begun<'_>, range: (u64, u64)) -> PassedRanges<'_>
-    requires normal { IsNormal (rest_of begun.ranges.now begun.ahead.blocks.now begun.ahead.nodes.now) }
-    requires rising { range.0 ≤ range.1 }
-    ensures { Passes range
-        (rest_of begun.entry.ranges.now begun.entry.ahead.blocks.now begun.entry.ahead.nodes.now)
-        (rest_of result.begun.ranges.now result.begun.ahead.blocks.now result.begun.ahead.nodes.now)
+pub fn skip_ranges(current: BlockCursor<'_>, range: (u64, u64)) -> SkippedRanges<'_>
+    requires normal { IsNormal (rest_of current.ranges.now current.cursor.blocks.now current.cursor.nodes.now) }
+    requires ascending { range.0 ≤ range.1 }
+    ensures { Skips range
+        (rest_of current.entry.ranges.now current.entry.cursor.blocks.now current.entry.cursor.nodes.now)
+        (rest_of result.current.ranges.now result.current.cursor.blocks.now result.current.cursor.nodes.now)
         result.common }
 {
-    let here = pass_runs(begun.ranges, range);
-    let passed = PassedRanges {
+    let here = skip_runs(current.ranges, range);
+    let passed = SkippedRanges {
         common: here.common,
-        begun: Begun {
+        current: BlockCursor {
             ranges: here.rest,
-            ahead: begun.ahead,
+            cursor: current.cursor,
         },
     };
     let [] = here.rest else {
         return passed;
     };
-    if begun.ahead.is_empty() {
+    if current.cursor.is_empty() {
         return passed;
     }
-    let behind = pass_behind(begun.ahead, range);
-    PassedRanges {
-        common: here.common + behind.common,
-        begun: behind.begun,
+    let after = skip_after_block(current.cursor, range);
+    SkippedRanges {
+        common: here.common + after.common,
+        current: after.current,
     }
 }

@@ -1,32 +1,32 @@
-//! The first range that ends after a number.
+//! Finds the first range that ends after a number.
 ghost use Rattle.std.specs.Prelude.{MatchOption, [], ◌∷◌};
 ghost use Rattle.moc_blocks.specs.RangeList.{IsNormal};
-ghost use Rattle.moc_blocks.specs.Blocks.{joining};
-ghost use Rattle.moc_blocks.specs.Private.Walks.{EndsBy, IsFirstPast};
+ghost use Rattle.moc_blocks.specs.Blocks.{concat};
+ghost use Rattle.moc_blocks.specs.Private.Walks.{EndsBy, IsFirstAfter};
 
 use crate::node::Node;
-use crate::runs::first_past;
+use crate::runs::first_ending_after;
 
-/// The first range that ends after the limit, if there is one. O(log n).
+/// Returns the first range that ends after the limit, if any. O(log n).
 #[inline]
-pub fn range_past(ranges: &[(u64, u64)], limit: u64) -> Option<(u64, u64)>
+pub fn range_ending_after(ranges: &[(u64, u64)], limit: u64) -> Option<(u64, u64)>
     requires { IsNormal ranges.now }
     ensures { MatchOption result
         (EndsBy limit ranges.entry.now)
-        (λ range. IsFirstPast limit (range ∷ []) ranges.entry.now) }
+        (λ range. IsFirstAfter limit (range ∷ []) ranges.entry.now) }
 {
-    first_past(ranges, limit).copied()
+    first_ending_after(ranges, limit).copied()
 }
 
-/// The first range of nodes that ends after the limit, if there is one: it is in the first block
-/// that does, of the first node that does. O(log n).
-pub fn range_of_nodes_past(nodes: &[Node], limit: u64) -> Option<(u64, u64)>
-    requires { IsNormal (joining (joining nodes.now)) }
+/// Returns the first range of the nodes that ends after the limit, if any. It is in the first block that ends after the
+/// limit, of the first node that does. O(log n).
+pub fn node_range_ending_after(nodes: &[Node], limit: u64) -> Option<(u64, u64)>
+    requires { IsNormal (concat (concat nodes.now)) }
     ensures { MatchOption result
-        (EndsBy limit (joining (joining nodes.entry.now)))
-        (λ range. IsFirstPast limit (range ∷ []) (joining (joining nodes.entry.now))) }
+        (EndsBy limit (concat (concat nodes.entry.now)))
+        (λ range. IsFirstAfter limit (range ∷ []) (concat (concat nodes.entry.now))) }
 {
-    let node = first_past(nodes, limit)?;
-    let block = first_past(node.blocks(), limit)?;
-    range_past(block.ranges(), limit)
+    let node = first_ending_after(nodes, limit)?;
+    let block = first_ending_after(node.blocks(), limit)?;
+    range_ending_after(block.ranges(), limit)
 }

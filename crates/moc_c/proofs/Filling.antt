@@ -1,23 +1,23 @@
--- Ranges that are put at the front of a buffer, one more at a time.
+-- Ranges that are copied to the front of a buffer, one at a time.
 use Rattle.std.proofs.Common.{◌≡◌, ℕ, suc, ◌+◌, ◌<◌, ◌≤◌, List, [], ◌∷◌, ◌++◌, length, take, drop, set, inl, sym, ap, ◌∙◌, arith}
 use Rattle.std.proofs.lemmas.List.{append_assoc, append-nil, length-append, length-map, map-append, take_more_set, drop-set-lt}
 use Rattle.std.proofs.lemmas.List.{length-set, drop-drop}
 use Rattle.moc_c.specs.Buffers.{Fills, ranges_from}
-use Rattle.moc_c.specs.Outcomes.{number_told}
-use Rattle.moc_c.specs.declared.outcome.Outcome.{Outcome}
+use Rattle.moc_c.specs.CallResults.{number_result}
+use Rattle.moc_c.specs.declared.call_result.CallResult.{CallResult}
 use Rattle.moc_c.specs.declared.range.Range.{Range}
 
 -- a pair as a range
 abbrev range : ℕ × ℕ → Range
 range x = record { from = x.0; to = x.1 }
 
--- what lies after the first items of a buffer stays when one more item is put after them
+-- the rest of a buffer is unchanged if one more item is written after the first ones
 pub same_rest : {X : Type 0} (old out : List X) (at : ℕ) (x : X) → at < length out → drop at out ≡ drop at old
     → drop (at + 1) (set out at x) ≡ drop (at + 1) old
 same_rest old out at x lt same =
     drop-set-lt (at + 1) out at x (omega arith) ∙ sym (drop-drop 1 at out) ∙ ap (drop 1) same ∙ drop-drop 1 at old
 
--- the pairs that were put there and those that are left are all, there is room for all, and the rest is as it was
+-- the written pairs and the pairs that are left are all pairs; there is space for all; the rest is unchanged
 abbrev pub IsFilling : List Range → List (ℕ × ℕ) → List (ℕ × ℕ) → List (ℕ × ℕ) → List Range → ℕ → Type 0
 IsFilling old all before left out at =
     (all ≡ before ++ left) × (length all ≤ length out) × (at ≡ length before) × (take at out ≡ ranges_from before)
@@ -40,7 +40,7 @@ filling_more old all before left rest out at x f is = (
   same_rest old out at (range x) (has_room old all before left rest out at x f is) f.4,
 )
 
-pub filled : (all before left : List (ℕ × ℕ)) (old out : List Range) (at : ℕ) (o : Outcome) → IsFilling old all before left out at → left ≡ [] → o ≡ number_told (length all)
+pub filled : (all before left : List (ℕ × ℕ)) (old out : List Range) (at : ℕ) (o : CallResult) → IsFilling old all before left out at → left ≡ [] → o ≡ number_result (length all)
     → Fills (ranges_from all) old out o
 filled all before left old out at o f none is =
     let whole : all ≡ before = f.0 ∙ ap (λ ys. before ++ ys) none ∙ append-nil before in
@@ -49,5 +49,5 @@ filled all before left old out at o f none is =
     inl (
       ap (λ n. take n out) place ∙ f.3 ∙ ap ranges_from (sym whole),
       ap (λ n. drop n out) place ∙ f.4 ∙ ap (λ n. drop n old) (sym place),
-      is ∙ ap number_told (sym count),
+      is ∙ ap number_result (sym count),
     )

@@ -1,4 +1,4 @@
--- The pixels of cells, one more at a time.
+-- The pixels of cells, one cell at a time.
 use Rattle.std.proofs.Common.{◌≡◌, ℕ, ◌<◌, ◌≤◌, ◌+◌, ◌^◌, List, [], ◌∷◌, ◌++◌, length, drop, take, get_or, map, refl, ap, ◌∙◌, sym, suc, subst, arith}
 use Rattle.std.proofs.Common.{inl, inr}
 use Rattle.std.proofs.lemmas.Bool.{cases_lt}
@@ -11,7 +11,7 @@ use Rattle.moc_lists.specs.RangeList.{NumberSet}
 use Rattle.moc_ranges.specs.Cells.{pixels_of, span}
 use Rattle.moc_ranges.specs.Lemmas.{union-assoc, union-empty, pixels_of-append}
 
--- ---- of cells of an order
+-- ---- cells of one order
 
 pub one_more : (o : ℕ) (xs : List ℕ) (i : ℕ) (a b : NumberSet) → i < length xs → b ≡ set.union a (span o (get_or xs i 0))
     → set.union b (pixels_of (map (cell_number o) (drop (i + 1) xs))) ≡ set.union a (pixels_of (map (cell_number o) (drop i xs)))
@@ -28,7 +28,7 @@ unfolding pixels_of
 none_left o xs i a le =
     ap (λ ys. set.union a (pixels_of (map (cell_number o) ys))) (drop_all i xs le) ∙ union-empty a
 
--- ---- of NUNIQ numbers
+-- ---- NUNIQ numbers
 
 -- the first numbers are those of cells with these pixels
 pub record AreGathered (uniqs : List ℕ) (i : ℕ) (a : NumberSet) : Type 0 where

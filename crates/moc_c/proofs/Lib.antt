@@ -1,8 +1,8 @@
 mod AsBox
-mod AsSeatBox
+mod AsStateBox
 mod Failing
 mod Filling
 mod Gathering
 mod Keys
 mod Passing
-mod Sharings
+mod MapCalls

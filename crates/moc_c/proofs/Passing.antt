@@ -5,7 +5,7 @@ use Rattle.std.specs.FinSet as set
 use Rattle.moc_lists.specs.RangeList.{NumberSet, BeginsAfter, IsNormal, set_of}
 use Rattle.moc_lists.specs.Lemmas.Members.{contains-set_of, in_ranges}
 use Rattle.moc_ranges.specs.Lemmas.Ranges.{in_first, not_before}
-use Rattle.moc_c.specs.Private.Looking.{BeginsFrom, IsRest, Knows}
+use Rattle.moc_c.specs.Private.Lookup.{BeginsFrom, IsRest, IsTrueOf}
 
 and_false : (x : Bool) → (x && false) ≡ false
 and_false true = refl
@@ -15,7 +15,7 @@ begins_from : (x : ℕ) (ranges : List (ℕ × ℕ)) → BeginsAfter x ranges �
 begins_from x [] after = tt
 begins_from x (range ∷ ranges) after = omega arith
 
--- behind the first range are the others
+-- after the first range are the others
 pub passed_on : (a : NumberSet) (passed f t : ℕ) (rest : List (ℕ × ℕ)) → IsRest a ((f, t) ∷ rest) passed → IsRest a rest t
 passed_on a passed f t rest is = (
   is.0.3,
@@ -27,8 +27,8 @@ passed_on a passed f t rest is = (
       is.2 q (omega arith) ∙ ap (λ b. (nat_le f q && b) || in_ranges rest q) ended ∙ ap (λ b. b || in_ranges rest q) (and_false (nat_le f q)),
 )
 
--- up to its end nothing but the first range is there
-pub known_by : (a : NumberSet) (passed f t : ℕ) (rest : List (ℕ × ℕ)) → IsRest a ((f, t) ∷ rest) passed → Knows a (record { from = passed; start = f; end = t })
+-- up to its end only the first range has pixels
+pub known_by : (a : NumberSet) (passed f t : ℕ) (rest : List (ℕ × ℕ)) → IsRest a ((f, t) ∷ rest) passed → IsTrueOf a (record { from = passed; start = f; end = t })
 known_by a passed f t rest is q low high =
     is.2 q low ∙ elim (nat_le f q) as (λ b. nat_le f q ≡ b → in_ranges ((f, t) ∷ rest) q ≡ b) [
       | true ↦ λ e. let le : f ≤ q = grind (arith, nat_tests) in in_first (f, t) rest q le high

@@ -1,30 +1,30 @@
--- What lies on a desk.
+-- The contents of a store.
 use Rattle.std.specs.Prelude.{◌+◌, ℕ, List, [], Option}
 use Rattle.std.specs.Ordering.{nat_cmp}
 use Rattle.std.specs.FinMap as map
 use Rattle.moc_lists.specs.RangeList.{NumberSet}
 
--- sets by their keys, the key of the set that is made next, and the text that was made last
+-- sets by id, the next id, and the last text
 pub record Contents : Type 0 where
   pub sets : map.FinMap nat_cmp NumberSet
   pub next : ℕ
   pub text : List ℕ
 
--- nothing, and no text
-abbrev pub empty_desk : Contents
-empty_desk = record { sets = map.empty; next = 0; text = [] }
+-- no set and no text
+abbrev pub empty_store : Contents
+empty_store = record { sets = map.empty; next = 0; text = [] }
 
--- the set at a key, if there is one
-abbrev pub at_key : Contents → ℕ → Option NumberSet
-at_key d key = map.get d.sets key
+-- the set with this id, if there is one
+abbrev pub set_with_id : Contents → ℕ → Option NumberSet
+set_with_id d id = map.get d.sets id
 
--- a set more, at the next key
+-- with one more set, under the next id
 abbrev pub with_set : Contents → NumberSet → Contents
 with_set d a = record { sets = map.insert d.sets d.next a; next = d.next + 1; text = d.text }
 
--- without the set at a key
+-- without the set with this id
 abbrev pub without_set : Contents → ℕ → Contents
-without_set d key = record { sets = map.remove d.sets key; next = d.next; text = d.text }
+without_set d id = record { sets = map.remove d.sets id; next = d.next; text = d.text }
 
 -- with another text
 abbrev pub with_text : Contents → List ℕ → Contents

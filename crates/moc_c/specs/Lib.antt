@@ -2,9 +2,9 @@ pub mod Answers
 pub mod Buffers
 pub mod Contents
 pub mod Membership
-pub mod Opened
-pub mod Outcomes
+pub mod OpenedStore
+pub mod CallResults
 pub mod Private
-pub mod Seated
+pub mod OpenedHandle
 pub mod Sharing
 pub mod Texts

@@ -1,9 +1,9 @@
--- What serves the contracts of private functions alone.
-pub mod Desk
+-- Definitions for the contracts of private functions.
+pub mod Store
 pub mod Lending
-pub mod Looking
-pub mod Seat
-pub mod SeatLending
+pub mod Lookup
+pub mod ClientHandle
+pub mod StateLending
 pub mod Storing
 pub mod Making
 pub mod Rows

@@ -1,65 +1,65 @@
--- Texts that are read and made.
+-- Texts that are parsed and written.
 use Rattle.std.specs.Prelude.{◌≡◌, ◌⊎◌, ℕ, List, length, nat_eq, nat_le, if◌then◌else◌, Option, None, Some, Result, Ok}
 use Rattle.std.specs.Prelude.{Err}
 use Rattle.moc_lists.specs.RangeList.{NumberSet}
 use Rattle.moc_forms.specs.Describing.{Describes}
 use Rattle.moc_forms.specs.Drawing.{picture_of}
-use Rattle.moc_forms.specs.Forms.{FormFails, FormSays, form_text, IsUnwritten}
-use Rattle.moc_forms.specs.declared.form.Form.{Form}
-use Rattle.moc_forms.specs.declared.form.FormError.{FormError}
+use Rattle.moc_forms.specs.Formats.{FormatFails, FormatRepresents, format_text, IsWriteError}
+use Rattle.moc_forms.specs.declared.format.Format.{Format}
+use Rattle.moc_forms.specs.declared.format.FormatError.{FormatError}
 use Rattle.moc_c.specs.Answers.{both, set_at}
 use Rattle.moc_c.specs.Contents.{Contents, with_set, with_text}
-use Rattle.moc_c.specs.Outcomes.{outcome_of_form, outcome, outcome_of, number_told}
+use Rattle.moc_c.specs.CallResults.{result_of_format, call_result, result_of, number_result}
 use Rattle.moc_c.specs.declared.fault.CallFault.{CallFault}
 use Rattle.moc_c.specs.declared.fault.CallFault.TheVariants as fault
-use Rattle.moc_c.specs.declared.outcome.Outcome.{Outcome}
+use Rattle.moc_c.specs.declared.call_result.CallResult.{CallResult}
 
--- the number for an order that there may be: 255 for none
-abbrev pub order_told : Option ℕ → ℕ
-order_told None = 255
-order_told (Some k) = k
+-- the number of an order, or 255 for none
+abbrev pub order_number : Option ℕ → ℕ
+order_number None = 255
+order_number (Some k) = k
 
--- the order that there may be, by its number
-abbrev pub order_meant : ℕ → Result (Option ℕ) CallFault
-order_meant n = if nat_eq n 255 then Ok None else (if nat_le n 29 then Ok (Some n) else Err (fault.NoSuchOrder n))
+-- the order with this number; 255 is none
+abbrev pub order_with_number : ℕ → Result (Option ℕ) CallFault
+order_with_number n = if nat_eq n 255 then Ok None else (if nat_le n 29 then Ok (Some n) else Err (fault.NoSuchOrder n))
 
--- what a text in a form says was put at the next key, and the deepest order that it names is told beside it; or the
--- text's fault is told, or no memory is left, and all is as it was
-abbrev pub Reads : Form → List ℕ → Contents → Contents → Outcome → Type 0
-Reads form text old new o =
-    ((a : NumberSet) × (deepest : Option ℕ) × FormSays form text a deepest × (new ≡ with_set old a)
-    × (o ≡ outcome 0 old.next (order_told deepest)))
-    ⊎ ((e : FormError) × FormFails form text e × (new ≡ old) × (o ≡ outcome_of_form e))
+-- the set of a text is stored under the next id, which is returned with the MOC order of the text; or the result is the
+-- text's error, or an allocation fails, and nothing changes
+abbrev pub Reads : Format → List ℕ → Contents → Contents → CallResult → Type 0
+Reads format text old new o =
+    ((a : NumberSet) × (deepest : Option ℕ) × FormatRepresents format text a deepest × (new ≡ with_set old a)
+    × (o ≡ call_result 0 old.next (order_number deepest)))
+    ⊎ ((e : FormatError) × FormatFails format text e × (new ≡ old) × (o ≡ result_of_format e))
 
--- a text of what there is, or a fault of making one, or what is missing
-abbrev pub IsMadeText : {X : Type 0} → (X → List ℕ → Type 0) → (X → CallFault → Type 0) → Result X CallFault
+-- a text is written, or writing fails, or its input is missing
+abbrev pub IsNewText : {X : Type 0} → (X → List ℕ → Type 0) → (X → CallFault → Type 0) → Result X CallFault
     → Result (List ℕ) CallFault → Type 0
-IsMadeText Is Refuses (Ok x) (Ok text) = Is x text
-IsMadeText Is Refuses (Ok x) (Err e) = Refuses x e
-IsMadeText Is Refuses (Err e) r = r ≡ Err e
+IsNewText Is Refuses (Ok x) (Ok text) = Is x text
+IsNewText Is Refuses (Ok x) (Err e) = Refuses x e
+IsNewText Is Refuses (Err e) r = r ≡ Err e
 
--- a text that was made is kept, and its length is told; else the fault is told, and all is as it was
-abbrev pub KeepsText : Contents → Contents → Result (List ℕ) CallFault → Outcome → Type 0
-KeepsText old new (Ok text) o = (new ≡ with_text old text) × (o ≡ number_told (length text))
-KeepsText old new (Err e) o = (new ≡ old) × (o ≡ outcome_of e)
+-- a new text is kept, and the result is its length; or the result is the error, and nothing changes
+abbrev pub KeepsText : Contents → Contents → Result (List ℕ) CallFault → CallResult → Type 0
+KeepsText old new (Ok text) o = (new ≡ with_text old text) × (o ≡ number_result (length text))
+KeepsText old new (Err e) o = (new ≡ old) × (o ≡ result_of e)
 
--- the text of a set in a form is made, with the order that is stated
-abbrev pub WritesText : Form → Contents → ℕ → ℕ → Result (List ℕ) CallFault → Type 0
-WritesText form d key stated r =
-    IsMadeText (λ x text. text ≡ form_text form x.0 x.1)
-    (λ x e. (f : FormError) × IsUnwritten form x.0 x.1 f × (e ≡ fault.Form f))
-    (both (set_at d key) (order_meant stated)) r
+-- the text of a set in a format, with this MOC order
+abbrev pub WritesText : Format → Contents → ℕ → ℕ → Result (List ℕ) CallFault → Type 0
+WritesText format d id stated r =
+    IsNewText (λ x text. text ≡ format_text format x.0 x.1)
+    (λ x e. (f : FormatError) × IsWriteError format x.0 x.1 f × (e ≡ fault.Format f))
+    (both (set_at d id) (order_with_number stated)) r
 
--- the figures of a set are made, with the deepest order that its text named
+-- the statistics of a set, with the MOC order of its text
 abbrev pub DescribesText : Contents → ℕ → ℕ → Result (List ℕ) CallFault → Type 0
-DescribesText d key deepest r =
-    IsMadeText (λ x text. Describes x.0 x.1 text) (λ x e. e ≡ fault.Memory)
-    (both (set_at d key) (order_meant deepest)) r
+DescribesText d id deepest r =
+    IsNewText (λ x text. Describes x.0 x.1 text) (λ x e. e ≡ fault.Memory)
+    (both (set_at d id) (order_with_number deepest)) r
 
--- the picture of a set is made
+-- the picture of a set
 abbrev pub DrawsText : Contents → ℕ → Result (List ℕ) CallFault → Type 0
-DrawsText d key r = IsMadeText (λ x text. text ≡ picture_of x) (λ x e. e ≡ fault.Memory) (set_at d key) r
+DrawsText d id r = IsNewText (λ x text. text ≡ picture_of x) (λ x e. e ≡ fault.Memory) (set_at d id) r
 
--- the text is made and kept, or the call is refused
-abbrev pub KeepsMade : Contents → Contents → (Result (List ℕ) CallFault → Type 0) → Outcome → Type 0
-KeepsMade old new Made o = (r : Result (List ℕ) CallFault) × Made r × KeepsText old new r o
+-- the text is written and kept, or the call fails
+abbrev pub KeepsNewText : Contents → Contents → (Result (List ℕ) CallFault → Type 0) → CallResult → Type 0
+KeepsNewText old new Made o = (r : Result (List ℕ) CallFault) × Made r × KeepsText old new r o

@@ -1,6 +1,6 @@
-//! The codes of outcomes, with the names that `moc.h` has for them.
+//! The codes of results, with the names that `moc.h` gives them.
 
-pub(crate) const DONE: u32 = 0;
+pub(crate) const OK: u32 = 0;
 
 pub(crate) const MEMORY: u32 = 1;
 
@@ -74,7 +74,7 @@ pub(crate) const LINE_UNFINISHED: u32 = 60;
 
 pub(crate) const NO_MAP: u32 = 70;
 
-pub(crate) const SEAT_TAKEN: u32 = 71;
+pub(crate) const HANDLE_IN_USE: u32 = 71;
 
 pub(crate) const BAD_COUNT: u32 = 72;
 

@@ -1,23 +1,23 @@
-//! From a number of a cell to another number of it.
+//! Conversions from one numbering of cells to another.
 ghost use Rattle.std.specs.Prelude.{◌<◌, ◌≤◌, MatchOption};
 ghost use Rattle.moc_sphere.specs.CellNumber.{cell_count};
 ghost use Rattle.moc_c.specs.Buffers.{IsConverted};
 
 use moc_sphere::{Cell, Order};
 
-/// What is told of a number of a cell.
+/// A conversion of one cell number.
 #[derive(Clone, Copy)]
 pub enum Conversion {
-    /// Its ring number, of its nested number.
+    /// From the nested index to the ring index.
     NestToRing,
-    /// Its nested number, of its ring number.
+    /// From the ring index to the nested index.
     RingToNest,
-    /// Its NUNIQ number, of its nested number.
+    /// From the nested index to the NUNIQ number.
     NestToUniq,
 }
 
 impl Conversion {
-    /// What is told of a number, if the order has a cell of it.
+    /// Returns the converted number if the order has a cell with this one.
     #[inline]
     pub(crate) fn of(self, order: Order, number: u64) -> Option<u64>
         ensures { MatchOption result (cell_count order ≤ number)

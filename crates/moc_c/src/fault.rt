@@ -1,64 +1,64 @@
-//! Why a call is refused.
-use moc_forms::FormError;
-use moc_lines::LineFault;
-use moc_ranges::{Memory as MemoryRefused, RangesError};
+//! The errors of calls.
+use moc_forms::FormatError;
+use moc_lines::LineError;
+use moc_ranges::{Memory as OutOfMemory, RangesError};
 use moc_shared::{Busy, TryError};
 use std::alloc::AllocError;
 
-/// Why a call is refused.
+/// Why a call failed.
 #[derive(Clone, Copy)]
 pub enum CallFault {
-    /// No memory is left.
+    /// An allocation failed.
     Memory,
-    /// A buffer is too short for so many elements.
+    /// The buffer is too short for this number of elements.
     NoRoom { wanted: usize },
-    /// No set has this key.
-    NoSuchSet { key: u64 },
+    /// No set has this id.
+    NoSuchSet { id: u64 },
     /// The order is above 29.
     NoSuchOrder { order: u8 },
-    /// Two arrays that go together differ in length.
+    /// Two arrays that belong together differ in length.
     LengthsDiffer,
-    /// The number at this place is the first that is no cell of the order.
+    /// The number at this position is the first that is not a cell of the order.
     NoSuchCell { at: usize },
-    /// The number at this place is the first that is no NUNIQ number.
+    /// The number at this position is the first that is not a NUNIQ number.
     NotUniq { at: usize },
-    /// A text cannot be read or written.
-    Form(FormError),
-    /// Ranges make no set.
+    /// A text cannot be parsed or written.
+    Format(FormatError),
+    /// A range is invalid.
     Ranges(RangesError),
-    /// A line says no commands.
-    Line(LineFault),
-    /// Nobody sits on the seat.
+    /// A line of commands is invalid.
+    Line(LineError),
+    /// The handle has no client.
     NoMap,
-    /// Somebody sits on the seat.
-    SeatTaken,
-    /// No map has so many clients.
+    /// The handle has a client already.
+    HandleInUse,
+    /// The number of clients is not 1 to 64.
     BadCount { clients: u8 },
-    /// No further client waits on the seat.
+    /// No further client is left to give away.
     NoClient,
     /// Another client holds a part.
     Busy(Busy),
 }
 
-impl From<MemoryRefused> for CallFault {
+impl From<OutOfMemory> for CallFault {
     ghost use Rattle.std.specs.Prelude.{◌≡◌};
     ghost use Rattle.moc_c.specs.declared.fault.CallFault.TheVariants as fault;
 
     ghost from_gives = { λ _ e. e ≡ fault.Memory };
 
-    fn from(_refused: MemoryRefused) -> CallFault {
+    fn from(_refused: OutOfMemory) -> CallFault {
         CallFault::Memory
     }
 }
 
-impl From<FormError> for CallFault {
+impl From<FormatError> for CallFault {
     ghost use Rattle.std.specs.Prelude.{◌≡◌};
     ghost use Rattle.moc_c.specs.declared.fault.CallFault.TheVariants as fault;
 
-    ghost from_gives = { λ error e. e ≡ fault.Form error };
+    ghost from_gives = { λ error e. e ≡ fault.Format error };
 
-    fn from(error: FormError) -> CallFault {
-        CallFault::Form(error)
+    fn from(error: FormatError) -> CallFault {
+        CallFault::Format(error)
     }
 }
 
@@ -75,9 +75,9 @@ impl From<AllocError> for CallFault {
 
 impl From<TryError> for CallFault {
     ghost use Rattle.std.specs.Prelude.{◌≡◌};
-    ghost use Rattle.moc_c.specs.Private.Making.{try_fault};
+    ghost use Rattle.moc_c.specs.Private.Making.{try_error};
 
-    ghost from_gives = { λ error e. e ≡ try_fault error };
+    ghost from_gives = { λ error e. e ≡ try_error error };
 
     fn from(error: TryError) -> CallFault {
         match error {

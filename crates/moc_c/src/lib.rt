@@ -1,26 +1,27 @@
-//! The calls of the library for programs in C, and for what can call C.
+//! The library's C API.
 //!
-//! C holds a desk, which it begins with `moc_open` and ends with `moc_close`. Coverages lie on the desk, each under a
-//! key. Each other call answers an `Outcome`: what was asked for, or the code of a fault with its place.
+//! C holds a store, which `moc_open` creates and `moc_close` frees. The store owns coverages, each with an id. A client
+//! handle, which `moc_seat_open` creates and `moc_seat_close` frees, is a thread's client of a shared map. Every other
+//! call returns a `CallResult`: the result, or the code of an error and its position.
 #![tactic(auto)]
 
-mod asking;
+mod arrays;
 mod box_parts;
+mod call_result;
 mod cells;
+mod client_handle;
+mod client_opening;
+mod client_state;
 mod codes;
 mod conversion;
-mod desk;
 mod fault;
-mod lists;
-mod looking;
-mod making;
+mod lookup;
 mod member;
 mod opening;
-mod outcome;
+mod queries;
 mod range;
-mod seat;
-mod seating;
+mod set_operations;
 mod sharing;
-mod shelf;
-mod sitter;
+mod store;
+mod table;
 mod texts;

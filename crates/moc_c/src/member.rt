@@ -1,10 +1,10 @@
-//! A client of a map, with the pointer to the map that its threads share.
+//! A client of a map, with its pointer to the shared map.
 ghost use Rattle.std.specs.Prelude.{◌≡◌, ◌++◌, ◌∷◌, [], ◌<◌, ◌≤◌, All, IfOk, length};
 ghost use Rattle.moc_lists.specs.RangeList.{NumberSet};
 ghost use Rattle.moc_parts.specs.declared.reply.Reply.TheVariants.{Cover};
 ghost use Rattle.moc_c.specs.Membership.{IsNewMember};
 ghost use Rattle.moc_c.specs.Sharing.{Gives, whole_sky};
-ghost use Rattle.moc_c.specs.Private.Making.{ReadsSky, Tries};
+ghost use Rattle.moc_c.specs.Private.Making.{ReadsWholeSky, Tries};
 ghost use Rattle.moc_shared.specs.Clients.{IsClientOf, number_of};
 
 use crate::fault::CallFault;
@@ -15,12 +15,12 @@ use std::alloc::Global;
 use std::marker::Model;
 use std::sync::Arc;
 
-/// A client of a map, and the further clients that wait on its seat.
+/// A client of a map, and the clients that it can still give away.
 #[derive(Drop)]
 pub struct Member {
     map: Arc<SharedMap, Global>,
     client: Client,
-    spare: Vec<Client>,
+    unassigned: Vec<Client>,
 }
 
 impl Model for Member {
@@ -32,16 +32,16 @@ impl Model for Member {
 
     ghost coded = { membership_code };
 
-    ghost view = { λ m. record { map = arc_value m.map; client = m.client; spare = m.spare.items } };
+    ghost view = { λ m. record { map = arc_value m.map; client = m.client; unassigned = m.unassigned.items } };
 
-    ghost invariant = { λ m. AreMembers (arc_value m.map) m.client m.spare.items };
+    ghost invariant = { λ m. AreMembers (arc_value m.map) m.client m.unassigned.items };
 }
 
 impl Member {
-    /// The last client of a new map, with all others. O(n) for n ranges; refused where memory runs out.
+    /// Returns the last client of a new map, with all other clients. O(n) for n ranges. Fails if an allocation fails.
     pub(crate) fn begin(alloc: Global, start: Coverage, clients: u8) -> Result<Member, Memory>
         requires some { 0 < clients }
-        requires few { clients ≤ 64 }
+        requires bounded { clients ≤ 64 }
         ensures { IfOk result (λ m. IsNewMember start clients m) }
     {
         match SharedMap::new(alloc, start, clients) {
@@ -51,58 +51,62 @@ impl Member {
         }
     }
 
-    /// The last of a map's clients, with all others.
+    /// Returns the last client of a map, with all other clients.
     fn last(alloc: Global, map: SharedMap, clients: Vec<Client>) -> Result<Member, Memory>
         requires some { 0 < length clients.items }
         requires of_map { All (λ c. IsClientOf map c) clients.items }
-        ensures { IfOk result (λ m. (m.map ≡ map) × (m.spare ++ m.client ∷ [] ≡ clients.items)) }
+        ensures { IfOk result (λ m. (m.map ≡ map) × (m.unassigned ++ m.client ∷ [] ≡ clients.items)) }
     {
-        let mut spare = clients;
-        let Some(client) = spare.pop() else {
+        let mut unassigned = clients;
+        let Some(client) = unassigned.pop() else {
             unreachable!();
         };
         let Ok(map) = Arc::new(alloc, map) else {
             return Err(Memory);
         };
-        Ok(Member { map, client, spare })
+        Ok(Member {
+            map,
+            client,
+            unassigned,
+        })
     }
 
-    /// Its client's number. Takes no memory.
+    /// Returns the client's number. Does not allocate.
     pub(crate) fn number(&self) -> u8
         ensures { result ≡ number_of self.now.client }
     {
         self.client.number()
     }
 
-    /// One of the clients that wait, as a member of the same map. O(1); refused where there is none, or
-    /// where memory runs out.
+    /// Returns one of the clients that can be given away, as a member of the same map. O(1). Fails if none is left, or
+    /// if an allocation fails.
     pub(crate) fn give(&mut self, alloc: Global) -> Result<Member, CallFault>
         ensures { Gives self.old self.new result }
     {
         let Ok(map) = Arc::try_clone(&self.map) else {
             return Err(CallFault::Memory);
         };
-        match self.spare.pop() {
+        match self.unassigned.pop() {
             Some(client) => Ok(Member {
                 map,
                 client,
-                spare: Vec::new(alloc),
+                unassigned: Vec::new(alloc),
             }),
             None => Err(CallFault::NoClient),
         }
     }
 
-    /// Does a batch at once, or nothing where another client holds a part of it. As `SharedMap::try_apply`.
+    /// Executes a batch, or fails if another client holds a part that it needs. As `SharedMap::try_apply`.
     pub(crate) fn apply(&mut self, batch: &Batch) -> Result<Replies, TryError>
         ensures { Tries self.old self.new batch.now result }
     {
         self.map.try_apply(&mut self.client, batch)
     }
 
-    /// The set of the map, by a query of the whole sky. Takes the memory of its ranges; refused where another client
-    /// holds a part, or where memory runs out.
+    /// Returns a copy of the map's set by a query of the whole sky. Allocates its ranges. Fails if another client
+    /// holds a part, or if an allocation fails.
     pub(crate) fn read(&mut self, alloc: Global) -> Result<Coverage, TryError>
-        ensures { ReadsSky self.old self.new result }
+        ensures { ReadsWholeSky self.old self.new result }
     {
         let batch = whole_sky(alloc)?;
         let replies = self.apply(&batch)?;
@@ -110,7 +114,7 @@ impl Member {
     }
 }
 
-/// A copy of the set that is the one reply.
+/// Returns a copy of the set that is the only reply.
 fn cover_of(alloc: Global, replies: &Replies) -> Result<Coverage, Memory>
     requires { (a : NumberSet) × (replies.now ≡ Cover a ∷ []) }
     ensures { IfOk result (λ a. replies.now ≡ Cover a ∷ []) }
@@ -121,7 +125,7 @@ fn cover_of(alloc: Global, replies: &Replies) -> Result<Coverage, Memory>
     }
 }
 
-/// The batch that reads all pixels.
+/// Returns the batch that reads all pixels.
 fn whole_sky(alloc: Global) -> Result<Batch, Memory>
     ensures { IfOk result (λ batch. batch ≡ whole_sky) }
 {

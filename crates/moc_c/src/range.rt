@@ -1,6 +1,6 @@
-//! Ranges as C has them.
+//! Ranges in the layout of C.
 
-/// The pixels of order 29 from one up to, not including, another, by their nested numbers.
+/// The order-29 pixels from `from` (included) to `to` (excluded), by nested index.
 #[repr(C)]
 #[derive(Clone, Copy)]
 pub struct Range {

@@ -1,118 +1,123 @@
-//! A map that threads of C change and query at the same time, each by a seat of its own.
+//! A map that threads of C change and query at the same time, each through its own client handle.
 ghost use Rattle.std.specs.Prelude.{◌≡◌, IfOk};
 ghost use Rattle.moc_c.specs.Answers.{both, set_at};
-ghost use Rattle.moc_c.specs.Sharing.{answer_of, Applies, BeginsMap, client_count, FillsAnswer, IsBegun, Joins};
-ghost use Rattle.moc_c.specs.Sharing.{LaysSet, seated_member, Seats, unless_taken};
+ghost use Rattle.moc_c.specs.Sharing.{answer_of, Applies, BeginsMap, client_count, FillsAnswer, IsFirstClient, Joins};
+ghost use Rattle.moc_c.specs.Sharing.{StoresMapSet, member_of_handle, StoresMember, unless_in_use};
 
-use crate::desk::Desk;
+use crate::call_result::CallResult;
+use crate::client_handle::ClientHandle;
+use crate::client_state::ClientState;
 use crate::fault::CallFault;
 use crate::member::Member;
-use crate::outcome::Outcome;
-use crate::seat::Seat;
-use crate::shelf::Shelf;
-use crate::sitter::Sitter;
+use crate::store::Store;
+use crate::table::CoverageTable;
 use crate::texts::fill_text;
 use moc_lines::{ReadError, answer_text, read_batch};
 use moc_ranges::Memory;
-use moc_shared::MOST_CLIENTS;
+use moc_shared::MAX_CLIENTS;
 use std::alloc::Global;
 
-/// So many clients, where a map may have them.
-fn count_of(clients: u8) -> Result<u8, CallFault>
+/// Returns the number of clients if a map can have as many.
+fn checked_client_count(clients: u8) -> Result<u8, CallFault>
     ensures { result ≡ client_count clients }
 {
-    if 1 <= clients && clients <= MOST_CLIENTS {
+    if 1 <= clients && clients <= MAX_CLIENTS {
         Ok(clients)
     } else {
         Err(CallFault::BadCount { clients })
     }
 }
 
-/// A client of a new map of the set at a key.
-fn begun(alloc: Global, shelf: &Shelf, a: u64, clients: u8) -> Result<Member, CallFault>
-    ensures { IsBegun (both (set_at shelf.now a) (client_count clients)) result }
+/// Returns a client of a new map that starts with the set at an id.
+fn begin_member(
+    alloc: Global,
+    table: &CoverageTable,
+    a: u64,
+    clients: u8,
+) -> Result<Member, CallFault>
+    ensures { IsFirstClient (both (set_at table.now a) (client_count clients)) result }
 {
-    let set = shelf.set(a)?;
-    let clients = count_of(clients)?;
+    let set = table.set(a)?;
+    let clients = checked_client_count(clients)?;
     let start = set.try_copy(alloc)?;
     Ok(Member::begin(alloc, start, clients)?)
 }
 
-impl Sitter {
-    /// A client of a new map of the set at a key sits down.
-    fn begin(&mut self, alloc: Global, shelf: &Shelf, a: u64, clients: u8) -> Outcome
+impl ClientState {
+    /// Makes the handle a client of a new map that starts with the set at an id.
+    fn begin(&mut self, alloc: Global, table: &CoverageTable, a: u64, clients: u8) -> CallResult
         ensures { BeginsMap self.old self.new
-            (unless_taken self.old.member (both (set_at shelf.now a) (client_count clients))) result }
+            (unless_in_use self.old.member (both (set_at table.now a) (client_count clients))) result }
     {
         if self.member.is_some() {
-            return Outcome::of(CallFault::SeatTaken);
+            return CallResult::of(CallFault::HandleInUse);
         }
-        self.sit(begun(alloc, shelf, a, clients))
+        self.set_member(begin_member(alloc, table, a, clients))
     }
 
-    /// A further client of the map sits down on another seat.
-    fn join(&mut self, alloc: Global, other: &mut Sitter) -> Outcome
+    /// Makes another handle the next client of this handle's map.
+    fn join(&mut self, alloc: Global, other: &mut ClientState) -> CallResult
         ensures { Joins self.old self.new other.old other.new
-            (unless_taken other.old.member (seated_member self.old)) result }
+            (unless_in_use other.old.member (member_of_handle self.old)) result }
     {
         if other.member.is_some() {
-            return Outcome::of(CallFault::SeatTaken);
+            return CallResult::of(CallFault::HandleInUse);
         }
         let Some(member) = &mut self.member else {
-            return Outcome::of(CallFault::NoMap);
+            return CallResult::of(CallFault::NoMap);
         };
-        other.sit(member.give(alloc))
+        other.set_member(member.give(alloc))
     }
 
-    /// A member sits down, and its client's number is told.
-    fn sit(&mut self, member: Result<Member, CallFault>) -> Outcome
-        ensures { Seats self.old self.new member result }
+    /// Stores the member in the handle, and returns its client number.
+    fn set_member(&mut self, member: Result<Member, CallFault>) -> CallResult
+        ensures { StoresMember self.old self.new member result }
     {
         match member {
             Ok(member) => {
                 let number = member.number();
                 self.member = Some(member);
-                Outcome::told(u64::from(number))
+                CallResult::number(u64::from(number))
             }
-            Err(fault) => Outcome::of(fault),
+            Err(fault) => CallResult::of(fault),
         }
     }
 
-    /// Does what a line says, and keeps the replies.
-    fn apply(&mut self, alloc: Global, line: &[u8]) -> Outcome
-        ensures { Applies self.old self.new (seated_member self.old) line.now result }
+    /// Executes the commands of a line, and keeps the replies.
+    fn apply(&mut self, alloc: Global, line: &[u8]) -> CallResult
+        ensures { Applies self.old self.new (member_of_handle self.old) line.now result }
     {
         let Some(member) = &mut self.member else {
-            return Outcome::of(CallFault::NoMap);
+            return CallResult::of(CallFault::NoMap);
         };
         let batch = match read_batch(alloc, line) {
             Ok(batch) => batch,
-            Err(ReadError::Fault(fault)) => return Outcome::of(CallFault::Line(fault)),
-            Err(ReadError::Memory) => return Outcome::of(CallFault::Memory),
+            Err(ReadError::Fault(fault)) => return CallResult::of(CallFault::Line(fault)),
+            Err(ReadError::Memory) => return CallResult::of(CallFault::Memory),
         };
         match member.apply(&batch) {
             Ok(replies) => {
                 self.replies = Some(replies);
-                Outcome::done()
+                CallResult::success()
             }
-            Err(error) => Outcome::of(CallFault::from(error)),
+            Err(error) => CallResult::of(CallFault::from(error)),
         }
     }
 
-    /// Puts the map's set on a shelf.
-    fn lay(&mut self, alloc: Global, shelf: &mut Shelf) -> Outcome
-        ensures { LaysSet self.old self.new shelf.old shelf.new (seated_member self.old) result }
+    /// Stores a copy of the map's set in a table.
+    fn store_set(&mut self, alloc: Global, table: &mut CoverageTable) -> CallResult
+        ensures { StoresMapSet self.old self.new table.old table.new (member_of_handle self.old) result }
     {
         let Some(member) = &mut self.member else {
-            return Outcome::of(CallFault::NoMap);
+            return CallResult::of(CallFault::NoMap);
         };
         match member.read(alloc) {
-            Ok(set) => shelf.keep(Ok(set)),
-            Err(error) => Outcome::of(CallFault::from(error)),
+            Ok(set) => table.insert_new(Ok(set)),
+            Err(error) => CallResult::of(CallFault::from(error)),
         }
     }
 
-    /// The answer to the last line.
+    /// Returns the reply text of the last line.
     fn answer(&self, alloc: Global) -> Result<Vec<u8>, Memory>
         ensures { IfOk result (λ text. text.items ≡ answer_of self.now.replies) }
     {
@@ -123,75 +128,105 @@ impl Sitter {
     }
 }
 
-/// Makes a map of a set on a desk, for so many clients, 1 to 64, of which one sits down on the seat; the others are for
-/// `moc_map_join`. Tells the client's number. The set stays on the desk. O(n) for n ranges.
+/// Creates a map that starts with a set of a store, for 1 to 64 clients. The handle becomes one of the clients;
+/// `moc_map_join` gives the others to other handles. Returns the client's number. The set stays in the store.
 ///
-/// Refused for a seat that is taken, for a key without a set, for another number of clients, or where memory runs out.
+/// # Errors
+/// Fails if the handle is in use, if the id has no set, if the number of clients is not 1 to 64, or if an allocation
+/// fails.
+///
+/// # Complexity
+/// O(n) for n ranges.
 #[unsafe(no_mangle)]
 pub extern "C" fn moc_map_begin(
     alloc: Global,
-    seat: &mut Seat,
-    desk: &mut Desk,
+    client_handle: &mut ClientHandle,
+    store: &mut Store,
     a: u64,
     clients: u8,
-) -> Outcome
-    ensures begins { BeginsMap seat.old.contents seat.new.contents
-        (unless_taken seat.old.contents.member (both (set_at desk.old.contents a) (client_count clients))) result }
-    ensures same { desk.new.contents ≡ desk.old.contents }
+) -> CallResult
+    ensures begins { BeginsMap client_handle.old.contents client_handle.new.contents
+        (unless_in_use client_handle.old.contents.member
+        (both (set_at store.old.contents a) (client_count clients))) result }
+    ensures same { store.new.contents ≡ store.old.contents }
 {
-    let shelf = desk.shelf();
-    seat.sitter().begin(alloc, shelf, a, clients)
+    let table = store.table();
+    client_handle.client_state().begin(alloc, table, a, clients)
 }
 
-/// A further client of the map of a seat sits down on another seat, which may go to another thread, and tells its
-/// number. Only the seat that began the map has further clients. O(1).
+/// Makes another handle, which may be sent to another thread, the next client of this handle's map. Returns the
+/// client's number. Only the handle that created the map has further clients. O(1).
 ///
-/// Refused where the other seat is taken, where nobody sits on the first, where no further client waits on that, or
-/// where memory runs out.
+/// # Errors
+/// Fails if the other handle is in use, if this handle has no client, if no further client is left, or if an
+/// allocation fails.
 #[unsafe(no_mangle)]
-pub extern "C" fn moc_map_join(alloc: Global, seat: &mut Seat, other: &mut Seat) -> Outcome
-    ensures { Joins seat.old.contents seat.new.contents other.old.contents other.new.contents
-        (unless_taken other.old.contents.member (seated_member seat.old.contents)) result }
+pub extern "C" fn moc_map_join(
+    alloc: Global,
+    client_handle: &mut ClientHandle,
+    other: &mut ClientHandle,
+) -> CallResult
+    ensures { Joins client_handle.old.contents client_handle.new.contents other.old.contents other.new.contents
+        (unless_in_use other.old.contents.member (member_of_handle client_handle.old.contents)) result }
 {
-    let joining = other.sitter();
-    seat.sitter().join(alloc, joining)
+    let joining = other.client_state();
+    client_handle.client_state().join(alloc, joining)
 }
 
-/// Does the commands of a line on the map, all at once or none, and keeps the replies, whose text `moc_map_answer`
-/// makes. Waits for nobody. Takes the memory of the operands and of the parts that change.
+/// Executes the commands of a line on the map, all in one atomic step or none. Keeps the replies, whose text
+/// `moc_map_answer` writes. Never waits.
 ///
-/// Refused where nobody sits there, for a fault of the line, where another client holds a part that the commands
-/// look at or change, or where memory runs out: then nothing was changed.
+/// # Errors
+/// Fails if the handle has no client, if the line is invalid, if another client holds a part that the commands need,
+/// or if an allocation fails; the map is unchanged then.
+///
+/// # Memory
+/// Allocates the operands and the parts that change.
 #[unsafe(no_mangle)]
-pub extern "C" fn moc_map_apply(alloc: Global, seat: &mut Seat, line: &[u8]) -> Outcome
-    ensures { Applies seat.old.contents seat.new.contents (seated_member seat.old.contents) line.now result }
+pub extern "C" fn moc_map_apply(
+    alloc: Global,
+    client_handle: &mut ClientHandle,
+    line: &[u8],
+) -> CallResult
+    ensures { Applies client_handle.old.contents client_handle.new.contents
+        (member_of_handle client_handle.old.contents) line.now result }
 {
-    seat.sitter().apply(alloc, line)
+    client_handle.client_state().apply(alloc, line)
 }
 
-/// Makes the answer to the last line that was done, ended by a line feed, at the front of a buffer, and tells its
-/// length; nothing before the first. Linear in the text.
+/// Writes the replies to the last line, ended by a line feed, to the front of a buffer, and returns the length. Writes
+/// nothing before the first line. Linear in the text.
 ///
-/// Refused where the buffer is shorter, or where memory runs out; it may be asked again.
+/// # Errors
+/// Fails if the buffer is too short, or if an allocation fails; the call may be repeated.
 #[unsafe(no_mangle)]
-pub extern "C" fn moc_map_answer(alloc: Global, seat: &mut Seat, out: &mut [u8]) -> Outcome
-    ensures answer { FillsAnswer seat.old.contents out.old out.new result }
-    ensures same { seat.new.contents ≡ seat.old.contents }
+pub extern "C" fn moc_map_answer(
+    alloc: Global,
+    client_handle: &mut ClientHandle,
+    out: &mut [u8],
+) -> CallResult
+    ensures answer { FillsAnswer client_handle.old.contents out.old out.new result }
+    ensures same { client_handle.new.contents ≡ client_handle.old.contents }
 {
-    match seat.sitter().answer(alloc) {
+    match client_handle.client_state().answer(alloc) {
         Ok(text) => fill_text(&text, out),
-        Err(Memory) => Outcome::of(CallFault::Memory),
+        Err(Memory) => CallResult::of(CallFault::Memory),
     }
 }
 
-/// Puts the map's set on a desk, at a new key, by a query of the whole sky. O(n) for n ranges.
+/// Stores a copy of the map's set under a new id. The copy is a query of the whole sky. O(n) for n ranges.
 ///
-/// Refused where nobody sits there, where another client holds a part, or where memory runs out.
+/// # Errors
+/// Fails if the handle has no client, if another client holds a part, or if an allocation fails.
 #[unsafe(no_mangle)]
-pub extern "C" fn moc_map_set(alloc: Global, seat: &mut Seat, desk: &mut Desk) -> Outcome
-    ensures { LaysSet seat.old.contents seat.new.contents desk.old.contents desk.new.contents
-        (seated_member seat.old.contents) result }
+pub extern "C" fn moc_map_set(
+    alloc: Global,
+    client_handle: &mut ClientHandle,
+    store: &mut Store,
+) -> CallResult
+    ensures { StoresMapSet client_handle.old.contents client_handle.new.contents store.old.contents store.new.contents
+        (member_of_handle client_handle.old.contents) result }
 {
-    let shelf = desk.shelf();
-    seat.sitter().lay(alloc, shelf)
+    let table = store.table();
+    client_handle.client_state().store_set(alloc, table)
 }

@@ -1,26 +1,27 @@
-//! Texts that are read, and texts that are made, of which a desk keeps the last.
+//! Parsing and writing of texts. A store keeps the last text that it wrote.
 ghost use Rattle.std.specs.Prelude.{◌≡◌};
-ghost use Rattle.moc_forms.specs.declared.form.Form.TheVariants.{Ascii, Json, Uniq};
+ghost use Rattle.moc_forms.specs.declared.format.Format.TheVariants.{Ascii, Json, Uniq};
 ghost use Rattle.moc_c.specs.Buffers.{Fills};
-ghost use Rattle.moc_c.specs.Private.Making.{bytes_made};
-ghost use Rattle.moc_c.specs.Texts.{DescribesText, DrawsText, KeepsMade, KeepsText, order_meant, order_told, Reads};
+ghost use Rattle.moc_c.specs.Private.Making.{bytes_of_text};
+ghost use Rattle.moc_c.specs.Texts.{DescribesText, DrawsText, KeepsNewText};
+ghost use Rattle.moc_c.specs.Texts.{KeepsText, order_with_number, order_number, Reads};
 ghost use Rattle.moc_c.specs.Texts.{WritesText};
 
-use crate::desk::Desk;
+use crate::call_result::CallResult;
 use crate::fault::CallFault;
-use crate::outcome::Outcome;
-use crate::shelf::{Shelf, order_of};
-use moc_forms::{Form, describe, draw};
+use crate::store::Store;
+use crate::table::{CoverageTable, order_of};
+use moc_forms::{Format, describe, draw};
 use moc_ranges::Memory;
 use moc_sphere::Order;
 use std::alloc::Global;
 
-/// The number that stands for no order.
+/// The number that stands for "no order".
 const NO_ORDER: u8 = 255;
 
-/// The number of an order that there may be.
+/// Returns the number of an order, or the number for "no order".
 fn number_of(order: Option<Order>) -> u64
-    ensures { result ≡ order_told order }
+    ensures { result ≡ order_number order }
 {
     match order {
         Some(order) => u64::from(order.get()),
@@ -28,9 +29,9 @@ fn number_of(order: Option<Order>) -> u64
     }
 }
 
-/// The order of a number, or none; refused where it stands for neither.
+/// Returns the order with this number, or `None` for the number that stands for "no order". Fails for any other number.
 fn order_or_none(number: u8) -> Result<Option<Order>, CallFault>
-    ensures { result ≡ order_meant number }
+    ensures { result ≡ order_with_number number }
 {
     if number == NO_ORDER {
         return Ok(None);
@@ -38,162 +39,186 @@ fn order_or_none(number: u8) -> Result<Option<Order>, CallFault>
     Ok(Some(order_of(number)?))
 }
 
-/// Copies a text to the front of a buffer, and tells its length; refused where the buffer is shorter.
-pub(crate) fn fill_text(text: &[u8], out: &mut [u8]) -> Outcome
+/// Copies a text to the front of a buffer, and returns its length. Fails if the buffer is too short.
+pub(crate) fn fill_text(text: &[u8], out: &mut [u8]) -> CallResult
     ensures { Fills text.now out.old out.new result }
 {
     let length = text.len();
     if out.len() < length {
-        return Outcome::of(CallFault::NoRoom { wanted: length });
+        return CallResult::of(CallFault::NoRoom { wanted: length });
     }
     out[..length].copy_from_slice(text);
-    Outcome::told(length as u64)
+    CallResult::number(length as u64)
 }
 
-impl Shelf {
-    /// Reads a text, and keeps the set that it says.
-    fn read(&mut self, alloc: Global, form: Form, text: &[u8]) -> Outcome
-        ensures { Reads form text.now self.old self.new result }
+impl CoverageTable {
+    /// Parses a text, and stores its set.
+    fn read(&mut self, alloc: Global, format: Format, text: &[u8]) -> CallResult
+        ensures { Reads format text.now self.old self.new result }
     {
-        match form.read(alloc, text) {
+        match format.read(alloc, text) {
             Ok((set, deepest)) => match self.put(set) {
-                Ok(key) => Outcome::told_both(key, number_of(deepest)),
-                Err(Memory) => Outcome::of(CallFault::Memory),
+                Ok(id) => CallResult::numbers(id, number_of(deepest)),
+                Err(Memory) => CallResult::of(CallFault::Memory),
             },
-            Err(error) => Outcome::of(CallFault::Form(error)),
+            Err(error) => CallResult::of(CallFault::Format(error)),
         }
     }
 
-    /// The text of a set in a form.
-    fn written(&self, alloc: Global, form: Form, key: u64, stated: u8) -> Result<String, CallFault>
-        ensures { WritesText form self.now key stated (bytes_made result) }
+    /// Returns the text of a set in a format.
+    fn text_of_set(
+        &self,
+        alloc: Global,
+        format: Format,
+        id: u64,
+        stated: u8,
+    ) -> Result<String, CallFault>
+        ensures { WritesText format self.now id stated (bytes_of_text result) }
     {
-        let set = self.set(key)?;
+        let set = self.set(id)?;
         let stated = order_or_none(stated)?;
-        Ok(form.write(alloc, set, stated)?)
+        Ok(format.write(alloc, set, stated)?)
     }
 
-    /// The figures of a set.
-    fn described(&self, alloc: Global, key: u64, deepest: u8) -> Result<String, CallFault>
-        ensures { DescribesText self.now key deepest (bytes_made result) }
+    /// Returns the statistics of a set as text.
+    fn statistics_of_set(&self, alloc: Global, id: u64, deepest: u8) -> Result<String, CallFault>
+        ensures { DescribesText self.now id deepest (bytes_of_text result) }
     {
-        let set = self.set(key)?;
+        let set = self.set(id)?;
         let deepest = order_or_none(deepest)?;
         Ok(describe(alloc, set, deepest)?)
     }
 
-    /// The picture of a set.
-    fn drawn(&self, alloc: Global, key: u64) -> Result<String, CallFault>
-        ensures { DrawsText self.now key (bytes_made result) }
+    /// Returns the picture of a set.
+    fn picture_of_set(&self, alloc: Global, id: u64) -> Result<String, CallFault>
+        ensures { DrawsText self.now id (bytes_of_text result) }
     {
-        let set = self.set(key)?;
+        let set = self.set(id)?;
         Ok(draw(alloc, set)?)
     }
 
-    /// Keeps a text that was made, and tells its length.
-    fn keep_made(&mut self, made: Result<String, CallFault>) -> Outcome
-        ensures { KeepsText self.old self.new (bytes_made made) result }
+    /// Keeps a new text, and returns its length.
+    fn keep_new_text(&mut self, made: Result<String, CallFault>) -> CallResult
+        ensures { KeepsText self.old self.new (bytes_of_text made) result }
     {
         match made {
             Ok(text) => {
                 let length = text.len() as u64;
                 self.keep_text(text);
-                Outcome::told(length)
+                CallResult::number(length)
             }
-            Err(fault) => Outcome::of(fault),
+            Err(fault) => CallResult::of(fault),
         }
     }
 }
 
-/// The set that an ASCII text says, at a new key, with the deepest order that the text names, or 255. Time and memory
-/// as `read_ascii` takes; refused at the first fault of the text, or where memory runs out.
-#[unsafe(no_mangle)]
-pub extern "C" fn moc_read_ascii(alloc: Global, desk: &mut Desk, text: &[u8]) -> Outcome
-    ensures { Reads Ascii text.now desk.old.contents desk.new.contents result }
-{
-    desk.shelf().read(alloc, Form::Ascii, text)
-}
-
-/// The set that a JSON text says; as `moc_read_ascii`.
-#[unsafe(no_mangle)]
-pub extern "C" fn moc_read_json(alloc: Global, desk: &mut Desk, text: &[u8]) -> Outcome
-    ensures { Reads Json text.now desk.old.contents desk.new.contents result }
-{
-    desk.shelf().read(alloc, Form::Json, text)
-}
-
-/// The set that a NUNIQ list says; as `moc_read_ascii`. A list names no order.
-#[unsafe(no_mangle)]
-pub extern "C" fn moc_read_uniq(alloc: Global, desk: &mut Desk, text: &[u8]) -> Outcome
-    ensures { Reads Uniq text.now desk.old.contents desk.new.contents result }
-{
-    desk.shelf().read(alloc, Form::Uniq, text)
-}
-
-/// Makes the ASCII text of a set, ended by a line feed, and tells its length; 255 states no order. Time and memory as
-/// `write_ascii` takes.
+/// Parses an ASCII text, stores its set under a new id, and returns the id and the MOC order of the text, or 255 if the
+/// text names no order.
 ///
-/// Refused for a key without a set, for an order above 29, where a cell is deeper than the order, or where memory
-/// runs out.
-#[unsafe(no_mangle)]
-pub extern "C" fn moc_write_ascii(alloc: Global, desk: &mut Desk, a: u64, stated: u8) -> Outcome
-    ensures { KeepsMade desk.old.contents desk.new.contents (WritesText Ascii desk.old.contents a stated) result }
-{
-    let shelf = desk.shelf();
-    let made = shelf.written(alloc, Form::Ascii, a, stated);
-    shelf.keep_made(made)
-}
-
-/// Makes the JSON text of a set; as `moc_write_ascii`.
-#[unsafe(no_mangle)]
-pub extern "C" fn moc_write_json(alloc: Global, desk: &mut Desk, a: u64, stated: u8) -> Outcome
-    ensures { KeepsMade desk.old.contents desk.new.contents (WritesText Json desk.old.contents a stated) result }
-{
-    let shelf = desk.shelf();
-    let made = shelf.written(alloc, Form::Json, a, stated);
-    shelf.keep_made(made)
-}
-
-/// Makes the NUNIQ list of a set, a line for each number; as `moc_write_ascii`. A list states no order.
-#[unsafe(no_mangle)]
-pub extern "C" fn moc_write_uniq(alloc: Global, desk: &mut Desk, a: u64) -> Outcome
-    ensures { KeepsMade desk.old.contents desk.new.contents (WritesText Uniq desk.old.contents a 255) result }
-{
-    let shelf = desk.shelf();
-    let made = shelf.written(alloc, Form::Uniq, a, NO_ORDER);
-    shelf.keep_made(made)
-}
-
-/// Makes the figures of a set, with the deepest order that its text named, or 255, and tells their length. Takes the
-/// memory of the set's cells, and goes over them once.
+/// # Errors
+/// Fails with the first error of the text, or if an allocation fails.
 ///
-/// Refused for a key without a set, for an order above 29, or where memory runs out.
+/// # Complexity
+/// As `read_ascii`.
 #[unsafe(no_mangle)]
-pub extern "C" fn moc_describe(alloc: Global, desk: &mut Desk, a: u64, deepest: u8) -> Outcome
-    ensures { KeepsMade desk.old.contents desk.new.contents (DescribesText desk.old.contents a deepest) result }
+pub extern "C" fn moc_read_ascii(alloc: Global, store: &mut Store, text: &[u8]) -> CallResult
+    ensures { Reads Ascii text.now store.old.contents store.new.contents result }
 {
-    let shelf = desk.shelf();
-    let made = shelf.described(alloc, a, deepest);
-    shelf.keep_made(made)
+    store.table().read(alloc, Format::Ascii, text)
 }
 
-/// Makes the picture of a set as SVG, and tells its length. Takes the memory of the set's cells; refused for a key
-/// without a set, or where memory runs out.
+/// Parses a JSON text. As `moc_read_ascii`.
 #[unsafe(no_mangle)]
-pub extern "C" fn moc_draw(alloc: Global, desk: &mut Desk, a: u64) -> Outcome
-    ensures { KeepsMade desk.old.contents desk.new.contents (DrawsText desk.old.contents a) result }
+pub extern "C" fn moc_read_json(alloc: Global, store: &mut Store, text: &[u8]) -> CallResult
+    ensures { Reads Json text.now store.old.contents store.new.contents result }
 {
-    let shelf = desk.shelf();
-    let made = shelf.drawn(alloc, a);
-    shelf.keep_made(made)
+    store.table().read(alloc, Format::Json, text)
 }
 
-/// Copies the text that was made last to the front of a buffer, and tells its length; refused where the buffer is
-/// shorter.
+/// Parses a NUNIQ list. As `moc_read_ascii`; a list names no order.
 #[unsafe(no_mangle)]
-pub extern "C" fn moc_text(desk: &mut Desk, out: &mut [u8]) -> Outcome
-    ensures text { Fills desk.old.contents.text out.old out.new result }
-    ensures same { desk.new.contents ≡ desk.old.contents }
+pub extern "C" fn moc_read_uniq(alloc: Global, store: &mut Store, text: &[u8]) -> CallResult
+    ensures { Reads Uniq text.now store.old.contents store.new.contents result }
 {
-    fill_text(desk.shelf().text(), out)
+    store.table().read(alloc, Format::Uniq, text)
+}
+
+/// Writes the ASCII text of a set, ended by a line feed, and returns its length. The order 255 states no order. The
+/// store keeps the text until the next one is written; `moc_text` copies it.
+///
+/// # Errors
+/// Fails if the id has no set, for an order above 29 other than 255, if a cell is deeper than the order, or if an
+/// allocation fails.
+///
+/// # Complexity
+/// As `write_ascii`.
+#[unsafe(no_mangle)]
+pub extern "C" fn moc_write_ascii(
+    alloc: Global,
+    store: &mut Store,
+    a: u64,
+    stated: u8,
+) -> CallResult
+    ensures { KeepsNewText store.old.contents store.new.contents (WritesText Ascii store.old.contents a stated) result }
+{
+    let table = store.table();
+    let made = table.text_of_set(alloc, Format::Ascii, a, stated);
+    table.keep_new_text(made)
+}
+
+/// Writes the JSON text of a set. As `moc_write_ascii`.
+#[unsafe(no_mangle)]
+pub extern "C" fn moc_write_json(alloc: Global, store: &mut Store, a: u64, stated: u8) -> CallResult
+    ensures { KeepsNewText store.old.contents store.new.contents (WritesText Json store.old.contents a stated) result }
+{
+    let table = store.table();
+    let made = table.text_of_set(alloc, Format::Json, a, stated);
+    table.keep_new_text(made)
+}
+
+/// Writes the NUNIQ list of a set, one number a line. As `moc_write_ascii`; a list states no order.
+#[unsafe(no_mangle)]
+pub extern "C" fn moc_write_uniq(alloc: Global, store: &mut Store, a: u64) -> CallResult
+    ensures { KeepsNewText store.old.contents store.new.contents (WritesText Uniq store.old.contents a 255) result }
+{
+    let table = store.table();
+    let made = table.text_of_set(alloc, Format::Uniq, a, NO_ORDER);
+    table.keep_new_text(made)
+}
+
+/// Writes the statistics of a set, with the MOC order of its text or 255, and returns their length. `moc_text` copies
+/// the text.
+///
+/// # Errors
+/// Fails if the id has no set, for an order above 29 other than 255, or if an allocation fails.
+///
+/// # Memory
+/// Allocates a list of the set's cells, and passes over it once.
+#[unsafe(no_mangle)]
+pub extern "C" fn moc_describe(alloc: Global, store: &mut Store, a: u64, deepest: u8) -> CallResult
+    ensures { KeepsNewText store.old.contents store.new.contents (DescribesText store.old.contents a deepest) result }
+{
+    let table = store.table();
+    let made = table.statistics_of_set(alloc, a, deepest);
+    table.keep_new_text(made)
+}
+
+/// Writes a picture of the set as SVG, and returns its length. `moc_text` copies the text. Allocates a list of the
+/// set's cells. Fails if the id has no set, or if an allocation fails.
+#[unsafe(no_mangle)]
+pub extern "C" fn moc_draw(alloc: Global, store: &mut Store, a: u64) -> CallResult
+    ensures { KeepsNewText store.old.contents store.new.contents (DrawsText store.old.contents a) result }
+{
+    let table = store.table();
+    let made = table.picture_of_set(alloc, a);
+    table.keep_new_text(made)
+}
+
+/// Copies the last text to the front of a buffer, and returns its length. Fails if the buffer is too short.
+#[unsafe(no_mangle)]
+pub extern "C" fn moc_text(store: &mut Store, out: &mut [u8]) -> CallResult
+    ensures text { Fills store.old.contents.text out.old out.new result }
+    ensures same { store.new.contents ≡ store.old.contents }
+{
+    fill_text(store.table().text(), out)
 }

@@ -1,5 +1,5 @@
-//! The help texts: that of the program whole, that of a subcommand from below its usage line. Lines have at most 80
-//! columns, and `tests/pages.py` runs the command after each `Example:`.
+//! The help texts: the whole text of `moc --help`, and the text of a subcommand from below its usage line. Lines have
+//! at most 80 columns, and `tests/pages.py` runs the command after each `Example:`.
 
 /// The text of `moc --help`. The line of each subcommand is the first line of its help.
 pub const OVERVIEW: &str = "\
@@ -57,7 +57,7 @@ pub enum Topic {
     Near,
     Cell,
     Check,
-    Figures,
+    Statistics,
     Picture,
     Conversion,
     Combination,
@@ -80,7 +80,7 @@ impl Topic {
             Topic::Near => NEAR,
             Topic::Cell => CELL,
             Topic::Check => CHECK,
-            Topic::Figures => FIGURES,
+            Topic::Statistics => STATISTICS,
             Topic::Picture => PICTURE,
             Topic::Conversion => CONVERSION,
             Topic::Combination => COMBINATION,
@@ -246,7 +246,7 @@ writes to standard error
   byte 8, line 2, byte 2 of it: `2/7-5`";
 
 /// The text of `moc describe --help` below the usage line.
-const FIGURES: &str = "\
+const STATISTICS: &str = "\
 Prints one line each for the deepest order that the text names, the number of
 pixels (cells of order 29), their share of the sky with twelve digits, the
 number of ranges of pixels, the number of cells, and the number of cells of each

@@ -1,11 +1,11 @@
-//! The command line of the program `moc`: its words, what follows each, and what help says of them.
+//! The command line of the program `moc`: its subcommands, their arguments, and their help.
 #![tactic(auto)]
 
 mod commands;
-mod guesses;
 mod help;
-mod words;
+mod subcommands;
+mod suggestions;
 
 pub use commands::command_line;
-pub use guesses::meant;
 pub use help::FAULTS;
+pub use suggestions::suggest;

@@ -9,42 +9,42 @@ use Rattle.std.proofs.lemmas.List.Sums.{position_or_len_is}
 use Rattle.moc_forms.specs.Combining.{are_blanks}
 use Rattle.moc_text.specs.Lines.{is_semicolon}
 use Rattle.moc_conversion.specs.Conversion.{second_text}
-use Rattle.moc_conversion.specs.Private.Pieces.{LacksSemicolons}
+use Rattle.moc_conversion.specs.Private.Pieces.{HasNoSemicolon}
 
-place_of : (first behind : List ℕ) → LacksSemicolons first → position_or_len is_semicolon (first ++ 59 ∷ behind) ≡ length first
-place_of first behind lacks =
-    position_or_len_is is_semicolon (first ++ 59 ∷ behind) (length first) 0 (omega (arith, length-append first (59 ∷ behind)))
-    (λ k below. ap is_semicolon (get_or-append first (59 ∷ behind) 0 k below) ∙ lacks k 0 below)
-    (λ _. ap is_semicolon (get_or-append_seam first 59 behind 0))
+place_of : (first following : List ℕ) → HasNoSemicolon first → position_or_len is_semicolon (first ++ 59 ∷ following) ≡ length first
+place_of first following no_semicolon =
+    position_or_len_is is_semicolon (first ++ 59 ∷ following) (length first) 0 (omega (arith, length-append first (59 ∷ following)))
+    (λ k below. ap is_semicolon (get_or-append first (59 ∷ following) 0 k below) ∙ no_semicolon k 0 below)
+    (λ _. ap is_semicolon (get_or-append_seam first 59 following 0))
 
-no_place : (bytes : List ℕ) → LacksSemicolons bytes → position_or_len is_semicolon bytes ≡ length bytes
-no_place bytes lacks = position_or_len_is is_semicolon bytes (length bytes) 0 (omega arith) (λ k below. lacks k 0 below) (λ below. absurd (omega (arith, below)))
+no_place : (bytes : List ℕ) → HasNoSemicolon bytes → position_or_len is_semicolon bytes ≡ length bytes
+no_place bytes no_semicolon = position_or_len_is is_semicolon bytes (length bytes) 0 (omega arith) (λ k below. no_semicolon k 0 below) (λ below. absurd (omega (arith, below)))
 
--- what stands behind a semicolon, if it is more than blanks
-abbrev told_behind : List ℕ → Option (List ℕ)
-told_behind behind = if are_blanks behind then None else Some behind
+-- the bytes after a semicolon, unless they are blank
+abbrev text_after : List ℕ → Option (List ℕ)
+text_after following = if are_blanks following then None else Some following
 
 -- bytes without a semicolon are one text
-pub alone_first : (bytes : List ℕ) → LacksSemicolons bytes → before_first is_semicolon bytes ≡ bytes
-alone_first bytes lacks = ap (λ n. take n bytes) (no_place bytes lacks) ∙ take_all (length bytes) bytes (omega arith)
+pub alone_first : (bytes : List ℕ) → HasNoSemicolon bytes → before_first is_semicolon bytes ≡ bytes
+alone_first bytes no_semicolon = ap (λ n. take n bytes) (no_place bytes no_semicolon) ∙ take_all (length bytes) bytes (omega arith)
 
-pub alone_second : (bytes : List ℕ) → LacksSemicolons bytes → second_text bytes ≡ None
-alone_second bytes lacks =
-    ap told_behind (ap (λ n. drop (n + 1) bytes) (no_place bytes lacks) ∙ drop_all (length bytes + 1) bytes (omega arith))
+pub alone_second : (bytes : List ℕ) → HasNoSemicolon bytes → second_text bytes ≡ None
+alone_second bytes no_semicolon =
+    ap text_after (ap (λ n. drop (n + 1) bytes) (no_place bytes no_semicolon) ∙ drop_all (length bytes + 1) bytes (omega arith))
 
--- and others are parted by the first one
-module _ (bytes first behind : List ℕ) (lacks : LacksSemicolons first) (are : bytes ≡ first ++ 59 ∷ behind) where
+-- and others are split at the first one
+module _ (bytes first following : List ℕ) (no_semicolon : HasNoSemicolon first) (are : bytes ≡ first ++ 59 ∷ following) where
   place : position_or_len is_semicolon bytes ≡ length first
-  place = ap (λ all. position_or_len is_semicolon all) are ∙ place_of first behind lacks
+  place = ap (λ all. position_or_len is_semicolon all) are ∙ place_of first following no_semicolon
 
-  pub parted_first : before_first is_semicolon bytes ≡ first
-  parted_first = ap (λ n. take n bytes) place ∙ ap (λ all. take (length first) all) are ∙ take-append_seam first (59 ∷ behind)
+  pub split_first : before_first is_semicolon bytes ≡ first
+  split_first = ap (λ n. take n bytes) place ∙ ap (λ all. take (length first) all) are ∙ take-append_seam first (59 ∷ following)
 
-  parted_behind : after_first is_semicolon bytes ≡ behind
-  parted_behind = ap (λ n. drop (n + 1) bytes) place ∙ ap (λ all. drop (length first + 1) all) are ∙ drop-append-add first (59 ∷ behind) 1
+  split_after : after_first is_semicolon bytes ≡ following
+  split_after = ap (λ n. drop (n + 1) bytes) place ∙ ap (λ all. drop (length first + 1) all) are ∙ drop-append-add first (59 ∷ following) 1
 
-  pub parted_none : are_blanks behind ≡ true → second_text bytes ≡ None
-  parted_none blank = ap told_behind parted_behind ∙ ap (λ b. if b then None else Some behind) blank
+  pub split_none : are_blanks following ≡ true → second_text bytes ≡ None
+  split_none blank = ap text_after split_after ∙ ap (λ b. if b then None else Some following) blank
 
-  pub parted_second : are_blanks behind ≡ false → second_text bytes ≡ Some behind
-  parted_second written = ap told_behind parted_behind ∙ ap (λ b. if b then None else Some behind) written
+  pub split_second : are_blanks following ≡ false → second_text bytes ≡ Some following
+  split_second written = ap text_after split_after ∙ ap (λ b. if b then None else Some following) written

@@ -6,9 +6,9 @@ use Rattle.moc_devices.specs.Devices.{Writing, Accepts, Sends}
 use Rattle.moc_devices.specs.Lemmas.{Accepts-trans}
 
 -- a first part was written whole, and a second one up to a rest
-pub Sends-behind : {E : Type 0} (first second : List ℕ) (a b c : Writing) (result : Result (Unit {0}) E) → Accepts a b first → Sends second b [] c result
+pub Sends-following : {E : Type 0} (first second : List ℕ) (a b c : Writing) (result : Result (Unit {0}) E) → Accepts a b first → Sends second b [] c result
     → Sends (first ++ second) a [] c result
-Sends-behind first second a b c result whole sends = record {
+Sends-following first second a b c result whole sends = record {
   sent = first ++ sends.sent;
   rest = sends.rest;
   parts = ap (λ l. first ++ l) sends.parts ∙ sym (append_assoc first sends.sent sends.rest);
@@ -35,7 +35,7 @@ pub none_of : {T : Type 0} (o : Option T) → ((t : T) → o ≡ Some t → ⊥)
 none_of None other = refl
 none_of (Some t) other = absurd (other t refl)
 
--- behind a text that was written: a second one, if there is one
+-- after a text that was written: a second one, if there is one
 module _ {T : Type 0} (text_of : T → List ℕ) (first : List ℕ) (o : Option T) (a b : Writing) (whole : Accepts a b first) where
   pub Accepts-some : (t : T) (c : Writing) → o ≡ Some t → Accepts b c (text_of t) → Accepts a c (first ++ option_map_or text_of o [])
   Accepts-some t c is more = rw is (Accepts-trans a b c first (text_of t) whole more)
@@ -45,7 +45,7 @@ module _ {T : Type 0} (text_of : T → List ℕ) (first : List ℕ) (o : Option 
 
   pub Sends-some : {E : Type 0} (t : T) (c : Writing) (result : Result (Unit {0}) E) → o ≡ Some t → Sends (text_of t) b [] c result
       → Sends (first ++ option_map_or text_of o []) a [] c result
-  Sends-some t c result is sends = rw is (Sends-behind first (text_of t) a b c result whole sends)
+  Sends-some t c result is sends = rw is (Sends-following first (text_of t) a b c result whole sends)
 
   pub Sends-no : {E : Type 0} → o ≡ None → Sends {E = E} (first ++ option_map_or text_of o []) a [] b (Ok tt)
   Sends-no is = record { sent = first ++ option_map_or text_of o []; rest = []; parts = sym (append-nil _); appended = Accepts-no is; pending = refl }

@@ -1,128 +1,136 @@
--- Texts of coverages, from the input: converted, described, drawn, changed, checked.
+-- Coverages of an input: converted, described, drawn, changed, checked.
 use Rattle.std.specs.Prelude.{◌≡◌, ℕ, ◌<◌, ◌≤◌, ◌⊎◌, if◌then◌else◌, List, length, Option, None, Some, option_map}
 use Rattle.std.specs.Prelude.{string_bytes}
 use Rattle.std.specs.List.{after_first, before_first}
 use Rattle.moc_devices.specs.Devices.{Reading, Delivers, IsEnded}
 use Rattle.moc_forms.specs.Changing.{changed_order, changed_set}
-use Rattle.moc_forms.specs.Combining.{TextSays, are_blanks}
-use Rattle.moc_forms.specs.declared.combining.Said.{Said}
+use Rattle.moc_forms.specs.Combining.{TextRepresents, are_blanks}
+use Rattle.moc_forms.specs.declared.combining.ParsedCoverage.{ParsedCoverage}
 use Rattle.moc_text.specs.Lines.{is_semicolon}
 use Rattle.moc_forms.specs.Describing.{Describes}
 use Rattle.moc_forms.specs.Drawing.{picture_of, picture_of_two}
-use Rattle.moc_forms.specs.Finding.{form_for, hint_of}
-use Rattle.moc_forms.specs.Forms.{IsFormFault, form_text}
+use Rattle.moc_forms.specs.Finding.{format_for, hint_of}
+use Rattle.moc_forms.specs.Formats.{IsFirstFormatError, format_text}
 use Rattle.moc_forms.specs.Places.{IsPlace}
-use Rattle.moc_forms.specs.Quotes.{IsTold}
+use Rattle.moc_forms.specs.Quotes.{IsPositionLine}
 use Rattle.moc_forms.specs.declared.changing.Change.{Change}
-use Rattle.moc_forms.specs.declared.finding.Choice.{Choice}
-use Rattle.moc_forms.specs.declared.finding.Choice.TheVariants.{Named}
-use Rattle.moc_forms.specs.declared.form.Form.{Form}
-use Rattle.moc_forms.specs.declared.form.FormError.{FormError}
+use Rattle.moc_forms.specs.declared.finding.FormatChoice.{FormatChoice}
+use Rattle.moc_forms.specs.declared.finding.FormatChoice.TheVariants.{Named}
+use Rattle.moc_forms.specs.declared.format.Format.{Format}
+use Rattle.moc_forms.specs.declared.format.FormatError.{FormatError}
 use Rattle.moc_forms.specs.declared.place.Place.{Place}
-use Rattle.moc_conversion.specs.Faults.{want_of_memory}
-use Rattle.moc_conversion.specs.declared.complaint.Complaint.{Complaint}
-use Rattle.moc_conversion.specs.declared.fault.InputFault.{InputFault}
-use Rattle.moc_conversion.specs.declared.fault.InputFault.TheVariants as fault
+use Rattle.moc_conversion.specs.Faults.{out_of_memory}
+use Rattle.moc_conversion.specs.declared.diagnostic.InputDiagnostic.{InputDiagnostic}
+use Rattle.moc_conversion.specs.declared.fault.InputError.{InputError}
+use Rattle.moc_conversion.specs.declared.fault.InputError.TheVariants as fault
 
--- the most bytes of a text
+-- the maximal number of bytes of a text
 abbrev pub input_limit : ℕ
 input_limit = 16777216
 
--- such bytes of what was left were read
+-- the bytes that were read of what was left have a property
 abbrev pub HasRead : (List ℕ → Type 0) → Reading → Reading → Type 0
 HasRead is left left' = (given : List ℕ) × Delivers left left' given × is given
 
--- all that was left was read, and it is such a text, no longer than an input may be
+-- everything left was read, it is no longer than an input may be, and it has a property
 abbrev pub IsAll : (List ℕ → Type 0) → Reading → Reading → Type 0
 IsAll is left left' = HasRead (λ text. IsEnded left' × (length text ≤ input_limit) × is text) left left'
 
--- the input says this, read in a form of this choice
-abbrev pub SaysAll : Choice → Reading → Reading → Said → Type 0
-SaysAll choice left left' said = IsAll (λ text. TextSays choice text said) left left'
+-- the input, read in the chosen format, is this coverage
+abbrev pub InputRepresents : FormatChoice → Reading → Reading → ParsedCoverage → Type 0
+InputRepresents choice left left' parsed = IsAll (λ text. TextRepresents choice text parsed) left left'
 
--- the input says a set
-abbrev pub IsSaid : Choice → Reading → Reading → Type 0
-IsSaid choice left left' = (said : Said) × SaysAll choice left left' said
+-- the input is a valid coverage
+abbrev pub IsValidInput : FormatChoice → Reading → Reading → Type 0
+IsValidInput choice left left' = (parsed : ParsedCoverage) × InputRepresents choice left left' parsed
 
--- such a text is made of what the input says
-abbrev pub MakesAll :
-    (Said → List ℕ → Type 0) → Choice → Reading → Reading → List ℕ → Type 0
-MakesAll makes choice left left' text = (said : Said) × SaysAll choice left left' said × makes said text
+-- the text is made from the coverage of the input
+abbrev pub MakesFromInput :
+    (ParsedCoverage → List ℕ → Type 0) → FormatChoice → Reading → Reading → List ℕ → Type 0
+MakesFromInput makes choice left left' text =
+    (parsed : ParsedCoverage) × InputRepresents choice left left' parsed × makes parsed text
 
--- the text in one form of the set which the input says in the other, with the deepest order that it names stated
-abbrev pub ConvertsAll : Form → Form → Reading → Reading → List ℕ → Type 0
-ConvertsAll from to = MakesAll (λ said text. text ≡ form_text to said.set said.deepest) (Named from)
+-- the text in one format of the coverage that the input is in the other, with the MOC order that it states
+abbrev pub ConvertsAll : Format → Format → Reading → Reading → List ℕ → Type 0
+ConvertsAll from to = MakesFromInput (λ parsed text. text ≡ format_text to parsed.set parsed.deepest) (Named from)
 
--- the text, in the same form, of a change of the set which the input says, with the order stated of that
-abbrev pub ChangesAll : Change → Choice → Reading → Reading → List ℕ → Type 0
+-- the text, in the same format, of a change of the coverage of the input, with the MOC order that is stated for the
+-- result
+abbrev pub ChangesAll : Change → FormatChoice → Reading → Reading → List ℕ → Type 0
 ChangesAll change =
-    MakesAll (λ said text. text ≡ form_text said.form (changed_set change said.set) (changed_order change said.deepest))
+    MakesFromInput (λ parsed text.
+    text ≡ format_text parsed.format (changed_set change parsed.set) (changed_order change parsed.deepest))
 
--- the text has the figures of the set which the input says
-abbrev pub DescribesAll : Choice → Reading → Reading → List ℕ → Type 0
-DescribesAll = MakesAll (λ said text. Describes said.set said.deepest text)
+-- the text has the statistics of the coverage of the input
+abbrev pub DescribesAll : FormatChoice → Reading → Reading → List ℕ → Type 0
+DescribesAll = MakesFromInput (λ parsed text. Describes parsed.set parsed.deepest text)
 
--- the second text of a picture: the bytes behind the first semicolon, if they are more than blanks
+-- the second text of a picture: the bytes after the first semicolon, unless they are blank
 abbrev pub second_text : List ℕ → Option (List ℕ)
 second_text bytes =
-    let behind = after_first is_semicolon bytes in
-    if are_blanks behind then None else Some behind
+    let following = after_first is_semicolon bytes in
+    if are_blanks following then None else Some following
 
--- a picture is that of the set which a text says, or of those which two texts say
-abbrev pub IsPictureOf : Choice → List ℕ → Option (List ℕ) → List ℕ → Type 0
-IsPictureOf choice first None picture = (said : Said) × TextSays choice first said × (picture ≡ picture_of said.set)
+-- the picture of the coverage of one text, or of the coverages of two texts
+abbrev pub IsPictureOf : FormatChoice → List ℕ → Option (List ℕ) → List ℕ → Type 0
+IsPictureOf choice first None picture =
+    (parsed : ParsedCoverage) × TextRepresents choice first parsed × (picture ≡ picture_of parsed.set)
 IsPictureOf choice first (Some second) picture =
-    (one other : Said) × TextSays choice first one × TextSays choice second other
+    (one other : ParsedCoverage) × TextRepresents choice first one × TextRepresents choice second other
     × (picture ≡ picture_of_two one.set other.set)
 
--- the picture is that of the texts that the input is: the bytes before its first semicolon, or all, and the second text
-abbrev pub DrawsAll : Choice → Reading → Reading → List ℕ → Type 0
+-- the picture of the texts of the input: the bytes before its first semicolon, or all, and the second text
+abbrev pub DrawsAll : FormatChoice → Reading → Reading → List ℕ → Type 0
 DrawsAll choice left left' picture =
     IsAll (λ text. IsPictureOf choice (before_first is_semicolon text) (second_text text) picture) left left'
 
--- it tells the first fault of a text, counted or not, its place, what stands there and which other form it looks like
-pub record TellsFault (form : Form) (text : List ℕ) (number : Option ℕ) (c : Complaint) : Type 0 where
-  pub error : FormError
-  pub is_fault : IsFormFault form text error
-  pub told : c.fault ≡ fault.Form error
+-- the diagnostic reports the first error of a text, with its number if texts are counted, its position, a quote, and
+-- the other format that it looks like
+pub record ReportsError (format : Format) (text : List ℕ) (number : Option ℕ) (c : InputDiagnostic) : Type 0 where
+  pub error : FormatError
+  pub is_error : IsFirstFormatError format text error
+  pub reported : c.fault ≡ fault.Format error
   pub place : Option Place
   pub is_place : IsPlace text error place
-  pub line : IsTold number text error place (option_map string_bytes c.place_line)
-  pub hint : c.hint ≡ hint_of form text
+  pub line : IsPositionLine number text error place (option_map string_bytes c.place_line)
+  pub hint : c.hint ≡ hint_of format text
 
--- the complaint is a fault alone, without a place and without a hint
-abbrev pub IsAlone : (InputFault → Type 0) → Complaint → Type 0
-IsAlone is c = (c.place_line ≡ None) × (c.hint ≡ None) × is c.fault
+-- the diagnostic is an error alone, without a position and without a hint
+abbrev pub IsErrorAlone : (InputError → Type 0) → InputDiagnostic → Type 0
+IsErrorAlone is c = (c.place_line ≡ None) × (c.hint ≡ None) × is c.fault
 
--- the complaint is that memory ran out
-abbrev pub IsOutOfMemory : Complaint → Type 0
-IsOutOfMemory = IsAlone (λ f. f ≡ want_of_memory)
+-- the diagnostic is an allocation failure
+abbrev pub IsOutOfMemory : InputDiagnostic → Type 0
+IsOutOfMemory = IsErrorAlone (λ f. f ≡ out_of_memory)
 
--- the input was not read whole: the reader failed, or the input is too long, or memory ran out
-abbrev pub IsOfWhole : Reading → Reading → InputFault → Type 0
-IsOfWhole left left' f =
+-- the input was not read to its end: the reader failed, or the input is too long, or an allocation failed
+abbrev pub FailsReading : Reading → Reading → InputError → Type 0
+FailsReading left left' f =
     (f ≡ fault.Read) ⊎ ((f ≡ fault.TooLong) × HasRead (λ given. input_limit < length given) left left')
-    ⊎ (f ≡ want_of_memory)
+    ⊎ (f ≡ out_of_memory)
 
--- why the input was not converted: it was not read whole, or its text has this fault; the fault is reported alone
-abbrev pub IsNotConverted : Form → Reading → Reading → Complaint → Type 0
-IsNotConverted form left left' = IsAlone (λ f. IsOfWhole left left' f
-    ⊎ IsAll (λ text. (e : FormError) × IsFormFault form text e × (f ≡ fault.Form e)) left left')
+-- why the input was not converted: it was not read to its end, or its text has this error; the error is reported alone
+abbrev pub IsNotConverted : Format → Reading → Reading → InputDiagnostic → Type 0
+IsNotConverted format left left' = IsErrorAlone (λ f. FailsReading left left' f
+    ⊎ IsAll (λ text. (e : FormatError) × IsFirstFormatError format text e × (f ≡ fault.Format e)) left left')
 
--- why the input is not a coverage: it was not read whole, which is reported alone, or its text has this error there
-abbrev pub IsNotSaid : Choice → Reading → Reading → Complaint → Type 0
-IsNotSaid choice left left' c =
-    IsAlone (IsOfWhole left left') c ⊎ IsAll (λ text. TellsFault (form_for choice text) text None c) left left'
+-- why the input is not a coverage: it was not read to its end, which is reported alone, or its text has this error at
+-- this position
+abbrev pub FailsParsing : FormatChoice → Reading → Reading → InputDiagnostic → Type 0
+FailsParsing choice left left' c =
+    IsErrorAlone (FailsReading left left') c
+    ⊎ IsAll (λ text. ReportsError (format_for choice text) text None c) left left'
 
--- of the texts of a picture, which are counted where there are two, the complaint tells the first that says no set
-abbrev pub TellsTexts : Choice → List ℕ → Option (List ℕ) → Complaint → Type 0
-TellsTexts choice first None c = TellsFault (form_for choice first) first None c
-TellsTexts choice first (Some second) c =
-    TellsFault (form_for choice first) first (Some 1) c
-    ⊎ (((said : Said) × TextSays choice first said) × TellsFault (form_for choice second) second (Some 2) c)
+-- the diagnostic reports the first invalid text of a picture; texts are counted if there are two
+abbrev pub ReportsFirstOfTexts : FormatChoice → List ℕ → Option (List ℕ) → InputDiagnostic → Type 0
+ReportsFirstOfTexts choice first None c = ReportsError (format_for choice first) first None c
+ReportsFirstOfTexts choice first (Some second) c =
+    ReportsError (format_for choice first) first (Some 1) c
+    ⊎ (((parsed : ParsedCoverage) × TextRepresents choice first parsed)
+    × ReportsError (format_for choice second) second (Some 2) c)
 
--- why the input was not drawn: it was not read whole, which is reported alone, or one of its texts has this fault
-abbrev pub IsNotDrawn : Choice → Reading → Reading → Complaint → Type 0
+-- why the input was not drawn: it was not read to its end, which is reported alone, or one of its texts has this error
+abbrev pub IsNotDrawn : FormatChoice → Reading → Reading → InputDiagnostic → Type 0
 IsNotDrawn choice left left' c =
-    IsAlone (IsOfWhole left left') c
-    ⊎ IsAll (λ text. TellsTexts choice (before_first is_semicolon text) (second_text text) c) left left'
+    IsErrorAlone (FailsReading left left') c
+    ⊎ IsAll (λ text. ReportsFirstOfTexts choice (before_first is_semicolon text) (second_text text) c) left left'

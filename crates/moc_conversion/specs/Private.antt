@@ -1,3 +1,3 @@
--- Words that contracts of private functions alone cite.
+-- Definitions that only contracts of private functions use.
 pub mod Pieces
 pub mod Running

@@ -1,33 +1,41 @@
-//! Texts of coverages, from the input: converted, described, changed, checked.
+//! Conversion, description, change and check of the coverage of an input.
 ghost use Rattle.std.specs.Prelude.{◌≡◌, ◌↔◌, false, IfErr, IfOk, IsErrAnd, IsTrue, OnOk};
 ghost use Rattle.std.specs.String.{string_bytes};
 ghost use Rattle.moc_conversion.specs.Conversion.{ChangesAll, ConvertsAll, DescribesAll};
-ghost use Rattle.moc_conversion.specs.Conversion.{IsNotConverted, IsNotSaid, IsSaid};
+ghost use Rattle.moc_conversion.specs.Conversion.{IsNotConverted, FailsParsing, IsValidInput};
 
-use crate::complaint::Complaint;
-use crate::fault::InputFault;
+use crate::diagnostic::InputDiagnostic;
+use crate::fault::InputError;
+use crate::parsing::{parse_input, text_of};
 use crate::reading::read_whole;
-use crate::saying::{input_says, text_of};
 use moc_devices::Source;
-use moc_forms::{Change, Choice, Form, describe};
+use moc_forms::{Change, Format, FormatChoice, describe};
 use std::alloc::Global;
 
-/// The text in one form of the coverage that the input has in another. The deepest order that it names is stated. Else
-/// the complaint is of the fault alone.
+/// Converts the coverage of the input from one format to another. States the MOC order that the text states. An error
+/// is reported without a position.
 ///
-/// Reads the input to its end; refused with `Read` where that fails, with `TooLong` above 16,777,216 bytes, with the
-/// first fault of the text, or with `FormError::Memory`. Time as the form's reader and the other's writer take, O(n log
-/// n) for n cells, or O(n) where they rise; memory linear in the input and in what is made of it. Wants an input of
-/// which no call has failed.
+/// Requires that no call of the input has failed before. Reads the input to its end.
+///
+/// # Errors
+/// Fails with `Read` if reading fails, with `TooLong` above 16,777,216 bytes, with the first error of the text, or with
+/// `FormatError::Memory`.
+///
+/// # Complexity
+/// Time of the reader of one format and the writer of the other: O(n log n) for n cells, or O(n) if the cells are
+/// sorted.
+///
+/// # Memory
+/// Linear in the length of the input and the output.
 pub fn convert_input<R: Source>(
     alloc: Global,
-    from: Form,
-    to: Form,
+    from: Format,
+    to: Format,
     input: &mut R,
-) -> Result<String, Complaint>
+) -> Result<String, InputDiagnostic>
     requires { R.mark input.old ≡ false }
-    ensures read { IsErrAnd result (λ c. c.fault ≡ InputFault.Read) ↔ IsTrue (R.mark input.new) }
-    ensures fault { IfErr result (λ c. IsNotConverted from (R.reading input.old) (R.reading input.new) c) }
+    ensures read { IsErrAnd result (λ c. c.fault ≡ InputError.Read) ↔ IsTrue (R.mark input.new) }
+    ensures error { IfErr result (λ c. IsNotConverted from (R.reading input.old) (R.reading input.new) c) }
     ensures converts { IfOk result (λ t.
         ConvertsAll from to (R.reading input.old) (R.reading input.new) (string_bytes t)) }
 {
@@ -36,60 +44,93 @@ pub fn convert_input<R: Source>(
     Ok(text_of(alloc, to, &set, deepest)?)
 }
 
-/// The figures of the coverage that the input has.
+/// Returns the statistics of the coverage of the input.
 ///
-/// Reads the input to its end; refused with `Read` where that fails, with `TooLong` above 16,777,216 bytes, with the
-/// first fault of the text, or with `FormError::Memory`. Time as the form's reader and `describe` take; memory linear
-/// in the input and in what is made of it. Wants an input of which no call has failed.
+/// Requires that no call of the input has failed before. Reads the input to its end.
+///
+/// # Errors
+/// Fails with `Read` if reading fails, with `TooLong` above 16,777,216 bytes, with the first error of the text, or with
+/// `FormatError::Memory`.
+///
+/// # Complexity
+/// Time of the format's reader and `describe`.
+///
+/// # Memory
+/// Linear in the length of the input and the output.
 pub fn describe_input<R: Source>(
     alloc: Global,
-    choice: Choice,
+    choice: FormatChoice,
     input: &mut R,
-) -> Result<String, Complaint>
+) -> Result<String, InputDiagnostic>
     requires { R.mark input.old ≡ false }
-    ensures read { IsErrAnd result (λ c. c.fault ≡ InputFault.Read) ↔ IsTrue (R.mark input.new) }
-    ensures fault { IfErr result (λ c. IsNotSaid choice (R.reading input.old) (R.reading input.new) c) }
+    ensures read { IsErrAnd result (λ c. c.fault ≡ InputError.Read) ↔ IsTrue (R.mark input.new) }
+    ensures error { IfErr result (λ c. FailsParsing choice (R.reading input.old) (R.reading input.new) c) }
     ensures describes { IfOk result (λ t.
         DescribesAll choice (R.reading input.old) (R.reading input.new) (string_bytes t)) }
 {
-    let said = input_says(alloc, choice, input)?;
-    Ok(describe(alloc, &said.set, said.deepest)?)
+    let parsed = parse_input(alloc, choice, input)?;
+    Ok(describe(alloc, &parsed.set, parsed.deepest)?)
 }
 
-/// The text of a change of the coverage that the input has, in the form that it was read in, with the order that is
-/// stated of it.
+/// Changes the coverage of the input. Returns the text of the result in the format in which the input was read, with
+/// the MOC order that `Change::order_to_state` returns.
 ///
-/// Reads the input to its end; refused with `Read` where that fails, with `TooLong` above 16,777,216 bytes, with the
-/// first fault of the text, or with `FormError::Memory`. Time as the form's reader and writer take, and a pass over the
-/// ranges; memory linear in the input and in what is made of it. Wants an input of which no call has failed.
+/// Requires that no call of the input has failed before. Reads the input to its end.
+///
+/// # Errors
+/// Fails with `Read` if reading fails, with `TooLong` above 16,777,216 bytes, with the first error of the text, or with
+/// `FormatError::Memory`.
+///
+/// # Complexity
+/// Time of the format's reader and writer, and one pass over the ranges.
+///
+/// # Memory
+/// Linear in the length of the input and the output.
 pub fn change_input<R: Source>(
     alloc: Global,
     change: Change,
-    choice: Choice,
+    choice: FormatChoice,
     input: &mut R,
-) -> Result<String, Complaint>
+) -> Result<String, InputDiagnostic>
     requires { R.mark input.old ≡ false }
-    ensures read { IsErrAnd result (λ c. c.fault ≡ InputFault.Read) ↔ IsTrue (R.mark input.new) }
-    ensures fault { IfErr result (λ c. IsNotSaid choice (R.reading input.old) (R.reading input.new) c) }
+    ensures read { IsErrAnd result (λ c. c.fault ≡ InputError.Read) ↔ IsTrue (R.mark input.new) }
+    ensures error { IfErr result (λ c. FailsParsing choice (R.reading input.old) (R.reading input.new) c) }
     ensures changes { IfOk result (λ t.
         ChangesAll change choice (R.reading input.old) (R.reading input.new) (string_bytes t)) }
 {
-    let said = input_says(alloc, choice, input)?;
-    let after = change.of(alloc, &said.set)?;
-    Ok(text_of(alloc, said.form, &after, change.stated(said.deepest))?)
+    let parsed = parse_input(alloc, choice, input)?;
+    let after = change.of(alloc, &parsed.set)?;
+    Ok(text_of(
+        alloc,
+        parsed.format,
+        &after,
+        change.order_to_state(parsed.deepest),
+    )?)
 }
 
-/// Whether the input is a coverage; else its first fault and, in words, where it is.
+/// Checks whether the input is a valid coverage.
 ///
-/// Reads the input to its end; refused with `Read` where that fails, with `TooLong` above 16,777,216 bytes, with the
-/// first fault of the text, or with `FormError::Memory`. Time as `check` takes; memory linear in the input. Wants an
-/// input of which no call has failed.
-pub fn check_input<R: Source>(alloc: Global, choice: Choice, input: &mut R) -> Result<(), Complaint>
+/// Requires that no call of the input has failed before. Reads the input to its end.
+///
+/// # Errors
+/// Fails with `Read` if reading fails, with `TooLong` above 16,777,216 bytes, with the first error of the text and its
+/// position, or with `FormatError::Memory`.
+///
+/// # Complexity
+/// Time of `check`.
+///
+/// # Memory
+/// Linear in the length of the input.
+pub fn check_input<R: Source>(
+    alloc: Global,
+    choice: FormatChoice,
+    input: &mut R,
+) -> Result<(), InputDiagnostic>
     requires { R.mark input.old ≡ false }
-    ensures read { IsErrAnd result (λ c. c.fault ≡ InputFault.Read) ↔ IsTrue (R.mark input.new) }
-    ensures fault { IfErr result (λ c. IsNotSaid choice (R.reading input.old) (R.reading input.new) c) }
-    ensures says { OnOk result (IsSaid choice (R.reading input.old) (R.reading input.new)) }
+    ensures read { IsErrAnd result (λ c. c.fault ≡ InputError.Read) ↔ IsTrue (R.mark input.new) }
+    ensures error { IfErr result (λ c. FailsParsing choice (R.reading input.old) (R.reading input.new) c) }
+    ensures represents { OnOk result (IsValidInput choice (R.reading input.old) (R.reading input.new)) }
 {
-    input_says(alloc, choice, input)?;
+    parse_input(alloc, choice, input)?;
     Ok(())
 }

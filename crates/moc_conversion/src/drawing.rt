@@ -1,66 +1,76 @@
-//! Pictures of the coverage that an input has, or of two.
+//! Pictures of the one or two coverages of an input.
 ghost use Rattle.std.specs.Prelude.{◌≡◌, ◌≢◌, ◌↔◌, ◌⊎◌, false, IfErr, IfOk, IsErrAnd, IsTrue, option_map};
 ghost use Rattle.std.specs.String.{string_bytes};
 ghost use Rattle.std.specs.List.{before_first};
 ghost use Rattle.moc_text.specs.Lines.{is_semicolon};
-ghost use Rattle.moc_conversion.specs.Conversion.{DrawsAll, IsNotDrawn, IsOutOfMemory, IsPictureOf, TellsTexts};
+ghost use Rattle.moc_conversion.specs.Conversion.{DrawsAll, IsNotDrawn};
+ghost use Rattle.moc_conversion.specs.Conversion.{IsOutOfMemory, IsPictureOf, ReportsFirstOfTexts};
 ghost use Rattle.moc_conversion.specs.Conversion.{second_text};
 
-use crate::complaint::Complaint;
-use crate::fault::InputFault;
-use crate::reading::{parted, read_whole};
-use crate::saying::said_or_told;
+use crate::diagnostic::InputDiagnostic;
+use crate::fault::InputError;
+use crate::parsing::parse_or_diagnose;
+use crate::reading::{read_whole, split_at_semicolon};
 use moc_devices::Source;
-use moc_forms::{Choice, draw, draw_two, is_blank};
+use moc_forms::{FormatChoice, draw, draw_two, is_blank};
 use std::alloc::Global;
 
-/// The picture of the coverage that the input has, or of the two that its first semicolon parts.
+/// Returns the picture of the coverage of the input, or of the two coverages that its first semicolon separates.
 ///
-/// Reads the input to its end; refused with `Read` where that fails, with `TooLong` above 16,777,216 bytes, with the
-/// first fault of the text, or with `FormError::Memory`. Time as the form's reader and `draw` take; memory linear in
-/// the input and in what is made of it. Wants an input of which no call has failed.
+/// Requires that no call of the input has failed before. Reads the input to its end.
+///
+/// # Errors
+/// Fails with `Read` if reading fails, with `TooLong` above 16,777,216 bytes, with the first error of a text, or with
+/// `FormatError::Memory`.
+///
+/// # Complexity
+/// Time of the format's reader, and of `draw` or `draw_two`.
+///
+/// # Memory
+/// Linear in the length of the input and the output.
 pub fn draw_input<R: Source>(
     alloc: Global,
-    choice: Choice,
+    choice: FormatChoice,
     input: &mut R,
-) -> Result<String, Complaint>
+) -> Result<String, InputDiagnostic>
     requires { R.mark input.old ≡ false }
-    ensures read { IsErrAnd result (λ c. c.fault ≡ InputFault.Read) ↔ IsTrue (R.mark input.new) }
-    ensures fault { IfErr result (λ c. IsNotDrawn choice (R.reading input.old) (R.reading input.new) c) }
+    ensures read { IsErrAnd result (λ c. c.fault ≡ InputError.Read) ↔ IsTrue (R.mark input.new) }
+    ensures error { IfErr result (λ c. IsNotDrawn choice (R.reading input.old) (R.reading input.new) c) }
     ensures draws { IfOk result (λ t. DrawsAll choice (R.reading input.old) (R.reading input.new) (string_bytes t)) }
 {
     let text = read_whole(alloc, input)?;
-    pictured(alloc, choice, &text)
+    draw_texts(alloc, choice, &text)
 }
 
-/// The picture of one text, or of two; else a complaint that tells the first fault of the first that says no set.
-fn pictured(alloc: Global, choice: Choice, text: &[u8]) -> Result<String, Complaint>
-    ensures device { IfErr result (λ c. c.fault ≢ InputFault.Read) }
-    ensures fault { IfErr result (λ c. IsOutOfMemory c
-        ⊎ TellsTexts choice (before_first is_semicolon text.now) (second_text text.now) c) }
+/// Returns the picture of one text, or of two. Fails with the first error of the first invalid text.
+fn draw_texts(alloc: Global, choice: FormatChoice, text: &[u8]) -> Result<String, InputDiagnostic>
+    ensures device { IfErr result (λ c. c.fault ≢ InputError.Read) }
+    ensures error { IfErr result (λ c. IsOutOfMemory c
+        ⊎ ReportsFirstOfTexts choice (before_first is_semicolon text.now) (second_text text.now) c) }
     ensures picture { IfOk result (λ t.
         IsPictureOf choice (before_first is_semicolon text.now) (second_text text.now) (string_bytes t)) }
 {
-    let (first, second) = texts_of_picture(text);
+    let (first, second) = picture_texts(text);
     let Some(second) = second else {
-        let said = said_or_told(alloc, choice, first, None)?;
-        return Ok(draw(alloc, &said.set)?);
+        let parsed = parse_or_diagnose(alloc, choice, first, None)?;
+        return Ok(draw(alloc, &parsed.set)?);
     };
-    let one = said_or_told(alloc, choice, first, Some(1))?;
-    let other = said_or_told(alloc, choice, second, Some(2))?;
+    let one = parse_or_diagnose(alloc, choice, first, Some(1))?;
+    let other = parse_or_diagnose(alloc, choice, second, Some(2))?;
     Ok(draw_two(alloc, &one.set, &other.set)?)
 }
 
-/// The text, or the two that its first semicolon parts: blanks alone behind it are none.
-fn texts_of_picture(text: &[u8]) -> (&[u8], Option<&[u8]>)
+/// Returns the text, or the two texts that its first semicolon separates. Blanks after the semicolon do not count as a
+/// text.
+fn picture_texts(text: &[u8]) -> (&[u8], Option<&[u8]>)
     ensures first { before_first is_semicolon text.now ≡ result.0.now }
     ensures second { second_text text.now ≡ option_map (λ second. second.now) result.1 }
 {
-    let Some((first, behind)) = parted(text) else {
+    let Some((first, following)) = split_at_semicolon(text) else {
         return (text, None);
     };
-    if is_blank(behind) {
+    if is_blank(following) {
         return (first, None);
     }
-    (first, Some(behind))
+    (first, Some(following))
 }

@@ -1,16 +1,16 @@
-//! Texts of coverages, from an input: checked, described, drawn, changed, converted and combined.
+//! Operations on the coverages of an input: check, describe, draw, change, convert and combine.
 #![tactic(auto)]
 
 mod combination;
-mod complaint;
 mod conversion;
+mod diagnostic;
 mod drawing;
 mod fault;
+mod parsing;
 mod reading;
-mod saying;
 
 pub use combination::combine_input;
-pub use complaint::Complaint;
 pub use conversion::{change_input, check_input, convert_input, describe_input};
+pub use diagnostic::InputDiagnostic;
 pub use drawing::draw_input;
-pub use fault::{InputFault, tell_fault};
+pub use fault::{InputError, report_error};

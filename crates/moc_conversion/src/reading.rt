@@ -1,69 +1,70 @@
-//! The bytes of an input, in pieces and as a whole, and parted at a semicolon.
+//! Reads an input in pieces or as a whole, and splits it at a semicolon.
 ghost use Rattle.std.specs.Prelude.{◌≡◌, ◌<◌, ◌≤◌, ◌↔◌, ◌⊎◌, false, IfErr, IfOk, IsErrOf, IsTrue, length};
 ghost use Rattle.moc_devices.specs.Devices.{Delivers, IsEnded};
-ghost use Rattle.moc_conversion.specs.Conversion.{IsOfWhole, input_limit};
-ghost use Rattle.moc_conversion.specs.Faults.{want_of_memory};
-ghost use Rattle.moc_conversion.specs.Private.Pieces.{BringsPiece, IsParted};
+ghost use Rattle.moc_conversion.specs.Conversion.{FailsReading, input_limit};
+ghost use Rattle.moc_conversion.specs.Faults.{out_of_memory};
+ghost use Rattle.moc_conversion.specs.Private.Pieces.{ReadsPiece, IsSplit};
 
-use crate::fault::InputFault;
+use crate::fault::InputError;
 use memchr::memchr;
 use moc_devices::Source;
 use std::alloc::{AllocError, Global};
 
-/// The most bytes of an input.
+/// The maximal number of bytes of an input.
 pub(crate) const INPUT_LIMIT: usize = 16_777_216;
 
-/// How many bytes are read at a time.
-const PIECE: usize = 65_536;
+/// The number of bytes to read at a time.
+const PIECE_SIZE: usize = 65_536;
 
-/// Room for one piece.
-pub(crate) fn room(alloc: Global) -> Result<Vec<u8>, AllocError>
+/// Allocates a buffer for one piece.
+pub(crate) fn buffer(alloc: Global) -> Result<Vec<u8>, AllocError>
     ensures { IfOk result (λ v. 0 < length v.items) }
 {
-    vec![in alloc; 0u8; PIECE]
+    vec![in alloc; 0u8; PIECE_SIZE]
 }
 
-/// Reads one more piece behind the text, and answers whether there was one.
+/// Reads one more piece and appends it to the text. Returns whether there was one.
 pub(crate) fn read_chunk<R: Source>(
     input: &mut R,
-    room: &mut [u8],
+    buffer: &mut [u8],
     text: &mut Vec<u8>,
-) -> Result<bool, InputFault>
-    requires room { 0 < length room.old }
+) -> Result<bool, InputError>
+    requires capacity { 0 < length buffer.old }
     requires input { R.mark input.old ≡ false }
-    ensures read { IsErrOf result InputFault.Read ↔ IsTrue (R.mark input.new) }
-    ensures fault { IfErr result (λ f. (f ≡ InputFault.Read) ⊎ (f ≡ want_of_memory)) }
-    ensures brings { IfOk result (λ some.
-        BringsPiece (R.reading input.old) text.old.items (R.reading input.new) text.new.items some) }
+    ensures read { IsErrOf result InputError.Read ↔ IsTrue (R.mark input.new) }
+    ensures error { IfErr result (λ f. (f ≡ InputError.Read) ⊎ (f ≡ out_of_memory)) }
+    ensures reads_more { IfOk result (λ some.
+        ReadsPiece (R.reading input.old) text.old.items (R.reading input.new) text.new.items some) }
 {
-    let Ok(count) = input.read(room) else {
-        return Err(InputFault::Read);
+    let Ok(count) = input.read(buffer) else {
+        return Err(InputError::Read);
     };
-    text.extend_from_slice(&room[..count])?;
+    text.extend_from_slice(&buffer[..count])?;
     Ok(count > 0)
 }
 
-/// All bytes of an input of at most 16,777,216 bytes; `TooLong` for a longer one. Read in large pieces into one buffer.
-pub(crate) fn read_whole<R: Source>(alloc: Global, input: &mut R) -> Result<Vec<u8>, InputFault>
+/// Returns all bytes of an input of at most 16,777,216 bytes; fails with `TooLong` for a longer one. Reads in large
+/// pieces into one buffer.
+pub(crate) fn read_whole<R: Source>(alloc: Global, input: &mut R) -> Result<Vec<u8>, InputError>
     requires { R.mark input.old ≡ false }
-    ensures read { IsErrOf result InputFault.Read ↔ IsTrue (R.mark input.new) }
-    ensures fault { IfErr result (λ f. IsOfWhole (R.reading input.old) (R.reading input.new) f) }
+    ensures read { IsErrOf result InputError.Read ↔ IsTrue (R.mark input.new) }
+    ensures error { IfErr result (λ f. FailsReading (R.reading input.old) (R.reading input.new) f) }
     ensures whole { IfOk result (λ v. Delivers (R.reading input.old) (R.reading input.new) v.items
         × IsEnded (R.reading input.new) × (length v.items ≤ input_limit)) }
 {
-    let mut room = room(alloc)?;
+    let mut buffer = buffer(alloc)?;
     let mut text = Vec::new(alloc);
     while text.len() <= INPUT_LIMIT {
-        if !read_chunk(input, &mut room, &mut text)? {
+        if !read_chunk(input, &mut buffer, &mut text)? {
             return Ok(text);
         }
     }
-    Err(InputFault::TooLong)
+    Err(InputError::TooLong)
 }
 
-/// The bytes before the first semicolon and those behind it, if there is one.
-pub(crate) fn parted(bytes: &[u8]) -> Option<(&[u8], &[u8])>
-    ensures { IsParted bytes.now result }
+/// Splits bytes at the first semicolon, if there is one: returns the bytes before it and after it.
+pub(crate) fn split_at_semicolon(bytes: &[u8]) -> Option<(&[u8], &[u8])>
+    ensures { IsSplit bytes.now result }
 {
     let at = memchr(b';', bytes)?;
     Some((&bytes[..at], &bytes[at + 1..]))

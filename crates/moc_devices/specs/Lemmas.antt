@@ -41,24 +41,24 @@ Accepts-kept a b c bytes first later = record {
 pub AcceptsNone-refl : (a : Writing) → AcceptsNone a a
 AcceptsNone-refl a = record { accepted = refl; kept = Keeps-refl a.written }
 
--- no call more
+-- no more calls
 pub CallsMore-none : (a : Option ℕ) → CallsMore a a 0
 CallsMore-none None = tt
 CallsMore-none (Some n) = omega arith
 
--- calls behind none
+-- calls after no calls
 pub CallsMore-later : (a b c : Option ℕ) (count : ℕ) → CallsMore a b 0 → CallsMore b c count → CallsMore a c count
 CallsMore-later a b None count first later = tt
 CallsMore-later a None (Some k) count first later = absurd later
 CallsMore-later None (Some m) (Some k) count first later = absurd first
 CallsMore-later (Some n) (Some m) (Some k) count first later = omega (arith, first, later)
 
--- nothing was done
+-- nothing happened
 pub FlushesNothing-none : {S : Type 0} {flushed : S → Bool} {flushes : S → Option ℕ} (a : S)
     → FlushesNothing flushed flushes a a
 FlushesNothing-none {flushes = flushes} a = record { kept = λ is. is; none = CallsMore-none (flushes a) }
 
--- twice nothing
+-- nothing happened twice
 pub FlushesNothing-later : {S : Type 0} {flushed : S → Bool} {flushes : S → Option ℕ} {a b c : S}
     → FlushesNothing flushed flushes a b → FlushesNothing flushed flushes b c → FlushesNothing flushed flushes a c
 FlushesNothing-later {flushes = flushes} {a = a} {b = b} {c = c} first later = record {

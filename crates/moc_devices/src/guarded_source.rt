@@ -1,21 +1,21 @@
-//! Sources whose reads need a permission.
+//! Sources that may be read only in some states.
 ghost use Rattle.std.specs.Prelude.{◌≡◌, ◌≤◌, ◌||◌, Bool, ⊤, IfOk, is_err, length};
 ghost use Rattle.moc_devices.specs.Devices.{Reading, Reads, found_end};
 
 use crate::device::DeviceFault;
 use crate::source::Source;
 
-/// A source that may be read only when a sink permits it.
+/// A source that may be read only if a sink permits it.
 ///
-/// Code that is generic over this trait can read only in states in which it proves the permission. An example is a
-/// source that waits for the answers to the bytes that it has delivered, and would block if they were not in the sink.
-/// Every [`Source`] is a `GuardedSource` that may be read always.
+/// Code that is generic over this trait can read only in states in which it proves the permission. For example, a
+/// source may deliver more only after the replies to the bytes so far are in the sink, and would block before. Every
+/// [`Source`] is a `GuardedSource` that may always be read.
 pub trait GuardedSource<W> {
     /// The bytes that its reads have delivered, whether the last read found the end, and, if the source reports them,
     /// the bytes that are still to come.
     ghost reading: { Self → Reading };
 
-    /// Whether one of its calls has failed.
+    /// Whether one of the source's calls has failed.
     ghost mark: { Self → Bool };
 
     /// Whether the source may be read now, as its state and the state of the sink permit.

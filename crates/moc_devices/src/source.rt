@@ -12,7 +12,7 @@ pub trait Source {
     /// the bytes that are still to come.
     ghost reading: { Self → Reading };
 
-    /// Whether one of its calls has failed.
+    /// Whether one of the source's calls has failed.
     ghost mark: { Self → Bool };
 
     /// Reads some bytes into the front of the buffer and returns their number, which is 0 only at the end of the input
@@ -20,14 +20,14 @@ pub trait Source {
     ///
     /// # Errors
     ///
-    /// `DeviceFault` if the reader fails; then no byte is delivered.
+    /// Fails with `DeviceFault` if the reader fails; then no byte is delivered.
     fn read(&mut self, buffer: &mut [u8]) -> Result<usize, DeviceFault>
         ensures count { IfOk result (λ n. n ≤ length buffer.new) }
         ensures bytes { Reads (reading self.old) (reading self.new) result buffer.new }
         ensures ended { (reading self.new).ended ≡ found_end result buffer.new }
         ensures marks { mark self.new ≡ (mark self.old || is_err result) };
 
-    /// Returns whether one of its calls has failed.
+    /// Returns whether one of the source's calls has failed.
     fn is_marked(&self) -> bool
         ensures { result ≡ mark self.now };
 }
@@ -44,7 +44,7 @@ pub struct OverReader<R> {
 }
 
 impl<R: Read> OverReader<R> {
-    /// Returns the source of a reader: no call has failed, and nothing is delivered yet.
+    /// Returns a source over a reader: no call has failed, and nothing is delivered yet.
     pub fn new(reader: R) -> OverReader<R>
         ensures unmarked { ⟦<OverReader<R> as Source>⟧.mark result ≡ false }
         ensures nothing { (⟦<OverReader<R> as Source>⟧.reading result).delivered ≡ [] }

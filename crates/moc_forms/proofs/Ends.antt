@@ -1,4 +1,4 @@
--- The bytes behind the last that passes a test, those round a place, and the first line.
+-- The bytes after the last one that passes a test, the bytes around a position, and the first line.
 use Rattle.std.proofs.Common.{◌≡◌, ◌∙◌, ℕ, zero, suc, cond, ◌+◌, ◌-◌, ◌<◌, ◌≤◌, Bool, true, false, not, List, [], ◌∷◌, ◌++◌, length, take, drop, get_or, refl, ap, sym, arith, inl, inr}
 use Rattle.std.specs.Prelude.{min}
 use Rattle.std.specs.List.{after_last, before_first, onto_first, position_or_len, slice_split, suffix_len}
@@ -12,7 +12,7 @@ use Rattle.moc_text.specs.Lines.{is_line_feed, lines_of}
 ended : (p : ℕ → Bool) (xs : List ℕ) → length (after_last p xs) ≡ suffix_len (λ x. not (p x)) xs
 ended p xs = omega (arith, suffix_len-le-length (λ x. not (p x)) xs, length-drop (length xs - suffix_len (λ x. not (p x)) xs) xs)
 
--- one byte more, which passes, or not
+-- one byte more, which passes the test
 pub ended_here : (p : ℕ → Bool) (xs : List ℕ) (i d : ℕ) → i < length xs → p (get_or xs i d) ≡ true → length (after_last p (take (i + 1) xs)) ≡ 0
 ended_here p xs i d low passes =
     let same : i + 1 - 1 ≡ i = omega arith in
@@ -28,12 +28,12 @@ ended_before p xs i d low fails =
     suffix_len-take_yes (λ x. not (p x)) xs (i + 1) d (omega arith) (omega arith) yes in
     omega (arith, ended p (take (i + 1) xs), ended p (take i xs), more, ap (λ k. suffix_len (λ x. not (p x)) (take k xs)) same)
 
--- what stands round a place that lies in a text
+-- the bytes around a position inside a text
 round_within : (p : ℕ → Bool) (text : List ℕ) (n k j : ℕ) → n ≤ length text → k ≡ length (after_last p (take n text)) → j ≡ position_or_len p (drop n text)
     → take (n + j - (n - k)) (drop (n - k) text) ≡ after_last p (take n text) ++ before_first p (drop n text)
-round_within p text n k j within behind before =
+round_within p text n k j within following before =
     let size : length (take n text) ≡ n = length-take-le n text within in
-    let last : k ≡ suffix_len (λ x. not (p x)) (take n text) = behind ∙ ended p (take n text) in
+    let last : k ≡ suffix_len (λ x. not (p x)) (take n text) = following ∙ ended p (take n text) in
     let less : k ≤ n = omega (arith, suffix_len-le-length (λ x. not (p x)) (take n text)) in
     let m = n - k in
     let whole : m + k ≡ n = omega arith in
@@ -48,9 +48,9 @@ round_within p text n k j within behind before =
 
 pub round : (p : ℕ → Bool) (text : List ℕ) (at n k j : ℕ) → n ≡ min at (length text) → k ≡ length (after_last p (take n text)) → j ≡ position_or_len p (drop n text)
     → take (n + j - (n - k)) (drop (n - k) text) ≡ after_last p (take at text) ++ before_first p (drop at text)
-round p text at n k j least behind before =
+round p text at n k j least following before =
     let within : n ≤ length text = omega arith in
-    let here = round_within p text n k j within behind before in
+    let here = round_within p text n k j within following before in
     elim (cases_lt at (length text)) [
       | inl low ↦
           let same : n ≡ at = omega arith in
@@ -79,19 +79,19 @@ first_line bytes = elim (cases_lt (position_or_len is_line_feed bytes) (length b
         ] in
         step (is_line_feed x) refl
 
--- a line of a text is a part of it between line feeds, and there is nothing behind the last one
+-- a line of a text is a part of it between line feeds, and nothing follows the last one
 pub same_line : (bytes : List ℕ) (n : ℕ) → get_or (lines_of bytes) n [] ≡ get_or (slice_split is_line_feed bytes) n []
 same_line [] zero = refl
 same_line [] (suc n) = refl
 same_line (x ∷ bytes) n = elim (is_line_feed x) as (λ b. get_or (cond b ([] ∷ lines_of bytes) (onto_first x (lines_of bytes))) n [] ≡ get_or (cond b ([] ∷ slice_split is_line_feed bytes) (onto_first x (slice_split is_line_feed bytes))) n []) [
-  | true ↦ behind (same_line bytes) n
+  | true ↦ following (same_line bytes) n
   | false ↦ onto (lines_of bytes) (slice_split is_line_feed bytes) (same_line bytes) n
 ]
   where
-    behind : ((n : ℕ) → get_or (lines_of bytes) n [] ≡ get_or (slice_split is_line_feed bytes) n [])
+    following : ((n : ℕ) → get_or (lines_of bytes) n [] ≡ get_or (slice_split is_line_feed bytes) n [])
         → (n : ℕ) → get_or ([] ∷ lines_of bytes) n [] ≡ get_or ([] ∷ slice_split is_line_feed bytes) n []
-    behind same zero = refl
-    behind same (suc n) = same n
+    following same zero = refl
+    following same (suc n) = same n
 
     onto : (xs ys : List (List ℕ)) → ((n : ℕ) → get_or xs n [] ≡ get_or ys n []) → (n : ℕ) → get_or (onto_first x xs) n [] ≡ get_or (onto_first x ys) n []
     onto [] [] same n = refl

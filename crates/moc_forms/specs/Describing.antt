@@ -1,4 +1,4 @@
--- A set of pixels in figures.
+-- Statistics of a set of pixels.
 use Rattle.std.specs.Prelude.{◌≡◌, ℕ, zero, suc, ◌-◌, ◌*◌, ◌/◌, ◌%◌, ◌==◌, List, [], ◌∷◌, ◌++◌, length, map, replicate}
 use Rattle.std.specs.Prelude.{slice_index, Option, None, Some, decimal, codes, count_by}
 use Rattle.std.specs.List.{range_with_len}
@@ -6,27 +6,27 @@ use Rattle.std.specs.FinSet as set
 use Rattle.moc_sphere.specs.CellNumber.{CellNumber}
 use Rattle.moc_ranges.specs.Cells.{cells_of}
 use Rattle.moc_lists.specs.RangeList.{NumberSet, pixel_count, AreRangesOf}
-use Rattle.moc_forms.specs.declared.figures.Figures.{Figures}
+use Rattle.moc_forms.specs.declared.statistics.Statistics.{Statistics}
 
--- the line of the deepest order that a text names
+-- the line of the MOC order that a text states
 abbrev pub deepest_line : Option ℕ → List ℕ
 deepest_line None = codes "deepest none\n"
 deepest_line (Some k) = codes "deepest " ++ decimal k ++ 10 ∷ []
 
--- the share of the sky that so many pixels are, in parts of 10^12, cut off
+-- the share of the sky of a number of pixels, in parts of 10^12, rounded down
 abbrev pub share_of : ℕ → ℕ
 share_of count = count * 1000000000000 / pixel_count
 
--- a number of up to twelve digits, with zeros before it
+-- a number of up to twelve digits, with leading zeros
 abbrev pub twelve_digits : ℕ → List ℕ
 twelve_digits n = replicate (12 - length (decimal n)) 48 ++ decimal n
 
--- how many cells are of each order
+-- the number of cells of each order
 abbrev pub counts_of : List CellNumber → List ℕ
 counts_of cells = map (λ k. count_by (λ c. c.order == k) cells) (range_with_len 0 30)
 
--- the figures are those of a set; its ranges are those of its normal range list
-pub record AreFigures (a : NumberSet) (deepest : Option ℕ) (f : Figures) : Type 0 where
+-- the statistics are those of a set; its ranges are those of its normal range list
+pub record AreStatistics (a : NumberSet) (deepest : Option ℕ) (f : Statistics) : Type 0 where
   pub deepest_is : f.deepest ≡ deepest
   pub pixels_are : f.pixels ≡ set.len a
   pub ranges : List (ℕ × ℕ)
@@ -35,31 +35,32 @@ pub record AreFigures (a : NumberSet) (deepest : Option ℕ) (f : Figures) : Typ
   pub cells_are : f.cells ≡ length (cells_of a)
   pub orders_are : f.orders ≡ counts_of (cells_of a)
 
--- a number behind a word, as a line
-abbrev pub figure_line : List ℕ → ℕ → List ℕ
-figure_line word n = word ++ decimal n ++ 10 ∷ []
+-- a word and a number, as a line
+abbrev pub statistic_line : List ℕ → ℕ → List ℕ
+statistic_line word n = word ++ decimal n ++ 10 ∷ []
 
--- the line of the share: one digit, a point, and twelve digits
+-- the line of the share: one digit, a point and twelve digits
 abbrev pub share_line : ℕ → List ℕ
 share_line parts =
     codes "share " ++ decimal (parts / 1000000000000) ++ 46 ∷ (twelve_digits (parts % 1000000000000) ++ 10 ∷ [])
 
--- the line of an order with so many cells, if there are any
+-- the line of an order and its number of cells, if this is not zero
 abbrev pub order_line : ℕ → ℕ → List ℕ
 order_line k zero = []
 order_line k (suc n) = codes "order " ++ decimal k ++ 32 ∷ decimal (suc n) ++ 10 ∷ []
 
--- the lines of the orders below a number, of which each has so many cells
+-- the lines of the orders below a number, given the number of cells of each order
 unfoldable pub order_lines_below : List ℕ → ℕ → List ℕ
 order_lines_below counts zero = []
 order_lines_below counts (suc k) = order_lines_below counts k ++ order_line k (slice_index counts k)
 
--- the figures, a line each
-abbrev pub figures_text : Figures → List ℕ
-figures_text f =
-    deepest_line f.deepest ++ figure_line (codes "pixels ") f.pixels ++ share_line (share_of f.pixels)
-    ++ figure_line (codes "ranges ") f.ranges ++ figure_line (codes "cells ") f.cells ++ order_lines_below f.orders 30
+-- the statistics, one a line
+abbrev pub statistics_text : Statistics → List ℕ
+statistics_text f =
+    deepest_line f.deepest ++ statistic_line (codes "pixels ") f.pixels ++ share_line (share_of f.pixels)
+    ++ statistic_line (codes "ranges ") f.ranges ++ statistic_line (codes "cells ") f.cells
+    ++ order_lines_below f.orders 30
 
--- the text has the figures of a set
+-- a text has the statistics of a set
 abbrev pub Describes : NumberSet → Option ℕ → List ℕ → Type 0
-Describes a deepest text = (f : Figures) × AreFigures a deepest f × (text ≡ figures_text f)
+Describes a deepest text = (f : Statistics) × AreStatistics a deepest f × (text ≡ statistics_text f)

@@ -3,6 +3,6 @@ pub mod Combining
 pub mod Describing
 pub mod Drawing
 pub mod Finding
-pub mod Forms
+pub mod Formats
 pub mod Places
 pub mod Quotes

@@ -1,32 +1,32 @@
--- Where a text is at fault.
+-- Positions of errors in texts.
 use Rattle.std.specs.Prelude.{◌≡◌, ℕ, ◌+◌, List, [], ◌∷◌, ◌++◌, ◌⊎◌, length, take, Option, None, Some}
 use Rattle.std.specs.Prelude.{option_map, decimal, codes, count_by}
 use Rattle.std.specs.List.{after_last}
 use Rattle.std.specs.Option.{option_map_or}
-use Rattle.moc_text.specs.JsonForm.{NameIsOrder}
+use Rattle.moc_text.specs.JsonFormat.{NameIsOrder}
 use Rattle.moc_text.specs.Lines.{is_line_feed}
-use Rattle.moc_text.specs.Places.{fault_byte, fault_line}
-use Rattle.moc_text.specs.declared.json_form.error.JsonError.{JsonError}
-use Rattle.moc_text.specs.declared.json_form.error.JsonError.TheVariants as json
-use Rattle.moc_forms.specs.declared.form.FormError.{FormError}
-use Rattle.moc_forms.specs.declared.form.FormError.TheVariants as error
+use Rattle.moc_text.specs.Places.{error_byte, error_line}
+use Rattle.moc_text.specs.declared.json_format.error.JsonError.{JsonError}
+use Rattle.moc_text.specs.declared.json_format.error.JsonError.TheVariants as json
+use Rattle.moc_forms.specs.declared.format.FormatError.{FormatError}
+use Rattle.moc_forms.specs.declared.format.FormatError.TheVariants as error
 use Rattle.moc_forms.specs.declared.place.Place.{Place}
-use Rattle.moc_forms.specs.declared.place.Place.TheVariants.{Byte, Line, Stop, Name, Order, Number}
+use Rattle.moc_forms.specs.declared.place.Place.TheVariants.{Byte, Line, JsonSyntax, Name, Order, Number}
 
--- the place of a byte: its line, counted from 1, has one number more than there are line feeds before it, and the bytes
--- behind the last of these stand before it in its line
+-- the position of a byte: its line, counted from 1, is one more than the number of line feeds before it; its column is
+-- the number of bytes after the last of these line feeds
 abbrev pub byte_place : List ℕ → ℕ → Place
 byte_place bytes at =
     let before = take at bytes in
     Byte at (1 + count_by is_line_feed before) (length (after_last is_line_feed before))
 
--- what is made of the order that a name names, by the number of the name, in a JSON text
+-- the position for the order that a name of a JSON text denotes, given by the index of the name
 abbrev pub IsOfOrder : List ℕ → ℕ → (ℕ → Place) → Option Place → Type 0
 IsOfOrder bytes name place found = (k : Option ℕ) × NameIsOrder bytes name k × (found ≡ option_map place k)
 
--- the place of a fault of a JSON text; where no JSON ends is told by `serde_json`, if it is
+-- the position of an error of a JSON text; for invalid JSON the one that `serde_json` reports, if it reports one
 abbrev pub IsJsonPlace : List ℕ → JsonError → Option Place → Type 0
-IsJsonPlace bytes json.NotJson found = (found ≡ None) ⊎ ((line column : ℕ) × (found ≡ Some (Stop line column)))
+IsJsonPlace bytes json.NotJson found = (found ≡ None) ⊎ ((line column : ℕ) × (found ≡ Some (JsonSyntax line column)))
 IsJsonPlace bytes json.NotObject found = found ≡ None
 IsJsonPlace bytes (json.BadOrder name) found = found ≡ Some (Name name)
 IsJsonPlace bytes (json.NotArray name) found = IsOfOrder bytes name (λ k. Order k) found
@@ -34,33 +34,34 @@ IsJsonPlace bytes (json.NotWhole name number) found = IsOfOrder bytes name (λ k
 IsJsonPlace bytes (json.CellTooLarge name number) found = IsOfOrder bytes name (λ k. Number k number) found
 IsJsonPlace bytes json.Memory found = found ≡ None
 
--- the place of a fault of a text in a form
-abbrev pub IsPlace : List ℕ → FormError → Option Place → Type 0
-IsPlace bytes (error.Ascii e) found = found ≡ option_map (byte_place bytes) (fault_byte e)
+-- the position of an error of a text in a format
+abbrev pub IsPlace : List ℕ → FormatError → Option Place → Type 0
+IsPlace bytes (error.Ascii e) found = found ≡ option_map (byte_place bytes) (error_byte e)
 IsPlace bytes (error.Json e) found = IsJsonPlace bytes e found
-IsPlace bytes (error.Uniq e) found = found ≡ option_map (λ line. Line line) (fault_line e)
+IsPlace bytes (error.Uniq e) found = found ≡ option_map (λ line. Line line) (error_line e)
 IsPlace bytes error.TooCoarse found = found ≡ None
 IsPlace bytes error.Memory found = found ≡ None
 
--- a place in words
+-- a position in words
 abbrev pub place_text : Place → List ℕ
 place_text (Byte at line column) =
     (codes "byte " ++ decimal at) ++ (codes ", line " ++ decimal line) ++ (codes ", byte " ++ decimal column)
     ++ codes " of it"
 place_text (Line line) = codes "line " ++ decimal line
-place_text (Stop line column) = (codes "line " ++ decimal line) ++ (codes ", column " ++ decimal column)
+place_text (JsonSyntax line column) = (codes "line " ++ decimal line) ++ (codes ", column " ++ decimal column)
 place_text (Name name) = codes "name " ++ decimal name
 place_text (Order order) = codes "order " ++ decimal order
 place_text (Number order number) = (codes "order " ++ decimal order) ++ (codes ", number " ++ decimal number)
 
--- a quote behind a place, if there is one
-abbrev pub quote_behind : Option (List ℕ) → List ℕ
-quote_behind quote = option_map_or (λ q. codes ": " ++ q) quote []
+-- a quote after a position, if there is one
+abbrev pub quote_after : Option (List ℕ) → List ℕ
+quote_after quote = option_map_or (λ q. codes ": " ++ q) quote []
 
--- the line of a fault's place: the number of the text, if counted, the place, if there is one, and the quote, if any
+-- the line for the position of an error: the number of the text if texts are counted, the position if there is one, and
+-- the quote if there is one
 abbrev pub line_of_place : Option ℕ → Option Place → Option (List ℕ) → Option (List ℕ)
 line_of_place None None quote = None
-line_of_place None (Some place) quote = Some (place_text place ++ quote_behind quote ++ 10 ∷ [])
+line_of_place None (Some place) quote = Some (place_text place ++ quote_after quote ++ 10 ∷ [])
 line_of_place (Some number) None quote = Some ((codes "text " ++ decimal number) ++ 10 ∷ [])
 line_of_place (Some number) (Some place) quote =
-    Some ((codes "text " ++ decimal number) ++ codes ", " ++ place_text place ++ quote_behind quote ++ 10 ∷ [])
+    Some ((codes "text " ++ decimal number) ++ codes ", " ++ place_text place ++ quote_after quote ++ 10 ∷ [])

@@ -1,4 +1,4 @@
-//! Changes of what a text says.
+//! Changes of a coverage: degrade and complement.
 ghost use Rattle.std.specs.Prelude.{◌≡◌, IfOk, min, option_map};
 ghost use Rattle.moc_forms.specs.Changing.{changed_order, changed_set};
 
@@ -9,14 +9,20 @@ use std::alloc::Global;
 /// A change of a set of pixels.
 #[derive(Clone, Copy, Debug, PartialEq, Eq)]
 pub enum Change {
-    /// To all pixels of each cell of an order that it meets.
+    /// Replaces each cell of the given order that the set meets by all of its pixels.
     Degrade(Order),
-    /// To the pixels that it lacks.
+    /// Replaces the set by the pixels that it does not contain.
     Complement,
 }
 
 impl Change {
-    /// What the change makes of a set. One pass over its ranges; refused where memory runs out.
+    /// Returns the changed set.
+    ///
+    /// # Errors
+    /// Fails with `Memory` if an allocation fails.
+    ///
+    /// # Complexity
+    /// One pass over the ranges of the set.
     pub fn of(self, alloc: Global, set: &Coverage) -> Result<Coverage, Memory>
         ensures set { IfOk result (λ c. c ≡ changed_set self set.now) }
     {
@@ -26,9 +32,9 @@ impl Change {
         }
     }
 
-    /// The order to state of the changed set, where the set's text names this one as the deepest: of a degraded set the
-    /// coarser of that order and the one that it is degraded to, of a complement that order.
-    pub fn stated(self, deepest: Option<Order>) -> Option<Order>
+    /// Returns the MOC order to state for the changed set, given the MOC order of the original text. For a degraded set
+    /// it is the coarser of this order and the order that the set is degraded to; for a complement it is unchanged.
+    pub fn order_to_state(self, deepest: Option<Order>) -> Option<Order>
         ensures order { result ≡ changed_order self deepest }
     {
         match self {
@@ -38,7 +44,7 @@ impl Change {
     }
 }
 
-/// The coarser of an order that may be none and another one, if there is the first.
+/// Returns the coarser of two orders, or `None` if there is no first one.
 fn coarser(first: Option<Order>, second: Order) -> Option<Order>
     ensures { result ≡ option_map (λ k. min k second) first }
 {

@@ -1,9 +1,9 @@
-//! Operations on what texts say.
+//! Set operations on texts.
 ghost use Rattle.std.specs.Prelude.{◌≡◌, IfOk, Some};
-ghost use Rattle.moc_forms.specs.Combining.{joined, set_of_two};
+ghost use Rattle.moc_forms.specs.Combining.{combine_next, set_of_two};
 
-use crate::form::Form;
-use crate::name_error::FormNameError;
+use crate::format::Format;
+use crate::name_error::FormatNameError;
 use moc_ranges::{Coverage, Memory};
 use moc_sphere::Order;
 use moc_text::deeper;
@@ -14,39 +14,39 @@ use std::str::FromStr;
 /// An operation on two sets of pixels.
 #[derive(Clone, Copy, Debug, PartialEq, Eq, Hash)]
 pub enum Operation {
-    /// The pixels that any of the two has.
+    /// The pixels that are in at least one of the sets.
     Union,
-    /// The pixels that both have.
+    /// The pixels that are in both sets.
     Intersection,
-    /// The pixels that the first has and the second lacks.
+    /// The pixels that are in the first set and not in the second.
     Difference,
-    /// The pixels that just one of the two has.
+    /// The pixels that are in exactly one of the sets: the symmetric difference.
     Symmetric,
 }
 
-/// The operation that the command line calls `union`, `intersection`, `difference` or `symmetric`; refused with
-/// `NotOperation`.
+/// Parses the name of an operation on the command line: `union`, `intersection`, `difference` or `symmetric`. Fails
+/// with `NotOperation` for any other word.
 impl FromStr for Operation {
-    type Err = FormNameError;
+    type Err = FormatNameError;
 
-    ghost use Rattle.moc_sphere.specs.Names.{IsNamed};
+    ghost use Rattle.moc_sphere.specs.Names.{ParsesName};
     ghost use Rattle.moc_forms.specs.Combining.{operation_name};
-    ghost use Rattle.moc_forms.specs.declared.name_error.FormNameError.TheVariants.{NotOperation};
+    ghost use Rattle.moc_forms.specs.declared.name_error.FormatNameError.TheVariants.{NotOperation};
 
-    ghost from_str_gives = { IsNamed operation_name NotOperation };
+    ghost from_str_gives = { ParsesName operation_name NotOperation };
 
-    fn from_str(word: &str) -> Result<Operation, FormNameError> {
+    fn from_str(word: &str) -> Result<Operation, FormatNameError> {
         match word {
             "union" => Ok(Operation::Union),
             "intersection" => Ok(Operation::Intersection),
             "difference" => Ok(Operation::Difference),
             "symmetric" => Ok(Operation::Symmetric),
-            _ => Err(FormNameError::NotOperation),
+            _ => Err(FormatNameError::NotOperation),
         }
     }
 }
 
-/// The word of the command line, which `from_str` takes.
+/// Writes the word of the command line, which `from_str` parses.
 impl fmt::Display for Operation {
     ghost use Rattle.std.specs.Prelude.{Some};
     ghost use Rattle.moc_forms.specs.Combining.{operation_name};
@@ -63,20 +63,25 @@ impl fmt::Display for Operation {
     }
 }
 
-/// What a text says: its set, the deepest order that it names, and the form that it is read in.
+/// A parsed text: its set, its MOC order and its format.
 #[derive(Drop)]
-pub struct Said {
+pub struct ParsedCoverage {
     /// The set.
     pub set: Coverage,
-    /// The deepest order that the text names; `None` where it names none.
+    /// The MOC order that the text states; `None` if it states none.
     pub deepest: Option<Order>,
-    /// The form of the text.
-    pub form: Form,
+    /// The format of the text.
+    pub format: Format,
 }
 
 impl Operation {
-    /// What the operation makes of two sets. O(n + m) for n and m ranges, as the call of `Coverage`; refused where
-    /// memory runs out.
+    /// Returns the result of the operation on two sets.
+    ///
+    /// # Errors
+    /// Fails with `Memory` if an allocation fails.
+    ///
+    /// # Complexity
+    /// O(n + m) for n and m ranges, as the method of `Coverage`.
     pub fn of(self, alloc: Global, first: &Coverage, second: &Coverage) -> Result<Coverage, Memory>
         ensures set { IfOk result (λ c. c ≡ set_of_two self first.now second.now) }
     {
@@ -88,21 +93,30 @@ impl Operation {
         }
     }
 
-    /// What texts say together with one more: the operation of the sets, the deeper of the orders that they name, and
-    /// the form of the first. Before the first text there is nothing, and it stands for itself.
+    /// Combines what was read before with one more text: the operation on the sets, the deeper of the two MOC orders,
+    /// and the format of the first text. If there is no text before, returns `parsed`.
     ///
-    /// As `of`; refused where memory runs out.
-    pub fn join(self, alloc: Global, before: Option<Said>, said: Said) -> Result<Said, Memory>
-        ensures joined { IfOk result (λ after. after ≡ joined self before said) }
+    /// # Errors
+    /// Fails with `Memory` if an allocation fails.
+    ///
+    /// # Complexity
+    /// As `of`.
+    pub fn combine(
+        self,
+        alloc: Global,
+        before: Option<ParsedCoverage>,
+        parsed: ParsedCoverage,
+    ) -> Result<ParsedCoverage, Memory>
+        ensures combine_next { IfOk result (λ after. after ≡ combine_next self before parsed) }
     {
         let Some(before) = before else {
-            return Ok(said);
+            return Ok(parsed);
         };
-        let set = self.of(alloc, &before.set, &said.set)?;
-        Ok(Said {
+        let set = self.of(alloc, &before.set, &parsed.set)?;
+        Ok(ParsedCoverage {
             set,
-            deepest: deeper(before.deepest, said.deepest),
-            form: before.form,
+            deepest: deeper(before.deepest, parsed.deepest),
+            format: before.format,
         })
     }
 }

@@ -1,4 +1,4 @@
-//! A set of pixels as a picture.
+//! A set of pixels as an SVG picture.
 ghost use Rattle.std.specs.Prelude.{◌≡◌, ◌++◌, ◌<◌, ◌≤◌, ◌*◌, ◌^◌, ◌==◌, IfOk, OnOk};
 ghost use Rattle.std.specs.String.{string_bytes};
 ghost use Rattle.std.specs.List.{filter, flat_map, range_with_len};
@@ -18,13 +18,24 @@ use std::fmt::Write;
 /// The width of the sky in half steps of order 7.
 const WIDTH: u64 = 1024;
 
-/// A picture of a set, as SVG: HEALPix's plane, 1024 half steps of order 7 wide and 512 high, north up and east to the
-/// left, longitude 0 at both edges. Each cell of the set of order 7 or less is a diamond of the darkest of four shades
-/// of blue; a cell of order 7 that deeper cells of the set fill in part has a shade by quarters of its pixels. The sky
-/// is grey, with the outlines and the numbers of the base pixels under the cells, and a legend tells the shades.
+/// Returns a picture of a set as SVG: the HEALPix projection, 1024 half steps of order 7 wide and 512 high, north up
+/// and east to the left, longitude 0 at both edges. Each cell of the set of order 7 or less is a diamond of the darkest
+/// of four shades of blue. A cell of order 7 that the set contains in part has the shade of its share: up to a quarter
+/// of its pixels, up to a half, up to three quarters, or more.
+/// The sky is grey, with the outlines and the numbers of the base pixels under the cells; a legend explains the shades.
 ///
-/// Takes the memory of the set's cells, goes over them once, and looks each cell of order 7 that the set meets up in
-/// O(log n); refused where memory runs out.
+/// # Errors
+/// Fails with `Memory` if an allocation fails.
+///
+/// # Complexity
+/// Time of `Coverage::cells`, a few passes over the cells, and a few searches in O(log n) for each cell of order 7 that
+/// the set meets.
+///
+/// # Memory
+/// Proportional to the number of the set's cells.
+///
+/// # Source
+/// Górski et al. 2005, the HEALPix projection.
 pub fn draw(alloc: Global, set: &Coverage) -> Result<String, Memory>
     ensures { IfOk result (λ t. string_bytes t ≡ picture_of set.now) }
 {
@@ -39,7 +50,7 @@ pub fn draw(alloc: Global, set: &Coverage) -> Result<String, Memory>
     Ok(text)
 }
 
-/// Adds the title, the bounds of the plane and the ground.
+/// Appends the title, the bounds of the projection and the background.
 pub fn push_head(text: &mut String) -> Result<(), AllocError>
     ensures { OnOk result (string_bytes text.new ≡ string_bytes text.old ++ picture_head) }
 {
@@ -51,7 +62,7 @@ pub fn push_head(text: &mut String) -> Result<(), AllocError>
     Ok(())
 }
 
-/// Adds what the group of the cells begins with.
+/// Appends the start of the group of cells, which is mirrored.
 pub fn push_mirror(text: &mut String) -> Result<(), AllocError>
     ensures { OnOk result (string_bytes text.new ≡ string_bytes text.old ++ group_head) }
 {
@@ -60,7 +71,7 @@ pub fn push_mirror(text: &mut String) -> Result<(), AllocError>
     )
 }
 
-/// Adds the marks in their shades.
+/// Appends the marks in their shades.
 #[tactic(auto, unfolding(crate::specs::Drawing::shades))]
 fn push_shades(text: &mut String, marks: &[(Cell, u64)]) -> Result<(), AllocError>
     ensures { OnOk result (string_bytes text.new ≡ string_bytes text.old ++ shades marks.now) }
@@ -74,7 +85,7 @@ fn push_shades(text: &mut String, marks: &[(Cell, u64)]) -> Result<(), AllocErro
     Ok(())
 }
 
-/// Adds the path of a shade in its colour.
+/// Appends the path of one shade in its colour.
 fn push_shade(
     text: &mut String,
     marks: &[(Cell, u64)],
@@ -90,7 +101,7 @@ fn push_shade(
     Ok(())
 }
 
-/// Adds what a path of cells in a colour begins with.
+/// Appends the start of a path of cells in a colour.
 pub fn push_path_head(text: &mut String, colour: &str) -> Result<(), AllocError>
     ensures { OnOk result (string_bytes text.new ≡ string_bytes text.old ++ path_head colour.now) }
 {
@@ -102,7 +113,7 @@ pub fn push_path_head(text: &mut String, colour: &str) -> Result<(), AllocError>
     Ok(())
 }
 
-/// Adds the diamonds of the marks of a shade.
+/// Appends the diamonds of the marks of one shade.
 #[tactic(auto, unfolding(crate::specs::Drawing::mark_diamonds))]
 fn push_marks(text: &mut String, marks: &[(Cell, u64)], shade: u64) -> Result<(), AllocError>
     ensures { OnOk result (string_bytes text.new
@@ -116,7 +127,7 @@ fn push_marks(text: &mut String, marks: &[(Cell, u64)], shade: u64) -> Result<()
     Ok(())
 }
 
-/// Adds the sky: the base pixels, outlined.
+/// Appends the sky: the outlined base pixels.
 pub fn push_outlines(text: &mut String) -> Result<(), AllocError>
     ensures { OnOk result (string_bytes text.new ≡ string_bytes text.old ++ outlines) }
 {
@@ -126,7 +137,7 @@ pub fn push_outlines(text: &mut String) -> Result<(), AllocError>
     Ok(())
 }
 
-/// Adds the diamonds of the base pixels.
+/// Appends the diamonds of the base pixels.
 fn push_base_pixels(text: &mut String) -> Result<(), AllocError>
     ensures { OnOk result (string_bytes text.new
         ≡ string_bytes text.old ++ flat_map (λ f. cell_diamonds (cell_number 0 f)) (range_with_len 0 12)) }
@@ -137,7 +148,7 @@ fn push_base_pixels(text: &mut String) -> Result<(), AllocError>
     Ok(())
 }
 
-/// Adds the diamonds of a cell of order 7 or less.
+/// Appends the diamonds of a cell of order 7 or less.
 #[tactic(auto, unfolding(crate::specs::Drawing::cell_diamonds))]
 pub fn push_cell(text: &mut String, cell: Cell) -> Result<(), AllocError>
     ensures { OnOk result (string_bytes text.new ≡ string_bytes text.old ++ cell_diamonds cell) }
@@ -147,7 +158,7 @@ pub fn push_cell(text: &mut String, cell: Cell) -> Result<(), AllocError>
     push_diamonds(text, half, row, column)
 }
 
-/// Adds the diamonds of a place that is a row and a column, in steps of half a diamond's width.
+/// Appends the diamonds at a row and a column, which count in steps of half a diamond's width.
 #[tactic(auto, unfolding(crate::specs::Drawing::diamonds_at))]
 fn push_diamonds(text: &mut String, half: u64, row: u64, column: u64) -> Result<(), AllocError>
     requires half { half ≤ 128 }
@@ -162,7 +173,7 @@ fn push_diamonds(text: &mut String, half: u64, row: u64, column: u64) -> Result<
     Ok(())
 }
 
-/// Adds a diamond round a middle.
+/// Appends a diamond around a centre.
 #[tactic(auto, unfolding(crate::specs::Drawing::diamond))]
 fn push_diamond(text: &mut String, half: u64, x: u64, y: u64) -> Result<(), AllocError>
     requires { half ≤ y }
@@ -179,7 +190,7 @@ fn push_diamond(text: &mut String, half: u64, x: u64, y: u64) -> Result<(), Allo
     text.push('z')
 }
 
-/// Adds the numbers of the base pixels.
+/// Appends the numbers of the base pixels.
 pub fn push_labels(text: &mut String) -> Result<(), AllocError>
     ensures { OnOk result (string_bytes text.new ≡ string_bytes text.old ++ labels) }
 {
@@ -191,7 +202,7 @@ pub fn push_labels(text: &mut String) -> Result<(), AllocError>
     Ok(())
 }
 
-/// Adds a text for each base pixel.
+/// Appends a label for each base pixel.
 fn push_numbers(text: &mut String) -> Result<(), AllocError>
     ensures { OnOk result (string_bytes text.new
         ≡ string_bytes text.old ++ flat_map (λ f. labels_at f (row_of 0 f) (column_of 0 f)) (range_with_len 0 12)) }
@@ -203,7 +214,7 @@ fn push_numbers(text: &mut String) -> Result<(), AllocError>
     Ok(())
 }
 
-/// Adds the number of a base pixel in a row and a column, which is counted from the right.
+/// Appends the number of a base pixel in a row and a column. Columns count from the right.
 #[tactic(auto, unfolding(crate::specs::Drawing::labels_at))]
 fn push_labels_at(text: &mut String, face: u64, row: u64, column: u64) -> Result<(), AllocError>
     requires row { row < 4 }
@@ -219,7 +230,7 @@ fn push_labels_at(text: &mut String, face: u64, row: u64, column: u64) -> Result
     }
 }
 
-/// Adds a number at a place.
+/// Appends a number at a position.
 #[tactic(auto, unfolding(crate::specs::Drawing::label))]
 fn push_label(text: &mut String, number: u64, x: u64, y: u64) -> Result<(), AllocError>
     ensures { OnOk result (string_bytes text.new ≡ string_bytes text.old ++ label number x y) }
@@ -230,7 +241,7 @@ fn push_label(text: &mut String, number: u64, x: u64, y: u64) -> Result<(), Allo
     text.push_str("</text>\n")
 }
 
-/// Adds what a legend begins with: which way is east, and what its entries tell.
+/// Appends the start of a legend: the directions east and west, and the title of the entries.
 pub fn push_legend_head(text: &mut String, title: &str) -> Result<(), AllocError>
     ensures { OnOk result (string_bytes text.new ≡ string_bytes text.old ++ legend_head title.now) }
 {
@@ -243,7 +254,7 @@ pub fn push_legend_head(text: &mut String, title: &str) -> Result<(), AllocError
     Ok(())
 }
 
-/// Adds what the shades mean.
+/// Appends the legend of the shades.
 #[tactic(auto, unfolding(crate::specs::Drawing::legend))]
 fn push_legend(text: &mut String) -> Result<(), AllocError>
     ensures { OnOk result (string_bytes text.new ≡ string_bytes text.old ++ legend) }
@@ -257,7 +268,7 @@ fn push_legend(text: &mut String) -> Result<(), AllocError>
     Ok(())
 }
 
-/// Adds a shade to the legend, at its place.
+/// Appends a shade with its meaning to the legend, at a position.
 #[tactic(auto, unfolding(crate::specs::Drawing::legend_entry))]
 pub fn push_entry(text: &mut String, x: u64, colour: &str, meaning: &str) -> Result<(), AllocError>
     requires { x ≤ 1024 }

@@ -1,43 +1,44 @@
-//! Which form a text has, as its first byte that is no blank tells.
+//! Detection of the format of a text by its first byte that is not a blank; for hints also by whether it has a slash.
 ghost use Rattle.std.specs.Prelude.{◌≡◌};
 ghost use Rattle.moc_forms.specs.Combining.{are_blanks};
-ghost use Rattle.moc_forms.specs.Finding.{first_byte as first_byte_of, form_for, hint_of, hint_text};
+ghost use Rattle.moc_forms.specs.Finding.{first_nonblank_byte as first_nonblank_byte_of, format_for};
+ghost use Rattle.moc_forms.specs.Finding.{hint_of, hint_text};
 ghost use Rattle.moc_forms.specs.Finding.{is_blank_byte as is_blank_byte_of, looks_like};
 
-use crate::form::Form;
-use crate::name_error::FormNameError;
+use crate::format::Format;
+use crate::name_error::FormatNameError;
 use std::fmt;
 use std::str::FromStr;
 
-/// The form that a text is read in: one that is named, or the one that is found.
+/// The format to read a text in: a given one, or the detected one.
 #[derive(Clone, Copy, Debug, PartialEq, Eq, Hash)]
-pub enum Choice {
-    /// This form.
-    Named(Form),
-    /// JSON where the text's first byte that is no blank is `{`, and else ASCII.
+pub enum FormatChoice {
+    /// The given format.
+    Named(Format),
+    /// JSON if the first byte that is not a blank is `{`, else ASCII.
     Auto,
 }
 
-/// The choice that the command line calls `auto`, or by the name of a form; refused with `NotForm`.
-impl FromStr for Choice {
-    type Err = FormNameError;
+/// Parses a choice on the command line: `auto` or the name of a format. Fails with `NotFormat` for any other word.
+impl FromStr for FormatChoice {
+    type Err = FormatNameError;
 
-    ghost use Rattle.moc_sphere.specs.Names.{IsNamed};
+    ghost use Rattle.moc_sphere.specs.Names.{ParsesName};
     ghost use Rattle.moc_forms.specs.Finding.{choice_name};
-    ghost use Rattle.moc_forms.specs.declared.name_error.FormNameError.TheVariants.{NotForm};
+    ghost use Rattle.moc_forms.specs.declared.name_error.FormatNameError.TheVariants.{NotFormat};
 
-    ghost from_str_gives = { IsNamed choice_name NotForm };
+    ghost from_str_gives = { ParsesName choice_name NotFormat };
 
-    fn from_str(word: &str) -> Result<Choice, FormNameError> {
+    fn from_str(word: &str) -> Result<FormatChoice, FormatNameError> {
         match word {
-            "auto" => Ok(Choice::Auto),
-            _ => Ok(Choice::Named(Form::from_str(word)?)),
+            "auto" => Ok(FormatChoice::Auto),
+            _ => Ok(FormatChoice::Named(Format::from_str(word)?)),
         }
     }
 }
 
-/// The word of the command line, which `from_str` takes.
-impl fmt::Display for Choice {
+/// Writes the word of the command line, which `from_str` parses.
+impl fmt::Display for FormatChoice {
     ghost use Rattle.std.specs.Prelude.{Some};
     ghost use Rattle.moc_forms.specs.Finding.{choice_name};
 
@@ -45,30 +46,30 @@ impl fmt::Display for Choice {
 
     fn fmt<W: fmt::Write>(&self, f: &mut fmt::Formatter<W>) -> fmt::Result {
         match self {
-            Choice::Named(form) => write!(f, "{form}"),
-            Choice::Auto => write!(f, "auto"),
+            FormatChoice::Named(format) => write!(f, "{format}"),
+            FormatChoice::Auto => write!(f, "auto"),
         }
     }
 }
 
-impl Choice {
-    /// The form that a text is read in. Linear in the blanks at its front; takes no memory.
-    pub fn form(self, text: &[u8]) -> Form
-        ensures { result ≡ form_for self text.now }
+impl FormatChoice {
+    /// Returns the format to read a text in. Linear in the number of leading blanks; allocates nothing.
+    pub fn format(self, text: &[u8]) -> Format
+        ensures { result ≡ format_for self text.now }
     {
         match self {
-            Choice::Named(form) => form,
-            Choice::Auto => match first_byte(text) {
-                Some(b'{') => Form::Json,
-                _ => Form::Ascii,
+            FormatChoice::Named(format) => format,
+            FormatChoice::Auto => match first_nonblank_byte(text) {
+                Some(b'{') => Format::Json,
+                _ => Format::Ascii,
             },
         }
     }
 }
 
-/// The first byte that is no blank: no space, tab, CR or LF.
-fn first_byte(text: &[u8]) -> Option<u8>
-    ensures { result ≡ first_byte_of text.now }
+/// Returns the first byte that is not a blank (space, tab, CR or LF).
+fn first_nonblank_byte(text: &[u8]) -> Option<u8>
+    ensures { result ≡ first_nonblank_byte_of text.now }
 {
     for byte in text {
         if !is_blank_byte(*byte) {
@@ -78,55 +79,57 @@ fn first_byte(text: &[u8]) -> Option<u8>
     None
 }
 
-/// Whether a text is nothing, or blanks alone: spaces, tabs, CR and LF. Behind a semicolon such a text is none.
+/// Returns whether a text is empty or consists of blanks: spaces, tabs, CR and LF. After a semicolon such a text does
+/// not count as a text.
 ///
-/// Linear in the blanks at its front; takes no memory.
+/// Linear in the number of leading blanks; allocates nothing.
 pub fn is_blank(text: &[u8]) -> bool
     ensures { result ≡ are_blanks text.now }
 {
-    first_byte(text).is_none()
+    first_nonblank_byte(text).is_none()
 }
 
-/// Whether a byte is a space, a tab, CR or LF.
+/// Returns whether a byte is a space, a tab, CR or LF.
 fn is_blank_byte(byte: u8) -> bool
     ensures { result ≡ is_blank_byte_of byte }
 {
     matches!(byte, b' ' | b'\t' | b'\r' | b'\n')
 }
 
-/// The form that a text looks like, where it is read in another: JSON where its first byte that is no blank is `{`;
-/// where that is a digit, `s` or a comma, ASCII if the text has a slash, and else a NUNIQ list.
+/// Returns the format that a text looks like if it differs from the given one. A text looks like JSON if its first byte
+/// that is not a blank is `{`. If this byte is a digit, `s` or a comma, the text looks like ASCII if it has a slash,
+/// else like a NUNIQ list.
 ///
-/// Linear in the text; takes no memory.
-pub fn hint(form: Form, text: &[u8]) -> Option<Form>
-    ensures { result ≡ hint_of form text.now }
+/// Linear in the length of the text; allocates nothing.
+pub fn hint(format: Format, text: &[u8]) -> Option<Format>
+    ensures { result ≡ hint_of format text.now }
 {
-    let seen = looks(text)?;
-    if seen == form {
+    let detected = detect_format(text)?;
+    if detected == format {
         return None;
     }
-    Some(seen)
+    Some(detected)
 }
 
-/// The form that a text looks like.
-fn looks(text: &[u8]) -> Option<Form>
+/// Returns the format that a text looks like.
+fn detect_format(text: &[u8]) -> Option<Format>
     ensures { result ≡ looks_like text.now }
 {
-    match first_byte(text)? {
-        b'{' => Some(Form::Json),
-        b'0'..=b'9' | b's' | b',' if text.contains(&b'/') => Some(Form::Ascii),
-        b'0'..=b'9' | b's' | b',' => Some(Form::Uniq),
+    match first_nonblank_byte(text)? {
+        b'{' => Some(Format::Json),
+        b'0'..=b'9' | b's' | b',' if text.contains(&b'/') => Some(Format::Ascii),
+        b'0'..=b'9' | b's' | b',' => Some(Format::Uniq),
         _ => None,
     }
 }
 
-/// The line that says which form a text looks like.
-pub fn hint_line(form: Form) -> &'static str
-    ensures { result.now ≡ hint_text form }
+/// Returns the line that names the format that a text looks like.
+pub fn hint_line(format: Format) -> &'static str
+    ensures { result.now ≡ hint_text format }
 {
-    match form {
-        Form::Ascii => "this looks like ASCII\n",
-        Form::Json => "this looks like JSON\n",
-        Form::Uniq => "this looks like a NUNIQ list\n",
+    match format {
+        Format::Ascii => "this looks like ASCII\n",
+        Format::Json => "this looks like JSON\n",
+        Format::Uniq => "this looks like a NUNIQ list\n",
     }
 }

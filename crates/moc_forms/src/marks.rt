@@ -1,4 +1,4 @@
-//! Which cells of a set are drawn, and how dark.
+//! The cells of a set that are drawn, with their shades.
 ghost use Rattle.std.specs.Prelude.{◌≡◌, ◌++◌, ◌<◌, ◌∷◌, [], true, if◌then◌else◌, IfOk, OnOk};
 ghost use Rattle.moc_sphere.specs.CellNumber.{cell_count, cell_number};
 ghost use Rattle.moc_ranges.specs.Cells.{span};
@@ -10,19 +10,19 @@ use moc_sphere::{Cell, Order};
 use std::alloc::{AllocError, Global};
 
 /// The deepest order whose cells are drawn.
-const DEEPEST: u8 = 7;
+const MARK_ORDER: u8 = 7;
 
-/// How many pixels of order 29 a cell of it has: 4^22.
+/// The number of pixels of order 29 in a cell of this order: 4^22.
 const CELL_SIZE: u64 = 17592186044416;
 
-/// A quarter of them.
+/// A quarter of these pixels.
 const QUARTER: u64 = 4398046511104;
 
 /// The darkest shade.
 const DARKEST: u64 = 4;
 
-/// The cells that are drawn, with their shades from 1 to 4: those of the set of order 7 or less, and the cells of order
-/// 7 that its deeper cells fill in part.
+/// Returns the cells that are drawn, with their shades from 1 to 4: the cells of the set of order 7 or less, and the
+/// cells of order 7 that the set contains in part.
 #[tactic(auto, unfolding(crate::specs::Drawing::marks_of))]
 pub fn marks(alloc: Global, set: &Coverage) -> Result<Vec<(Cell, u64)>, Memory>
     ensures { IfOk result (λ v. v.items ≡ marks_of set.now) }
@@ -34,20 +34,21 @@ pub fn marks(alloc: Global, set: &Coverage) -> Result<Vec<(Cell, u64)>, Memory>
     Ok(marks)
 }
 
-/// Adds the cells of order 7 or less, whole.
+/// Appends the cells of order 7 or less, in the darkest shade.
 #[tactic(auto, unfolding(crate::specs::Drawing::whole_marks))]
 fn push_whole(marks: &mut Vec<(Cell, u64)>, cells: &[Cell]) -> Result<(), AllocError>
     ensures { OnOk result (marks.new.items ≡ marks.old.items ++ whole_marks cells.now) }
 {
     for cell in cells {
-        if cell.order().get() <= DEEPEST {
+        if cell.order().get() <= MARK_ORDER {
             marks.push((*cell, DARKEST))?;
         }
     }
     Ok(())
 }
 
-/// Adds the cells of order 7 that the set fills in part, by rising index: goes from each that it meets to the next.
+/// Appends the cells of order 7 that the set contains in part, in ascending order. Moves from each cell that the set
+/// meets to the next one.
 fn push_all_partial(
     alloc: Global,
     marks: &mut Vec<(Cell, u64)>,
@@ -64,7 +65,7 @@ fn push_all_partial(
     Ok(())
 }
 
-/// Adds a cell of order 7 if the set fills it in part.
+/// Appends a cell of order 7 if the set contains it in part.
 #[tactic(auto, unfolding(crate::specs::Drawing::is_partial))]
 fn push_partial(
     alloc: Global,
@@ -76,7 +77,7 @@ fn push_partial(
     ensures { OnOk result (marks.new.items ≡ marks.old.items
         ++ (if is_partial set.now index then (cell_number 7 index, shade_of set.now index) ∷ [] else [])) }
 {
-    let cell = Cell::of(Order::of(DEEPEST), index);
+    let cell = Cell::of(Order::of(MARK_ORDER), index);
     if set.meets_cell(cell) && !set.contains_cell(cell) {
         let shade = shade(alloc, set, cell)?;
         marks.push((cell, shade))?;
@@ -84,7 +85,7 @@ fn push_partial(
     Ok(())
 }
 
-/// The shade of a cell of order 7 that the set meets.
+/// Returns the shade of a cell of order 7 that the set meets.
 #[tactic(auto, unfolding(crate::specs::Drawing::shade_of, moc_ranges::specs::Operations::meets))]
 fn shade(alloc: Global, set: &Coverage, cell: Cell) -> Result<u64, Memory>
     requires order { cell.order ≡ 7 }

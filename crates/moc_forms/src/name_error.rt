@@ -1,13 +1,13 @@
-//! Why a word names nothing.
+//! Errors of names on the command line.
 use thiserror::Error;
 
-/// Why a word names no form of texts, or no operation.
+/// Why a word is not the name of a text format or of an operation.
 #[derive(Clone, Copy, Debug, PartialEq, Eq, Error)]
-pub enum FormNameError {
-    /// The word names no form.
+pub enum FormatNameError {
+    /// The word is not the name of a text format.
     #[error("no form of texts has that name")]
-    NotForm,
-    /// The word names no operation.
+    NotFormat,
+    /// The word is not the name of an operation.
     #[error("no operation has that name")]
     NotOperation,
 }

@@ -1,4 +1,4 @@
-//! Two sets of pixels as a picture.
+//! Two sets of pixels as an SVG picture.
 ghost use Rattle.std.specs.Prelude.{◌≡◌, ◌++◌, IfOk, OnOk};
 ghost use Rattle.std.specs.String.{string_bytes};
 ghost use Rattle.moc_forms.specs.Drawing.{cells_of_two, legend_of_two, mark_diamonds, marks_of, marks_path};
@@ -13,12 +13,18 @@ use moc_ranges::{Coverage, Memory};
 use moc_sphere::Cell;
 use std::alloc::{AllocError, Global};
 
-/// A picture of two sets, as SVG, in the plane in which `draw` shows one: what the first alone has in blue, what the
-/// second alone has in orange, and over these what both have in black. Cells of order 7 and coarser are drawn whole,
-/// and deeper ones as their cells of order 7; a legend tells the colours.
+/// Returns a picture of two sets as SVG, in the projection of `draw`: the pixels of the first set only in blue, of the
+/// second only in orange, and over these the pixels of both in black. Cells of order 7 and coarser are drawn whole,
+/// deeper cells as the cells of order 7 around them; a legend explains the colours.
 ///
-/// Takes the memory of the cells of the three, one after another, and looks each cell of order 7 that they meet up in
-/// O(log n); refused where memory runs out.
+/// # Errors
+/// Fails with `Memory` if an allocation fails.
+///
+/// # Complexity
+/// Time of two differences and an intersection, and for each of these three sets the time of `draw`.
+///
+/// # Memory
+/// Proportional to the number of cells of the largest of the three sets; one is drawn after another.
 pub fn draw_two(alloc: Global, first: &Coverage, second: &Coverage) -> Result<String, Memory>
     ensures { IfOk result (λ t. string_bytes t ≡ picture_of_two first.now second.now) }
 {
@@ -32,7 +38,7 @@ pub fn draw_two(alloc: Global, first: &Coverage, second: &Coverage) -> Result<St
     Ok(text)
 }
 
-/// Adds the cells of each kind in its colour.
+/// Appends the cells of each kind in its colour.
 fn push_kinds(
     alloc: Global,
     text: &mut String,
@@ -49,7 +55,7 @@ fn push_kinds(
     Ok(())
 }
 
-/// Adds the path of the cells of a set in a colour.
+/// Appends the path of the cells of a set in a colour.
 fn push_set(alloc: Global, text: &mut String, set: &Coverage, colour: &str) -> Result<(), Memory>
     ensures { OnOk result (string_bytes text.new ≡ string_bytes text.old ++ marks_path (marks_of set.now) colour.now) }
 {
@@ -60,7 +66,7 @@ fn push_set(alloc: Global, text: &mut String, set: &Coverage, colour: &str) -> R
     Ok(())
 }
 
-/// Adds the diamonds of marks.
+/// Appends the diamonds of marks.
 #[tactic(auto, unfolding(crate::specs::Drawing::mark_diamonds))]
 fn push_diamonds_of(text: &mut String, marks: &[(Cell, u64)]) -> Result<(), AllocError>
     ensures { OnOk result (string_bytes text.new ≡ string_bytes text.old ++ mark_diamonds marks.now) }
@@ -71,7 +77,7 @@ fn push_diamonds_of(text: &mut String, marks: &[(Cell, u64)]) -> Result<(), Allo
     Ok(())
 }
 
-/// Adds what the colours mean.
+/// Appends the legend of the colours.
 fn push_legend_of_two(text: &mut String) -> Result<(), AllocError>
     ensures { OnOk result (string_bytes text.new ≡ string_bytes text.old ++ legend_of_two) }
 {

@@ -1,35 +1,36 @@
-//! Where a text is at fault.
+//! Positions of errors in texts.
 ghost use Rattle.std.specs.Prelude.{◌≡◌, ◌++◌, IfOk, OnOk, option_map};
 ghost use Rattle.std.specs.String.{string_bytes};
-ghost use Rattle.moc_forms.specs.Places.{byte_place, line_of_place, place_text, quote_behind};
+ghost use Rattle.moc_forms.specs.Places.{byte_place, line_of_place, place_text, quote_after};
 
 use crate::texts::push_count;
 use moc_sphere::Order;
 use std::alloc::{AllocError, Global};
 use std::fmt::{self, Write};
 
-/// Where a text is at fault. Lines are counted from 1, and so is the column of `Stop`; all else from 0.
+/// The position of an error in a text. Lines, and the column of `JsonSyntax`, count from 1; everything else counts
+/// from 0.
 #[derive(Clone, Copy, Debug, PartialEq, Eq)]
 pub enum Place {
     /// A byte of an ASCII text.
     Byte {
-        /// Its place in the text.
+        /// The offset in the text.
         at: usize,
-        /// The number of its line.
+        /// The number of the line.
         line: usize,
-        /// How many bytes of the line stand before it.
+        /// The number of bytes before it in the line.
         column: usize,
     },
     /// A line of a NUNIQ list.
     Line(usize),
-    /// Where `serde_json` stops reading.
-    Stop {
+    /// The position at which `serde_json` stops reading.
+    JsonSyntax {
         /// The number of the line.
         line: usize,
         /// The column in the line, as `serde_json` counts it.
         column: usize,
     },
-    /// A name of a JSON object that is no order, in byte order.
+    /// A name of a JSON object that is not an order, by its index in byte order.
     Name(usize),
     /// An order of a JSON object.
     Order(Order),
@@ -37,13 +38,13 @@ pub enum Place {
     Number {
         /// The order.
         order: Order,
-        /// Which number of the array it is.
+        /// The index of the number in the array.
         number: usize,
     },
 }
 
 impl Place {
-    /// The place of a byte, or of the end where the text has no such byte. Linear in the bytes before it.
+    /// Returns the position of a byte, or of the end if the text is shorter. Linear in the number of bytes before it.
     #[tactic(auto, using(crate::proofs::Ends::ended_here, crate::proofs::Ends::ended_before))]
     pub fn of_byte(text: &[u8], at: usize) -> Place
         ensures { result ≡ byte_place text.now at }
@@ -62,7 +63,7 @@ impl Place {
     }
 }
 
-/// The place in words, as `moc check` says it.
+/// Writes the position as `moc check` prints it.
 impl fmt::Display for Place {
     ghost use Rattle.std.specs.Prelude.{Some};
 
@@ -74,7 +75,7 @@ impl fmt::Display for Place {
                 write!(f, "byte {at}, line {line}, byte {column} of it")
             }
             Place::Line(line) => write!(f, "line {line}"),
-            Place::Stop { line, column } => write!(f, "line {line}, column {column}"),
+            Place::JsonSyntax { line, column } => write!(f, "line {line}, column {column}"),
             Place::Name(name) => write!(f, "name {name}"),
             Place::Order(order) => write!(f, "order {order}"),
             Place::Number { order, number } => write!(f, "order {order}, number {number}"),
@@ -82,9 +83,14 @@ impl fmt::Display for Place {
     }
 }
 
-/// The line that says where a fault is: the number of the text, where texts are counted, the place in it, if there is
-/// one, and what stands there, if it is quoted; `None` where there is nothing to say. Refused where memory runs out.
-/// Linear in the text that is made.
+/// Returns the line that reports the position of an error: the number of the text if texts are counted, the position if
+/// there is one, and the quote if there is one. Returns `None` if neither a number nor a position is given.
+///
+/// # Errors
+/// Fails with `AllocError` if an allocation fails.
+///
+/// # Complexity
+/// Linear in the length of the line.
 pub fn place_line(
     alloc: Global,
     number: Option<u64>,
@@ -109,10 +115,10 @@ pub fn place_line(
     Ok(Some(line))
 }
 
-/// Adds a place, and behind it what stands there, if it is quoted.
+/// Appends a position, and the quote after it if there is one.
 fn push_place(text: &mut String, place: Place, quote: Option<&str>) -> Result<(), AllocError>
     ensures { OnOk result (string_bytes text.new
-        ≡ string_bytes text.old ++ (place_text place ++ quote_behind (option_map (λ q. q.now) quote.entry))) }
+        ≡ string_bytes text.old ++ (place_text place ++ quote_after (option_map (λ q. q.now) quote.entry))) }
 {
     write!(text, "{place}")?;
     if let Some(quote) = quote {

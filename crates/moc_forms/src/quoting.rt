@@ -1,45 +1,49 @@
-//! What stands in a text at its fault.
+//! Quotes of the faulty part of a text.
 ghost use Rattle.std.specs.Prelude.{◌≡◌, ◌++◌, ◌<◌, ◌≤◌, ℕ, List, Option, [], length, option_map, slice_index_or};
 ghost use Rattle.std.specs.Prelude.{take, IfOk, OnOk};
 ghost use Rattle.std.specs.List.{after_last, before_first, position_or_len};
 ghost use Rattle.std.specs.String.{string_bytes};
 ghost use Rattle.moc_text.specs.Ascii.{is_separator as is_separator_byte};
 ghost use Rattle.moc_text.specs.Lines.{is_line_feed, lines_of};
-ghost use Rattle.moc_text.specs.Places.{fault_byte, fault_line};
+ghost use Rattle.moc_text.specs.Places.{error_byte, error_line};
 ghost use Rattle.moc_forms.specs.Quotes.{IsQuotedText, byte_quoted, bytes_quoted, hex_digit};
-ghost use Rattle.moc_forms.specs.Quotes.{is_plain as is_plain_byte, line_numbered, quote_text, word_round};
+ghost use Rattle.moc_forms.specs.Quotes.{is_plain as is_plain_byte, line_numbered, quote_text, word_around};
 
-use crate::form::FormError;
+use crate::format::FormatError;
 use moc_ranges::Memory;
-use moc_text::{JsonError, TextError, UniqError, is_separator, json_site};
+use moc_text::{JsonError, TextError, UniqError, is_separator, json_content_at};
 use std::alloc::{AllocError, Global};
 
-/// How many bytes are quoted at most.
-const QUOTED: usize = 40;
+/// The maximal number of bytes of a text that a quote shows.
+const MAX_QUOTE_BYTES: usize = 40;
 
-/// The quote of what stands at a fault, which tells of this text: the word of an ASCII text, the line of a NUNIQ list,
-/// the name of a JSON object or the item of its array, whose text is `serde_json`'s. At most 40 bytes stand between
-/// backquotes, each that is no printable ASCII by its hexadecimal digits, and `..` behind them where there are more.
-/// `None` where no place is known.
+/// Returns a quote of the faulty part of a text: the word of an ASCII text, the line of a NUNIQ list, the name of a
+/// JSON object or the item of its array as `serde_json` writes it. A quote shows at most the first 40 bytes of the
+/// part, between backquotes. A byte that is not printable ASCII, a backslash or a backquote is written as `\x` and two
+/// hexadecimal digits. If the part is longer, `..` follows. Returns `None` if the error has no position.
 ///
-/// Linear in the text, of which a JSON one is parsed once more; refused where memory runs out.
-pub fn quote(alloc: Global, text: &[u8], error: FormError) -> Result<Option<String>, Memory>
+/// # Errors
+/// Fails with `Memory` if an allocation fails.
+///
+/// # Complexity
+/// Linear in the length of the text. A JSON text is parsed again.
+pub fn quote(alloc: Global, text: &[u8], error: FormatError) -> Result<Option<String>, Memory>
     ensures { IfOk result (λ quote. (found : Option (List ℕ)) × IsQuotedText text.now error found
         × (option_map string_bytes quote ≡ option_map quote_text found)) }
 {
     match error {
-        FormError::Ascii(fault) => Ok(quote_of(alloc, word_at(text, fault))?),
-        FormError::Uniq(fault) => Ok(quote_of(alloc, line_at(text, fault))?),
-        FormError::Json(fault) => match json_piece(alloc, text, fault) {
+        FormatError::Ascii(fault) => Ok(quote_of(alloc, word_at(text, fault))?),
+        FormatError::Uniq(fault) => Ok(quote_of(alloc, line_at(text, fault))?),
+        FormatError::Json(fault) => match json_piece(alloc, text, fault) {
             Ok(Some(piece)) => Ok(quote_of(alloc, Some(piece.as_bytes()))?),
             Ok(None) => Ok(None),
             Err(_) => Err(Memory),
         },
-        FormError::TooCoarse | FormError::Memory => Ok(None),
+        FormatError::TooCoarse | FormatError::Memory => Ok(None),
     }
 }
 
-/// The quote of bytes, if there are any to quote.
+/// Returns the quote of a part of a text, or `None` if there is no part.
 fn quote_of(alloc: Global, piece: Option<&[u8]>) -> Result<Option<String>, AllocError>
     ensures { IfOk result (λ quote.
         option_map string_bytes quote ≡ option_map quote_text (option_map (λ p. p.now) piece.entry)) }
@@ -52,20 +56,20 @@ fn quote_of(alloc: Global, piece: Option<&[u8]>) -> Result<Option<String>, Alloc
     Ok(Some(text))
 }
 
-/// Adds a quote.
+/// Appends a quote.
 fn push_quoted(text: &mut String, piece: &[u8]) -> Result<(), AllocError>
     ensures { OnOk result (string_bytes text.new ≡ string_bytes text.old ++ quote_text piece.now) }
 {
     text.push('`')?;
-    push_bytes(text, &piece[..piece.len().min(QUOTED)])?;
+    push_bytes(text, &piece[..piece.len().min(MAX_QUOTE_BYTES)])?;
     text.push('`')?;
-    if piece.len() > QUOTED {
+    if piece.len() > MAX_QUOTE_BYTES {
         text.push_str("..")?;
     }
     Ok(())
 }
 
-/// Adds bytes as they are quoted.
+/// Appends bytes in quoted form.
 #[tactic(auto, unfolding(crate::specs::Quotes::bytes_quoted))]
 fn push_bytes(text: &mut String, bytes: &[u8]) -> Result<(), AllocError>
     ensures { OnOk result (string_bytes text.new ≡ string_bytes text.old ++ bytes_quoted bytes.now) }
@@ -76,7 +80,7 @@ fn push_bytes(text: &mut String, bytes: &[u8]) -> Result<(), AllocError>
     Ok(())
 }
 
-/// Adds a byte as it is quoted.
+/// Appends a byte in quoted form.
 fn push_byte(text: &mut String, byte: u8) -> Result<(), AllocError>
     ensures { OnOk result (string_bytes text.new ≡ string_bytes text.old ++ byte_quoted byte) }
 {
@@ -88,14 +92,14 @@ fn push_byte(text: &mut String, byte: u8) -> Result<(), AllocError>
     text.push(char::from(hex(byte % 16)))
 }
 
-/// Whether a byte is quoted as it is.
+/// Returns whether a byte is quoted unchanged.
 fn is_plain(byte: u8) -> bool
     ensures { result ≡ is_plain_byte byte }
 {
     (b' '..=b'~').contains(&byte) && byte != b'\\' && byte != b'`'
 }
 
-/// The hexadecimal digit of a number.
+/// Returns the hexadecimal digit of a number.
 fn hex(number: u8) -> u8
     requires { number < 16 }
     ensures value { result ≡ hex_digit number }
@@ -108,24 +112,24 @@ fn hex(number: u8) -> u8
     }
 }
 
-/// The word at the fault of an ASCII text.
+/// Returns the word at the error of an ASCII text.
 fn word_at(text: &[u8], fault: TextError) -> Option<&[u8]>
-    ensures { option_map (λ w. w.now) result ≡ option_map (word_round text.now) (fault_byte fault) }
+    ensures { option_map (λ w. w.now) result ≡ option_map (word_around text.now) (error_byte fault) }
 {
-    Some(word_round_place(text, fault.place()?))
+    Some(word_around_place(text, fault.place()?))
 }
 
-/// The word round a place.
-fn word_round_place(text: &[u8], at: usize) -> &[u8]
-    ensures { result.now ≡ word_round text.now at }
+/// Returns the word around a position.
+fn word_around_place(text: &[u8], at: usize) -> &[u8]
+    ensures { result.now ≡ word_around text.now at }
 {
-    let (before, behind) = text.split_at(at.min(text.len()));
-    &text[before.len() - last_word(before)..before.len() + first_word(behind)]
+    let (before, following) = text.split_at(at.min(text.len()));
+    &text[before.len() - last_word_len(before)..before.len() + first_word_len(following)]
 }
 
-/// How many bytes stand behind the last separator.
+/// Returns the number of bytes after the last separator.
 #[tactic(auto, using(crate::proofs::Ends::ended_here, crate::proofs::Ends::ended_before))]
-fn last_word(bytes: &[u8]) -> usize
+fn last_word_len(bytes: &[u8]) -> usize
     ensures count { result ≡ length (after_last is_separator_byte bytes.now) }
     ensures within { result ≤ length bytes.now }
 {
@@ -140,8 +144,8 @@ fn last_word(bytes: &[u8]) -> usize
     count
 }
 
-/// How many bytes stand before the first separator.
-fn first_word(bytes: &[u8]) -> usize
+/// Returns the number of bytes before the first separator.
+fn first_word_len(bytes: &[u8]) -> usize
     ensures count { result ≡ position_or_len is_separator_byte bytes.now }
     ensures within { result ≤ length bytes.now }
 {
@@ -155,33 +159,33 @@ fn first_word(bytes: &[u8]) -> usize
     count
 }
 
-/// The line at the fault of a NUNIQ list.
+/// Returns the line at the error of a NUNIQ list.
 fn line_at(text: &[u8], fault: UniqError) -> Option<&[u8]>
-    ensures { option_map (λ l. l.now) result ≡ option_map (line_numbered text.now) (fault_line fault) }
+    ensures { option_map (λ l. l.now) result ≡ option_map (line_numbered text.now) (error_line fault) }
 {
     let line = fault.line()?;
-    Some(front_line(behind_feeds(text, line.saturating_sub(1))))
+    Some(line_before_feed(after_line_feeds(text, line.saturating_sub(1))))
 }
 
-/// The bytes behind so many line feeds.
-fn behind_feeds(text: &[u8], feeds: usize) -> &[u8]
+/// Returns the bytes after the given number of line feeds.
+fn after_line_feeds(text: &[u8], feeds: usize) -> &[u8]
     ensures { before_first is_line_feed result.now ≡ slice_index_or (lines_of text.now) feeds [] }
 {
     let mut left = feeds;
     let mut rest = text;
     while left > 0
-        && let [byte, behind @ ..] = rest
+        && let [byte, following @ ..] = rest
     {
         if *byte == b'\n' {
             left -= 1;
         }
-        rest = behind;
+        rest = following;
     }
     rest
 }
 
-/// The bytes before the first line feed.
-fn front_line(bytes: &[u8]) -> &[u8]
+/// Returns the bytes before the first line feed.
+fn line_before_feed(bytes: &[u8]) -> &[u8]
     ensures { result.now ≡ before_first is_line_feed bytes.now }
 {
     let mut len = 0;
@@ -194,13 +198,13 @@ fn front_line(bytes: &[u8]) -> &[u8]
     &bytes[..len]
 }
 
-/// The name or the item at the fault of a JSON text.
+/// Returns the name or the item at the error of a JSON text.
 fn json_piece(alloc: Global, text: &[u8], fault: JsonError) -> Result<Option<String>, JsonError>
-    ensures { IfOk result (λ piece. IsQuotedText text.now (FormError.Json fault) (option_map string_bytes piece)) }
+    ensures { IfOk result (λ piece. IsQuotedText text.now (FormatError.Json fault) (option_map string_bytes piece)) }
 {
     let Some(place) = fault.place() else {
         return Ok(None);
     };
-    let site = json_site(alloc, text, place)?;
+    let site = json_content_at(alloc, text, place)?;
     Ok(site.text)
 }

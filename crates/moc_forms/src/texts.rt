@@ -5,7 +5,7 @@ ghost use Rattle.std.specs.String.{string_bytes};
 use itoa::Buffer;
 use std::alloc::AllocError;
 
-/// Adds a word and a number.
+/// Appends a word and a number.
 pub fn push_count(text: &mut String, word: &str, number: u64) -> Result<(), AllocError>
     ensures { OnOk result (string_bytes text.new ≡ string_bytes text.old ++ (word.now ++ decimal number)) }
 {

@@ -1,4 +1,4 @@
--- The pieces of a line, read from the left.
+-- The pieces of a line, from the left.
 use Rattle.std.proofs.Common.{◌≡◌, ℕ, suc, ◌+◌, ◌<◌, ◌≤◌, Bool, true, false, not, cond, ltb, List, [], ◌∷◌, ◌++◌}
 use Rattle.std.proofs.Common.{length, take, drop, Result, Ok, Err, refl, sym, ap, ◌∙◌, arith, append_assoc, ⊎_elim}
 use Rattle.std.proofs.lemmas.Bool.{cases_lt, lt-ltb, le-ltb}
@@ -8,10 +8,10 @@ use Rattle.std.proofs.lemmas.List.{drop-drop, take_all}
 use Rattle.std.proofs.lemmas.List.Sums.{prefix_len-le-length}
 use Rattle.std.proofs.lemmas.List.Splits.{slice_split_first, slice_split-cons_no, length-slice_split}
 use Rattle.moc_parts.specs.declared.command.Command.{Command}
-use Rattle.moc_lines.specs.Language.{◌>>=◌, piece_says, commands_of, batch_of, ReadsText}
+use Rattle.moc_lines.specs.Language.{◌>>=◌, piece_command, commands_of, batch_of, ParsesAs}
 use Rattle.moc_text.specs.Lines.{is_semicolon, pieces_of}
-use Rattle.moc_lines.specs.declared.fault.LineFault.TheVariants.{TooManyCommands}
-use Rattle.moc_lines.specs.declared.fault.LineFault.{LineFault}
+use Rattle.moc_lines.specs.declared.fault.LineError.TheVariants.{TooManyCommands}
+use Rattle.moc_lines.specs.declared.fault.LineError.{LineError}
 use Rattle.moc_lines.specs.declared.fault.ReadError.{ReadError}
 use Rattle.moc_lines.specs.declared.fault.ReadError.TheVariants as error
 
@@ -45,7 +45,7 @@ some-pieces line = omega (arith, length-slice_split is_semicolon line)
 pub pieces-counted : (line : List ℕ) (n : ℕ) → n ≡ count_by is_semicolon line → length (pieces_of line) ≡ n + 1
 pieces-counted line n is = omega (arith, length-slice_split is_semicolon line)
 
--- the pieces behind one
+-- the pieces after one
 pub pieces-last : (rest : List ℕ) (at : ℕ) → at ≡ position_or_len is_semicolon rest → at ≡ length rest → length (pieces_of rest) ≡ 1
 pieces-last rest at first none = ap length (pieces-none rest (omega arith))
 
@@ -54,117 +54,117 @@ first-within line at first = omega (arith, prefix_len-le-length (λ b. not (is_s
 
 pub pieces-next : (rest back next : List ℕ) (at : ℕ) → at ≡ position_or_len is_semicolon rest → at < length rest → back ≡ drop at rest → next ≡ drop 1 back
     → length (pieces_of rest) ≡ suc (length (pieces_of next))
-pieces-next rest back next at first found behind_is next_is =
-    ap length (pieces-found rest (omega arith)) ∙ ap (λ l. suc (length (pieces_of (drop 1 l)))) (ap (λ n. drop n rest) (sym first) ∙ sym behind_is) ∙ ap (λ l. suc (length (pieces_of l))) (sym next_is)
+pieces-next rest back next at first found following_is next_is =
+    ap length (pieces-found rest (omega arith)) ∙ ap (λ l. suc (length (pieces_of (drop 1 l)))) (ap (λ n. drop n rest) (sym first) ∙ sym following_is) ∙ ap (λ l. suc (length (pieces_of l))) (sym next_is)
 
--- a command, and those after it, or the first fault
-abbrev pub first_then : Result Command LineFault → Result (List Command) LineFault → Result (List Command) LineFault
+-- a command and those after it, or the first error
+abbrev pub first_then : Result Command LineError → Result (List Command) LineError → Result (List Command) LineError
 first_then first later = first >>= (λ command. later >>= (λ commands. Ok (command ∷ commands)))
 
--- commands, and then what the rest says
-abbrev pub behind : List Command → Result (List Command) LineFault → Result (List Command) LineFault
-behind commands (Ok later) = Ok (commands ++ later)
-behind commands (Err fault) = Err fault
+-- commands, and then the commands of the rest
+abbrev pub following : List Command → Result (List Command) LineError → Result (List Command) LineError
+following commands (Ok later) = Ok (commands ++ later)
+following commands (Err fault) = Err fault
 
-pub behind-nothing : (commands : List Command) (r : Result (List Command) LineFault) → commands ≡ [] → r ≡ behind commands r
-behind-nothing commands (Ok later) none = rw none refl
-behind-nothing commands (Err fault) none = refl
+pub following-nothing : (commands : List Command) (r : Result (List Command) LineError) → commands ≡ [] → r ≡ following commands r
+following-nothing commands (Ok later) none = rw none refl
+following-nothing commands (Err fault) none = refl
 
-push : (commands : List Command) (command : Command) (later : Result (List Command) LineFault) → behind commands (first_then (Ok command) later) ≡ behind (commands ++ command ∷ []) later
-push commands command (Ok later) = ap {B = Result (List Command) LineFault} (λ l. Ok l) (sym (append_assoc commands (command ∷ []) later))
+push : (commands : List Command) (command : Command) (later : Result (List Command) LineError) → following commands (first_then (Ok command) later) ≡ following (commands ++ command ∷ []) later
+push commands command (Ok later) = ap {B = Result (List Command) LineError} (λ l. Ok l) (sym (append_assoc commands (command ∷ []) later))
 push commands command (Err fault) = refl
 
 pub pushed_is : {T E : Type 0} (r : Result T E) (new old more : List Command) → is_err r ≡ false → new ≡ cond (is_ok r) more old → new ≡ more
 pushed_is (Ok x) new old more none is = is
 pushed_is (Err e) new old more none is = cc
 
-module _ (says : List ℕ → Result Command LineFault) where
+module _ (denotes : List ℕ → Result Command LineError) where
   -- a command and a rest
-  pub behind-found : (commands : List Command) (command : Command) (rest piece : List ℕ) (at : ℕ) → at ≡ position_or_len is_semicolon rest → at < length rest → piece ≡ take at rest
-      → piece_says says piece ≡ Ok command
-      → behind commands (commands_of says (pieces_of rest)) ≡ behind (commands ++ command ∷ []) (commands_of says (pieces_of (drop 1 (drop at rest))))
-  behind-found commands command rest piece at first found same is =
-      let later = commands_of says (pieces_of (drop 1 (drop (position_or_len is_semicolon rest) rest))) in
-      let says_so : piece_says says (take (position_or_len is_semicolon rest) rest) ≡ Ok command = ap (λ l. piece_says says l) (sym (same ∙ ap (λ n. take n rest) first)) ∙ is in
-      ap (λ ps. behind commands (commands_of says ps)) (pieces-found rest (omega arith))
-      ∙ ap (λ r. behind commands (first_then r later)) says_so
+  pub following-found : (commands : List Command) (command : Command) (rest piece : List ℕ) (at : ℕ) → at ≡ position_or_len is_semicolon rest → at < length rest → piece ≡ take at rest
+      → piece_command denotes piece ≡ Ok command
+      → following commands (commands_of denotes (pieces_of rest)) ≡ following (commands ++ command ∷ []) (commands_of denotes (pieces_of (drop 1 (drop at rest))))
+  following-found commands command rest piece at first found same is =
+      let later = commands_of denotes (pieces_of (drop 1 (drop (position_or_len is_semicolon rest) rest))) in
+      let denotes_so : piece_command denotes (take (position_or_len is_semicolon rest) rest) ≡ Ok command = ap (λ l. piece_command denotes l) (sym (same ∙ ap (λ n. take n rest) first)) ∙ is in
+      ap (λ ps. following commands (commands_of denotes ps)) (pieces-found rest (omega arith))
+      ∙ ap (λ r. following commands (first_then r later)) denotes_so
       ∙ push commands command later
-      ∙ ap (λ n. behind (commands ++ command ∷ []) (commands_of says (pieces_of (drop 1 (drop n rest))))) (sym first)
+      ∙ ap (λ n. following (commands ++ command ∷ []) (commands_of denotes (pieces_of (drop 1 (drop n rest))))) (sym first)
 
   -- the last command
-  pub behind-last : (commands : List Command) (command : Command) (rest piece : List ℕ) (at : ℕ) → at ≡ position_or_len is_semicolon rest → at ≡ length rest → piece ≡ take at rest
-      → piece_says says piece ≡ Ok command
-      → behind commands (commands_of says (pieces_of rest)) ≡ Ok (commands ++ command ∷ [])
-  behind-last commands command rest piece at first none same is =
+  pub following-last : (commands : List Command) (command : Command) (rest piece : List ℕ) (at : ℕ) → at ≡ position_or_len is_semicolon rest → at ≡ length rest → piece ≡ take at rest
+      → piece_command denotes piece ≡ Ok command
+      → following commands (commands_of denotes (pieces_of rest)) ≡ Ok (commands ++ command ∷ [])
+  following-last commands command rest piece at first none same is =
       let all : piece ≡ rest = same ∙ take_all at rest (omega arith) in
-      let nothing : Result (List Command) LineFault = Ok [] in
-      ap (λ ps. behind commands (commands_of says ps)) (pieces-none rest (omega arith))
-      ∙ ap (λ l. behind commands (first_then (piece_says says l) nothing)) (sym all)
-      ∙ ap (λ r. behind commands (first_then r nothing)) is
+      let nothing : Result (List Command) LineError = Ok [] in
+      ap (λ ps. following commands (commands_of denotes ps)) (pieces-none rest (omega arith))
+      ∙ ap (λ l. following commands (first_then (piece_command denotes l) nothing)) (sym all)
+      ∙ ap (λ r. following commands (first_then r nothing)) is
 
-  -- a faulty piece
-  pub behind-fault : {V : Type 0} (view : V → List Command) (commands : List Command) (rest piece : List ℕ) (at : ℕ) (all : Result (List Command) LineFault) (e : ReadError)
-      → at ≡ position_or_len is_semicolon rest → piece ≡ take at rest → all ≡ behind commands (commands_of says (pieces_of rest))
-      → ReadsText {X = Command} (λ x. x) (Err e) (piece_says says piece) → ReadsText view (Err e) all
-  behind-fault view commands rest piece at all (error.Fault fault) first same is says_fault =
+  -- an invalid piece
+  pub following-fault : {V : Type 0} (view : V → List Command) (commands : List Command) (rest piece : List ℕ) (at : ℕ) (all : Result (List Command) LineError) (e : ReadError)
+      → at ≡ position_or_len is_semicolon rest → piece ≡ take at rest → all ≡ following commands (commands_of denotes (pieces_of rest))
+      → ParsesAs {X = Command} (λ x. x) (Err e) (piece_command denotes piece) → ParsesAs view (Err e) all
+  following-fault view commands rest piece at all (error.Fault fault) first same is denotes_error =
       let found = piece-first rest in
-      let later = commands_of says found.0 in
-      let says_so : piece_says says (take (position_or_len is_semicolon rest) rest) ≡ Err fault = ap (λ l. piece_says says l) (sym (same ∙ ap (λ n. take n rest) first)) ∙ says_fault in
-      is ∙ ap (λ ps. behind commands (commands_of says ps)) found.1 ∙ ap (λ r. behind commands (first_then r later)) says_so
-  behind-fault view commands rest piece at all error.Memory first same is says_fault = tt
+      let later = commands_of denotes found.0 in
+      let denotes_so : piece_command denotes (take (position_or_len is_semicolon rest) rest) ≡ Err fault = ap (λ l. piece_command denotes l) (sym (same ∙ ap (λ n. take n rest) first)) ∙ denotes_error in
+      is ∙ ap (λ ps. following commands (commands_of denotes ps)) found.1 ∙ ap (λ r. following commands (first_then r later)) denotes_so
+  following-fault view commands rest piece at all error.Memory first same is denotes_error = tt
 
-  pub behind-next : (commands new : List Command) (command : Command) (rest piece back next : List ℕ) (at : ℕ) (all : Result (List Command) LineFault) → at ≡ position_or_len is_semicolon rest → at < length rest
-      → piece ≡ take at rest → back ≡ drop at rest → next ≡ drop 1 back → new ≡ commands ++ command ∷ [] → all ≡ behind commands (commands_of says (pieces_of rest))
-      → piece_says says piece ≡ Ok command → all ≡ behind new (commands_of says (pieces_of next))
-  behind-next commands new command rest piece back next at all first found same behind_is next_is pushed is says_so =
-      is ∙ behind-found commands command rest piece at first found same says_so
-      ∙ ap (λ l. behind l (commands_of says (pieces_of (drop 1 (drop at rest))))) (sym pushed)
-      ∙ ap (λ l. behind new (commands_of says (pieces_of l))) (sym (next_is ∙ ap (drop 1) behind_is))
+  pub following-next : (commands new : List Command) (command : Command) (rest piece back next : List ℕ) (at : ℕ) (all : Result (List Command) LineError) → at ≡ position_or_len is_semicolon rest → at < length rest
+      → piece ≡ take at rest → back ≡ drop at rest → next ≡ drop 1 back → new ≡ commands ++ command ∷ [] → all ≡ following commands (commands_of denotes (pieces_of rest))
+      → piece_command denotes piece ≡ Ok command → all ≡ following new (commands_of denotes (pieces_of next))
+  following-next commands new command rest piece back next at all first found same following_is next_is pushed is denotes_so =
+      is ∙ following-found commands command rest piece at first found same denotes_so
+      ∙ ap (λ l. following l (commands_of denotes (pieces_of (drop 1 (drop at rest))))) (sym pushed)
+      ∙ ap (λ l. following new (commands_of denotes (pieces_of l))) (sym (next_is ∙ ap (drop 1) following_is))
 
-  -- too many pieces, or not
-  pub batch-many : (line : List ℕ) → 16 < length (pieces_of line) → batch_of says line ≡ Err TooManyCommands
-  batch-many line many = ap (λ b. cond b (Err TooManyCommands) (commands_of says (pieces_of line))) (lt-ltb 16 (length (pieces_of line)) many)
+  -- a line with too many pieces
+  pub batch-many : (line : List ℕ) → 16 < length (pieces_of line) → batch_of denotes line ≡ Err TooManyCommands
+  batch-many line many = ap (λ b. cond b (Err TooManyCommands) (commands_of denotes (pieces_of line))) (lt-ltb 16 (length (pieces_of line)) many)
 
-  pub batch-few : (line : List ℕ) → length (pieces_of line) ≤ 16 → batch_of says line ≡ commands_of says (pieces_of line)
-  batch-few line few = ap (λ b. cond b (Err TooManyCommands) (commands_of says (pieces_of line))) (le-ltb 16 (length (pieces_of line)) few)
+  pub batch-few : (line : List ℕ) → length (pieces_of line) ≤ 16 → batch_of denotes line ≡ commands_of denotes (pieces_of line)
+  batch-few line few = ap (λ b. cond b (Err TooManyCommands) (commands_of denotes (pieces_of line))) (le-ltb 16 (length (pieces_of line)) few)
 
   -- a line of one piece
-  pub batch-alone : (line : List ℕ) → length line ≤ position_or_len is_semicolon line → batch_of says line ≡ first_then (piece_says says line) (Ok [])
-  batch-alone line none = ap (λ ps. cond (ltb 16 (length ps)) (Err TooManyCommands) (commands_of says ps)) (pieces-none line none)
+  pub batch-alone : (line : List ℕ) → length line ≤ position_or_len is_semicolon line → batch_of denotes line ≡ first_then (piece_command denotes line) (Ok [])
+  batch-alone line none = ap (λ ps. cond (ltb 16 (length ps)) (Err TooManyCommands) (commands_of denotes ps)) (pieces-none line none)
 
-  pub reads-alone : (line : List ℕ) (read : Result Command ReadError) → length line ≤ position_or_len is_semicolon line → ReadsText {X = Command} (λ c. c) read (piece_says says line)
-      → ReadsText {X = Command} (λ c. c ∷ []) read (batch_of says line)
+  pub reads-alone : (line : List ℕ) (read : Result Command ReadError) → length line ≤ position_or_len is_semicolon line → ParsesAs {X = Command} (λ c. c) read (piece_command denotes line)
+      → ParsesAs {X = Command} (λ c. c ∷ []) read (batch_of denotes line)
   reads-alone line (Ok command) none is = batch-alone line none ∙ ap (λ r. first_then r (Ok [])) is
   reads-alone line (Err (error.Fault fault)) none is = batch-alone line none ∙ ap (λ r. first_then r (Ok [])) is
   reads-alone line (Err error.Memory) none is = tt
 
-  -- the fault of a line that has a faulty piece, or too many
-  pub batch-fault : (line : List ℕ) (fault told : LineFault) → (length (pieces_of line) ≤ 16 → commands_of says (pieces_of line) ≡ Err fault)
-      → told ≡ cond (ltb 16 (length (pieces_of line))) TooManyCommands fault → batch_of says line ≡ Err told
-  batch-fault line fault told said is = ⊎_elim
-      (λ many. batch-many line many ∙ ap {B = Result (List Command) LineFault} (λ f. Err f) (sym (is ∙ ap (λ b. cond b TooManyCommands fault) (lt-ltb 16 (length (pieces_of line)) many))))
-      (λ few. batch-few line few ∙ said few ∙ ap {B = Result (List Command) LineFault} (λ f. Err f) (sym (is ∙ ap (λ b. cond b TooManyCommands fault) (le-ltb 16 (length (pieces_of line)) few))))
+  -- the error of a line that has an invalid piece, or too many pieces
+  pub batch-fault : (line : List ℕ) (fault reported : LineError) → (length (pieces_of line) ≤ 16 → commands_of denotes (pieces_of line) ≡ Err fault)
+      → reported ≡ cond (ltb 16 (length (pieces_of line))) TooManyCommands fault → batch_of denotes line ≡ Err reported
+  batch-fault line fault reported parsed is = ⊎_elim
+      (λ many. batch-many line many ∙ ap {B = Result (List Command) LineError} (λ f. Err f) (sym (is ∙ ap (λ b. cond b TooManyCommands fault) (lt-ltb 16 (length (pieces_of line)) many))))
+      (λ few. batch-few line few ∙ parsed few ∙ ap {B = Result (List Command) LineError} (λ f. Err f) (sym (is ∙ ap (λ b. cond b TooManyCommands fault) (le-ltb 16 (length (pieces_of line)) few))))
       (cases_lt 16 (length (pieces_of line)))
 
   -- a command for each piece
-  length-first_then : (said : Result Command LineFault) (later : Result (List Command) LineFault) (pieces : List (List ℕ)) (commands : List Command)
-      → ((rest : List Command) → later ≡ Ok rest → length rest ≡ length pieces) → first_then said later ≡ Ok commands → length commands ≡ suc (length pieces)
+  length-first_then : (parsed : Result Command LineError) (later : Result (List Command) LineError) (pieces : List (List ℕ)) (commands : List Command)
+      → ((rest : List Command) → later ≡ Ok rest → length rest ≡ length pieces) → first_then parsed later ≡ Ok commands → length commands ≡ suc (length pieces)
   length-first_then (Err fault) later pieces commands each e = absurd cc
   length-first_then (Ok command) (Err fault) pieces commands each e = absurd cc
   length-first_then (Ok command) (Ok rest) pieces commands each e =
       let is : command ∷ rest ≡ commands = cc in
       omega (arith, each rest refl, ap length is)
 
-  length-commands_of : (pieces : List (List ℕ)) (commands : List Command) → commands_of says pieces ≡ Ok commands → length commands ≡ length pieces
+  length-commands_of : (pieces : List (List ℕ)) (commands : List Command) → commands_of denotes pieces ≡ Ok commands → length commands ≡ length pieces
   length-commands_of [] commands e =
       let none : [] ≡ commands = cc in
       ap length (sym none)
-  length-commands_of (piece ∷ pieces) commands e = length-first_then (piece_says says piece) (commands_of says pieces) pieces commands (length-commands_of pieces) e
+  length-commands_of (piece ∷ pieces) commands e = length-first_then (piece_command denotes piece) (commands_of denotes pieces) pieces commands (length-commands_of pieces) e
 
-  -- where they are few they are a batch
-  pub batch-fits : (line : List ℕ) (commands : List Command) → length (pieces_of line) ≤ 16 → commands_of says (pieces_of line) ≡ Ok commands
+  -- at most 16 of them are a batch
+  pub batch-fits : (line : List ℕ) (commands : List Command) → length (pieces_of line) ≤ 16 → commands_of denotes (pieces_of line) ≡ Ok commands
       → (0 < length commands) × (length commands ≤ 16)
-  batch-fits line commands few said =
-      let pieces : length commands ≡ length (pieces_of line) = length-commands_of (pieces_of line) commands said in
+  batch-fits line commands few parsed =
+      let pieces : length commands ≡ length (pieces_of line) = length-commands_of (pieces_of line) commands parsed in
       let some : 0 < length (pieces_of line) = some-pieces line in
       (omega arith, omega arith)

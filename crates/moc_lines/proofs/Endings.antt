@@ -1,11 +1,11 @@
--- What a run has written when it ends.
+-- The output of a run when it ends.
 use Rattle.std.proofs.Common.{◌≡◌, ℕ, true, false, ◌&&◌, cond, leb, le-leb, List, [], ◌∷◌, ◌++◌, length}
 use Rattle.std.proofs.Common.{Result, Ok, Err, refl, sym, ap, ◌∙◌, append_assoc, append-nil}
 use Rattle.std.proofs.Common.{subst}
 use Rattle.std.specs.List.{list_all, take_while}
 use Rattle.std.proofs.lemmas.List.Sums.{take_while-cons}
 use Rattle.moc_text.specs.Lines.{lines_of}
-use Rattle.moc_lines.specs.Runs.{Rules, is_short, answers_to, after_lines, closing_behind, script_text, AreShort}
+use Rattle.moc_lines.specs.Runs.{Rules, is_short, answers_to, after_lines, closing_after, script_text, AreShort}
 use Rattle.moc_lines.specs.Runs.{AnswersAll, IsOutput, Runs}
 use Rattle.moc_devices.specs.Devices.{Reading, IsEnded, Writing, Accepts, AcceptsNone, Sends}
 use Rattle.moc_devices.specs.Lemmas.{Accepts-kept, Accepts-trans}
@@ -37,11 +37,11 @@ module _ {S : Type 0} (limit : ℕ) (rules : Rules S) where
   answers_to-append s [] more = refl
   answers_to-append s (line ∷ lines) more = ap (λ l. rules.answer s line ++ l) (answers_to-append (rules.after s line) lines more) ∙ sym (append_assoc (rules.answer s line) _ _)
 
-  -- what is said behind all lines, where none is over the limit
+  -- the closing text after all lines if no line is over the limit
   abbrev closing_text : S → List (List ℕ) → List ℕ
-  closing_text s lines = cond (list_all (is_short limit) lines) (closing_behind rules s lines) []
+  closing_text s lines = cond (list_all (is_short limit) lines) (closing_after rules s lines) []
 
-  -- the answers so far begin the text
+  -- the answers so far are a prefix of the text
   beginning : (s : S) (input : List ℕ) (lines rest : List (List ℕ)) → AreShort limit lines → lines_of input ≡ lines ++ rest
       → (tail : List ℕ) × (script_text rules limit s input ≡ answers_to rules s lines ++ tail)
   beginning s input lines rest within is =
@@ -54,26 +54,26 @@ module _ {S : Type 0} (limit : ℕ) (rules : Rules S) where
             ∙ append_assoc (answers_to rules s lines) later closing,
       )
 
-  -- where no line is over the limit, the text is the answers to all lines and what is said behind them
+  -- if no line is over the limit, the text is the answers to all lines and the closing text
   whole_is : (s : S) (input : List ℕ) (lines : List (List ℕ)) → AreShort limit lines → lines_of input ≡ lines
-      → script_text rules limit s input ≡ answers_to rules s lines ++ closing_behind rules s lines
+      → script_text rules limit s input ≡ answers_to rules s lines ++ closing_after rules s lines
   whole_is s input lines within is =
       ap (λ l. answers_to rules s (take_while (is_short limit) l) ++ closing_text s l) is
       ∙ ap (λ l. answers_to rules s l ++ closing_text s lines) (taken_all limit lines within)
-      ∙ ap (λ b. answers_to rules s lines ++ cond b (closing_behind rules s lines) []) (all_within limit lines within)
+      ∙ ap (λ b. answers_to rules s lines ++ cond b (closing_after rules s lines) []) (all_within limit lines within)
 
-  -- what is said begins the text, however what was given goes on
-  said_begins : (s : S) (a b : Reading) (w v : Writing) (pending : List ℕ) (r : Result (Unit {0}) RunError) → (e : Ended limit rules s a b w v pending r)
+  -- the output is a prefix of the text, whatever follows the bytes that were given
+  output_begins : (s : S) (a b : Reading) (w v : Writing) (pending : List ℕ) (r : Result (Unit {0}) RunError) → (e : Ended limit rules s a b w v pending r)
       → (more : List ℕ) → (IsEnded b → more ≡ []) → (tail : List ℕ) × (script_text rules limit s (e.given ++ more) ≡ text_at rules s e.lines r ++ tail)
-  said_begins s a b w v pending (Ok u) e more last = (
+  output_begins s a b w v pending (Ok u) e more last = (
     [],
     ap (λ l. script_text rules limit s (e.given ++ l)) (last e.ends.0) ∙ ap (script_text rules limit s) (append-nil e.given)
         ∙ whole_is s e.given e.lines e.within (sym e.ends.1) ∙ sym (append-nil (text_at rules s e.lines (Ok u))),
   )
-  said_begins s a b w v pending (Err fault) e more last =
+  output_begins s a b w v pending (Err fault) e more last =
       let front = e.front more last in beginning s (e.given ++ more) e.lines front.0 e.within front.1
 
-  -- the writer failed before what is pending was written
+  -- the writer failed before the pending answers were written
   Runs-unsent : (s : S) (a b : Reading) (w v : Writing) (pending : List ℕ) → Ended limit rules s a b w v pending (Err Write) → Runs limit rules s a b w v (Err Write)
   Runs-unsent s a b w v pending e = record {
     input = e.given;
@@ -81,7 +81,7 @@ module _ {S : Type 0} (limit : ℕ) (rules : Rules S) where
     delivered = e.consumed;
     accepted = e.appended;
     is_prefix = λ more last.
-        let text = said_begins s a b w v pending (Err Write) e more last in
+        let text = output_begins s a b w v pending (Err Write) e more last in
         (e.text.0 ++ text.0, text.1 ∙ ap (λ l. l ++ text.0) e.text.1 ∙ append_assoc e.sent e.text.0 text.0);
     is_output = tt;
   }
@@ -91,33 +91,33 @@ module _ {S : Type 0} (limit : ℕ) (rules : Rules S) where
       subst (λ (q : Result (Unit {0}) RunError). Runs limit rules s a b w v q) (sym is)
       (Runs-unsent s a b w v pending (subst (λ (q : Result (Unit {0}) RunError). Ended limit rules s a b w v pending q) is e))
 
-  -- what is written and pending is what is said, where the writer has not failed
-  said_is : (s : S) (a b : Reading) (w v : Writing) (pending : List ℕ) (r : Result (Unit {0}) RunError) → (r ≡ Err Write → ⊥) → (e : Ended limit rules s a b w v pending r)
+  -- what is written and pending is the output if the writer has not failed
+  output_is : (s : S) (a b : Reading) (w v : Writing) (pending : List ℕ) (r : Result (Unit {0}) RunError) → (r ≡ Err Write → ⊥) → (e : Ended limit rules s a b w v pending r)
       → text_at rules s e.lines r ≡ e.sent ++ pending
-  said_is s a b w v pending (Ok u) other e = e.text
-  said_is s a b w v pending (Err Write) other e = absurd (other refl)
-  said_is s a b w v pending (Err Read) other e = e.text
-  said_is s a b w v pending (Err (LineTooLong line)) other e = e.text
-  said_is s a b w v pending (Err (Memory line)) other e = e.text
+  output_is s a b w v pending (Ok u) other e = e.text
+  output_is s a b w v pending (Err Write) other e = absurd (other refl)
+  output_is s a b w v pending (Err Read) other e = e.text
+  output_is s a b w v pending (Err (LineTooLong line)) other e = e.text
+  output_is s a b w v pending (Err (Memory line)) other e = e.text
 
-  -- the writer failed while what is pending was written, or was flushed
+  -- the writer failed while the pending answers were written or flushed
   pub Runs-failed : {E : Type 0} (s : S) (a b : Reading) (w v u x : Writing) (pending pending' : List ℕ) (r : Result (Unit {0}) RunError) (sends : Result (Unit {0}) E) → (r ≡ Err Write → ⊥)
       → Ended limit rules s a b w v pending r → Sends pending v pending' u sends → AcceptsNone u x → Runs limit rules s a b w x (Err Write)
   Runs-failed s a b w v u x pending pending' r sends other e sent kept =
-      let answers = said_is s a b w v pending r other e in record {
+      let answers = output_is s a b w v pending r other e in record {
         input = e.given;
         output = e.sent ++ sent.sent;
         delivered = e.consumed;
         accepted = Accepts-kept w u x (e.sent ++ sent.sent) (Accepts-trans w v u e.sent sent.sent e.appended sent.appended) kept;
         is_prefix = λ more last.
-            let text = said_begins s a b w v pending r e more last in (
+            let text = output_begins s a b w v pending r e more last in (
               sent.rest ++ text.0,
               text.1 ∙ ap (λ l. l ++ text.0) (answers ∙ ap (λ l. e.sent ++ l) sent.parts ∙ sym (append_assoc e.sent sent.sent sent.rest)) ∙ append_assoc (e.sent ++ sent.sent) sent.rest text.0,
             );
         is_output = tt;
       }
 
-  -- where it ended, what is written is what it says
+  -- at the end what is written is the output
   written : (s : S) (a b : Reading) (w v : Writing) (pending : List ℕ) (r : Result (Unit {0}) RunError) → (r ≡ Err Write → ⊥)
       → (e : Ended limit rules s a b w v pending r) → IsOutput limit rules s e.given b r (text_at rules s e.lines r)
   written s a b w v pending (Ok u) other e = (
@@ -134,7 +134,7 @@ module _ {S : Type 0} (limit : ℕ) (rules : Rules S) where
   pub Runs-sent : {E : Type 0} (s : S) (a b : Reading) (w v u x : Writing) (pending pending' : List ℕ) (r : Result (Unit {0}) RunError) (sends : Result (Unit {0}) E) → (r ≡ Err Write → ⊥)
       → Ended limit rules s a b w v pending r → Sends pending v pending' u sends → is_err sends ≡ false → pending' ≡ [] → AcceptsNone u x → Runs limit rules s a b w x r
   Runs-sent s a b w v u x pending pending' r sends other e sent ok empty kept =
-      let answers = said_is s a b w v pending r other e in
+      let answers = output_is s a b w v pending r other e in
       let rest = sym (at_ok sends ok sent.pending) ∙ empty in
       let all : text_at rules s e.lines r ≡ e.sent ++ sent.sent =
       answers ∙ ap (λ l. e.sent ++ l) (sent.parts ∙ ap (λ l. sent.sent ++ l) rest ∙ append-nil sent.sent) in record {
@@ -142,11 +142,11 @@ module _ {S : Type 0} (limit : ℕ) (rules : Rules S) where
         output = e.sent ++ sent.sent;
         delivered = e.consumed;
         accepted = Accepts-kept w u x (e.sent ++ sent.sent) (Accepts-trans w v u e.sent sent.sent e.appended sent.appended) kept;
-        is_prefix = λ more last. let text = said_begins s a b w v pending r e more last in (text.0, text.1 ∙ ap (λ l. l ++ text.0) all);
+        is_prefix = λ more last. let text = output_begins s a b w v pending r e more last in (text.0, text.1 ∙ ap (λ l. l ++ text.0) all);
         is_output = subst (IsOutput limit rules s e.given b r) all (written s a b w v pending r other e);
       }
 
-  -- a run that ended well answered its whole input
+  -- a run that succeeded has answered its whole input
   pub AnswersAll-ok : (s : S) (a b : Reading) (w v : Writing) (r : Result (Unit {0}) RunError) → Runs limit rules s a b w v r
       → OnOk r (AnswersAll (script_text rules limit s) a b w v)
   AnswersAll-ok s a b w v (Ok u) runs = (runs.input, runs.delivered, runs.is_output.0, subst (Accepts w v) runs.is_output.2 runs.accepted)

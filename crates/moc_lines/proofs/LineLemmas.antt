@@ -6,7 +6,7 @@ use Rattle.std.proofs.lemmas.Bool.{eqb-true}
 use Rattle.std.proofs.lemmas.List.{drop-take, drop-drop, take_all, drop_all}
 use Rattle.std.proofs.lemmas.List.Sums.{sum_by-append, split_at_first, passes_at_first}
 use Rattle.moc_text.specs.Lines.{is_line_feed, lines_of}
-use Rattle.moc_lines.specs.Private.Held.{IsUnbroken}
+use Rattle.moc_lines.specs.Private.ReaderState.{HasNoLineFeed}
 
 pub not_true : (b : Bool) → (b ≡ true → ⊥) → b ≡ false
 not_true true h = absurd (h refl)
@@ -30,24 +30,24 @@ before-cons x xs other =
     let next : 1 + n ≡ suc n = omega arith in
     rw other (ap (λ k. take k (x ∷ xs)) next)
 
-pub unbroken-head : (x : ℕ) (xs : List ℕ) → IsUnbroken (x ∷ xs) → is_line_feed x ≡ false
+pub unbroken-head : (x : ℕ) (xs : List ℕ) → HasNoLineFeed (x ∷ xs) → is_line_feed x ≡ false
 unbroken-head x xs unbroken = not_true (is_line_feed x) (λ is. absurd (omega (arith, sym (count-cons x xs) ∙ unbroken, ap {B = ℕ} (λ b. cond b 1 0) is)))
 
-pub unbroken-tail : (x : ℕ) (xs : List ℕ) → IsUnbroken (x ∷ xs) → IsUnbroken xs
+pub unbroken-tail : (x : ℕ) (xs : List ℕ) → HasNoLineFeed (x ∷ xs) → HasNoLineFeed xs
 unbroken-tail x xs unbroken = omega (arith, sym (count-cons x xs) ∙ unbroken)
 
--- what stands before the first line feed has none
-pub IsUnbroken-before_first : (xs : List ℕ) → IsUnbroken (before_first is_line_feed xs)
-IsUnbroken-before_first [] = refl
-IsUnbroken-before_first (x ∷ xs) =
-    let step : (b : Bool) → is_line_feed x ≡ b → IsUnbroken (before_first is_line_feed (x ∷ xs)) =
-    λ b. elim b as (λ v. is_line_feed x ≡ v → IsUnbroken (before_first is_line_feed (x ∷ xs))) [
+-- the bytes before the first line feed have none
+pub HasNoLineFeed-before_first : (xs : List ℕ) → HasNoLineFeed (before_first is_line_feed xs)
+HasNoLineFeed-before_first [] = refl
+HasNoLineFeed-before_first (x ∷ xs) =
+    let step : (b : Bool) → is_line_feed x ≡ b → HasNoLineFeed (before_first is_line_feed (x ∷ xs)) =
+    λ b. elim b as (λ v. is_line_feed x ≡ v → HasNoLineFeed (before_first is_line_feed (x ∷ xs))) [
       | true ↦ λ is. rw is refl
-      | false ↦ λ is. ap (count_by is_line_feed) (before-cons x xs is) ∙ count-cons x (before_first is_line_feed xs) ∙ rw is (zero-add (count_by is_line_feed (before_first is_line_feed xs)) ∙ IsUnbroken-before_first xs)
+      | false ↦ λ is. ap (count_by is_line_feed) (before-cons x xs is) ∙ count-cons x (before_first is_line_feed xs) ∙ rw is (zero-add (count_by is_line_feed (before_first is_line_feed xs)) ∙ HasNoLineFeed-before_first xs)
     ] in
     step (is_line_feed x) refl
 
--- where a line feed is, it stands between what is before and after it
+-- a line feed separates what is before and after it
 pub split_at_line_feed : (xs : List ℕ) → position_or_len is_line_feed xs < length xs → xs ≡ before_first is_line_feed xs ++ 10 ∷ after_first is_line_feed xs
 split_at_line_feed xs found =
     split_at_first is_line_feed xs 0 found ∙ ap (λ b. before_first is_line_feed xs ++ b ∷ after_first is_line_feed xs) (eqb-true _ _ (passes_at_first is_line_feed xs 0 found))
@@ -58,22 +58,22 @@ before_first-none xs none = take_all _ xs none
 pub after_first-none : (xs : List ℕ) → length xs ≤ position_or_len is_line_feed xs → after_first is_line_feed xs ≡ []
 after_first-none xs none = drop_all _ xs (omega arith)
 
--- a line and its line feed, in front of a text
-pub lines_of-line : (line rest : List ℕ) → IsUnbroken line → lines_of (line ++ 10 ∷ rest) ≡ line ∷ lines_of rest
+-- a line and its line feed before a text
+pub lines_of-line : (line rest : List ℕ) → HasNoLineFeed line → lines_of (line ++ 10 ∷ rest) ≡ line ∷ lines_of rest
 lines_of-line [] rest unbroken = refl
 lines_of-line (x ∷ line) rest unbroken =
     let other = unbroken-head x line unbroken in
     rw other (ap (onto_first x) (lines_of-line line rest (unbroken-tail x line unbroken)))
 
--- bytes with no line feed are one line
-pub lines_of-last : (line : List ℕ) → IsUnbroken line → 0 < length line → lines_of line ≡ line ∷ []
+-- bytes without a line feed are one line
+pub lines_of-last : (line : List ℕ) → HasNoLineFeed line → 0 < length line → lines_of line ≡ line ∷ []
 lines_of-last [] unbroken some = absurd (omega arith)
 lines_of-last (x ∷ []) unbroken some = rw (unbroken-head x [] unbroken) refl
 lines_of-last (x ∷ y ∷ line) unbroken some =
     rw (unbroken-head x (y ∷ line) unbroken) (ap (onto_first x) (lines_of-last (y ∷ line) (unbroken-tail x (y ∷ line) unbroken) (omega arith)))
 
--- bytes with no line feed stand at the front of the first line
-lines_of-front : (line rest : List ℕ) → IsUnbroken line → 0 < length line
+-- bytes without a line feed are the start of the first line
+lines_of-front : (line rest : List ℕ) → HasNoLineFeed line → 0 < length line
     → (tail : List ℕ) × (more : List (List ℕ)) × (lines_of (line ++ rest) ≡ (line ++ tail) ∷ more)
 lines_of-front [] rest unbroken some = absurd (omega arith)
 lines_of-front (x ∷ []) rest unbroken some =
@@ -90,7 +90,7 @@ lines_of-front (x ∷ y ∷ line) rest unbroken some =
     let other = unbroken-head x (y ∷ line) unbroken in
     (found.0, found.1, rw other (ap (onto_first x) found.2))
 
--- bytes have a line
+-- bytes that are not empty have a line
 pub some-lines : (bytes : List ℕ) → 0 < length bytes → 0 < length (lines_of bytes)
 some-lines [] some = absurd (omega arith)
 some-lines (x ∷ bytes) some =
@@ -104,7 +104,7 @@ some-lines (x ∷ bytes) some =
       | false ↦ onto (lines_of bytes)
     ]
 
--- a first byte more, of which there are some
+-- a byte before the first of some lines
 onto-length : (x : ℕ) (lines : List (List ℕ)) → 0 < length lines → length (onto_first x lines) ≡ length lines
 onto-length x [] some = absurd (omega arith)
 onto-length x (part ∷ parts) some = refl
@@ -126,7 +126,7 @@ lines-more x bytes n false is some later =
     let lines : length (lines_of (x ∷ bytes)) ≡ length (lines_of bytes) = rw is (onto-length x (lines_of bytes) some) in
     omega (arith, later, one, count, lines)
 
--- bytes have a line for each line feed, and one more where the last byte is none
+-- bytes have a line for each line feed, and one more if the last byte is not a line feed
 lines-counted : (bytes : List ℕ) (k last : ℕ) → length bytes ≡ suc k → slice_get bytes k ≡ Some last
     → length (lines_of bytes) ≡ count_by is_line_feed bytes + cond (is_line_feed last) 0 1
 lines-counted [] k last size here = absurd (omega (arith, size))
@@ -138,25 +138,25 @@ lines-counted (x ∷ []) zero last size here =
 lines-counted (x ∷ y ∷ rest) (suc k) last size here =
     lines-more x (y ∷ rest) (cond (is_line_feed last) 0 1) (is_line_feed x) refl (some-lines (y ∷ rest) (omega arith)) (lines-counted (y ∷ rest) k last (omega (arith, size)) here)
 
-pub lines-behind_last : (bytes : List ℕ) (last : ℕ) → slice_get bytes (length bytes - 1) ≡ Some last
+pub lines-after_last_feed : (bytes : List ℕ) (last : ℕ) → slice_get bytes (length bytes - 1) ≡ Some last
     → length (lines_of bytes) ≡ count_by is_line_feed bytes + cond (is_line_feed last) 0 1
-lines-behind_last [] last here = cc
-lines-behind_last (x ∷ bytes) last here =
-    let behind : length (x ∷ bytes) - 1 ≡ length bytes = omega arith in
-    lines-counted (x ∷ bytes) (length bytes) last refl (sym (ap (slice_get (x ∷ bytes)) behind) ∙ here)
+lines-after_last_feed [] last here = cc
+lines-after_last_feed (x ∷ bytes) last here =
+    let following : length (x ∷ bytes) - 1 ≡ length bytes = omega arith in
+    lines-counted (x ∷ bytes) (length bytes) last refl (sym (ap (slice_get (x ∷ bytes)) following) ∙ here)
 
 pub no-lines : (bytes : List ℕ) → slice_get bytes (length bytes - 1) ≡ None → length (lines_of bytes) ≡ 0
 no-lines [] none = refl
 no-lines (x ∷ bytes) none =
-    let behind : length (x ∷ bytes) - 1 ≡ length bytes = omega arith in
-    absurd (some_last bytes x (sym (ap (slice_get (x ∷ bytes)) behind) ∙ none))
+    let following : length (x ∷ bytes) - 1 ≡ length bytes = omega arith in
+    absurd (some_last bytes x (sym (ap (slice_get (x ∷ bytes)) following) ∙ none))
   where
     some_last : (bytes : List ℕ) (x : ℕ) → slice_get (x ∷ bytes) (length bytes) ≡ None → ⊥
     some_last [] x e = cc
     some_last (y ∷ bytes) x e = some_last bytes y e
 
--- a first line that is long already
-pub lines_of-long : (limit : ℕ) (line rest : List ℕ) → IsUnbroken line → limit < length line
+-- a first line that is already over the limit
+pub lines_of-long : (limit : ℕ) (line rest : List ℕ) → HasNoLineFeed line → limit < length line
     → (first : List ℕ) × (more : List (List ℕ)) × (lines_of (line ++ rest) ≡ first ∷ more) × (limit < length first)
 lines_of-long limit line rest unbroken long =
     let found = lines_of-front line rest unbroken (omega arith) in

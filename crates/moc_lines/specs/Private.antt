@@ -1,6 +1,6 @@
--- Words that contracts of private functions, and views of types, alone cite.
+-- Definitions that only contracts of private functions and views of types use.
 pub mod ReadErrors
-pub mod Held
+pub mod ReaderState
 pub mod LineReading
 pub mod Ended
 pub mod Input

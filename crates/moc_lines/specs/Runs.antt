@@ -7,17 +7,17 @@ use Rattle.moc_text.specs.Lines.{lines_of, is_line_feed}
 use Rattle.std.specs.FinSet as set
 use Rattle.moc_lists.specs.RangeList.{NumberSet}
 use Rattle.moc_parts.specs.declared.command.Command.{Command}
-use Rattle.moc_lines.specs.declared.fault.LineFault.{LineFault}
+use Rattle.moc_lines.specs.declared.fault.LineError.{LineError}
 use Rattle.moc_lines.specs.Language.{batch_of, command_of, line_answer, after_line}
 use Rattle.moc_devices.specs.Devices.{Reading, Delivers, IsEnded, Writing, Accepts, CallsMore}
 use Rattle.moc_lines.specs.declared.run_error.RunError.{RunError}
 use Rattle.moc_lines.specs.declared.run_error.RunError.TheVariants.{Read, Write, LineTooLong, Memory}
-use Rattle.moc_lines.specs.declared.reading.InputError.{InputError}
-use Rattle.moc_lines.specs.declared.reading.InputError.TheVariants as input
+use Rattle.moc_lines.specs.declared.reading.ScriptInputError.{ScriptInputError}
+use Rattle.moc_lines.specs.declared.reading.ScriptInputError.TheVariants as input
 
--- The text that a script is answered with
+-- The answers to a script
 
--- how lines are answered: the answer to a line, what the line leaves, and what is said behind the last line
+-- rules that answer lines: the answer to a line, the state after a line, and the closing text after the last line
 pub record Rules (S : Type 0) : Type 0 where
   pub answer : S → List ℕ → List ℕ
   pub after : S → List ℕ → S
@@ -28,40 +28,40 @@ abbrev pub is_short : ℕ → List ℕ → Bool
 is_short limit line = nat_le (length line) limit
 
 module _ {S : Type 0} (rules : Rules S) where
-  -- the answers to lines, one after another, each on what the lines before leave
+  -- the answers to lines in order, each in the state after the lines before it
   abbrev pub answers_to : S → List (List ℕ) → List ℕ
   answers_to s lines = concat (scan rules.after rules.answer s lines)
 
-  -- what lines leave
+  -- the state after lines
   abbrev pub after_lines : S → List (List ℕ) → S
   after_lines s lines = fold rules.after s lines
 
-  -- what is said behind lines
-  abbrev pub closing_behind : S → List (List ℕ) → List ℕ
-  closing_behind s lines = rules.closing (after_lines s lines)
+  -- the closing text after lines
+  abbrev pub closing_after : S → List (List ℕ) → List ℕ
+  closing_after s lines = rules.closing (after_lines s lines)
 
-  -- the answers to a script: those to its lines before one over the limit, and, where none is, what closes them
+  -- the answers to a script: to its lines before the first one over the limit, and the closing text if there is none
   abbrev pub script_text : ℕ → S → List ℕ → List ℕ
   script_text limit s input =
       let lines = lines_of input in
       answers_to s (take_while (is_short limit) lines)
-      ++ (if list_all (is_short limit) lines then closing_behind s lines else [])
+      ++ (if list_all (is_short limit) lines then closing_after s lines else [])
 
 -- Scripts of commands on a set of pixels
 
--- the most bytes of a line
+-- the maximal number of bytes of a line
 abbrev pub line_limit : ℕ
 line_limit = 1048576
 
--- how lines are answered that say their commands so; nothing is said behind the last
-abbrev pub rules_by : (List ℕ → Result (List Command) LineFault) → Rules NumberSet
-rules_by says = record { answer = line_answer says; after = after_line says; closing = λ _. [] }
+-- the rules for lines of commands, given a parser of lines; the closing text is empty
+abbrev pub rules_by : (List ℕ → Result (List Command) LineError) → Rules NumberSet
+rules_by denotes = record { answer = line_answer denotes; after = after_line denotes; closing = λ _. [] }
 
--- how the lines of a script are answered
+-- the rules for the lines of a script
 abbrev pub script_rules : Rules NumberSet
 script_rules = rules_by (batch_of command_of)
 
--- the text that a script is answered with, by a set that starts empty
+-- the answers to a script, on a set that is empty at first
 abbrev pub answers_of : List ℕ → List ℕ
 answers_of input = script_text script_rules line_limit set.empty input
 
@@ -71,26 +71,27 @@ answers_of input = script_text script_rules line_limit set.empty input
 abbrev pub AreShort : ℕ → List (List ℕ) → Type 0
 AreShort limit lines = AllByRecursion (λ line. length line ≤ limit) lines
 
--- the line of this number, counted from 1, is over the limit
+-- the line with this number, counted from 1, is over the limit
 abbrev pub IsTooLong : ℕ → List (List ℕ) → ℕ → Type 0
 IsTooLong limit lines number = (0 < number) × (limit < length (slice_index_or lines (number - 1) []))
 
--- the lines of a text that a line feed ends: as many as it has line feeds
+-- the lines of a text that a line feed ends; their number is that of its line feeds
 abbrev pub whole_lines_of : List ℕ → List (List ℕ)
 whole_lines_of text = take (count_by is_line_feed text) (lines_of text)
 
--- the lines before the one of this number, counted from 1
+-- the lines before the one with this number, counted from 1
 abbrev pub lines_before : ℕ → List ℕ → List (List ℕ)
 lines_before number text = take (number - 1) (lines_of text)
 
--- The line of this number is the first that was not answered: some of it was given, and 0 is before the first byte.
+-- The line with this number is the first that was not answered: some of it was given, and 0 is before the first byte.
 -- The last number of 64 bits stands for all lines from there on.
-pub record IsBegunLine (number : ℕ) (given : List ℕ) : Type 0 where
+pub record IsUnfinishedLine (number : ℕ) (given : List ℕ) : Type 0 where
   pub none : number ≡ 0 → given ≡ []
   pub some : number < 2 ^ 64 - 1 → number ≤ length (lines_of given)
   pub next : number ≤ length (lines_of given) + 1
 
--- All lines are answered, and the closing text, which is not empty, was not made: it is the line behind the last.
+-- All lines are answered, and the closing text, which is not empty, was not made: its number is that of the line after
+-- the last.
 pub record IsUnclosed (number : ℕ) (given closing : List ℕ) : Type 0 where
   pub next : number ≡ length (lines_of given) + 1
   pub some : closing ≢ []
@@ -106,20 +107,20 @@ module _ {S : Type 0} (rules : Rules S) (s : S) where
     pub delivered : Delivers reading reading' given
     pub accepted : Accepts writing writing' (answers_to rules s (whole_lines_of given))
 
--- at Ok all was read and all is flushed; at a fault all is flushed only where it was before
+-- at Ok all was read and all is flushed; at an error all is flushed only if it was before
 pub record EndsFlushed {T E : Type 0} (result : Result T E) (reading' : Reading) (before after : Bool)
     : Type 0 where
   pub end : OnOk result (IsEnded reading')
   pub flushed : OnOk result (IsTrue after)
   pub unflushed : OnErr result (IsTrue after → IsTrue before)
 
--- of a reader and a writer: a fault is told only of one that has failed, and one that has failed is told
-pub record TellsFailed (result : Result (Unit {0}) RunError) (reader writer : Bool) : Type 0 where
+-- the error of a run names a device only if it has failed; if a device has failed, the error is that of a device
+pub record ReportsFailure (result : Result (Unit {0}) RunError) (reader writer : Bool) : Type 0 where
   pub read : IsErrOf result Read → IsTrue reader
   pub write : IsErrOf result Write ↔ IsTrue writer
-  pub told : IsTrue reader → IsErrOf result Read ⊎ IsErrOf result Write
+  pub reported : IsTrue reader → IsErrOf result Read ⊎ IsErrOf result Write
 
--- how often a run that ends so flushes: once at the end, perhaps once where the writer failed, and else never
+-- the number of flushes of a run: one at Ok, none or one if the writer failed, none at any other error
 abbrev pub Flushes : Result (Unit {0}) RunError → Option ℕ → Option ℕ → Type 0
 Flushes (Ok _) old new = CallsMore old new 1
 Flushes (Err Write) old new = CallsMore old new 0 ⊎ CallsMore old new 1
@@ -139,8 +140,8 @@ module _ {S : Type 0} (limit : ℕ) (rules : Rules S) (s : S) where
       IsTooLong limit (lines_of input) line × AreShort limit (lines_before line input)
       × (output ≡ answers_to rules s (lines_before line input))
   IsOutput input at_end (Err (Memory line)) output =
-      (IsBegunLine line input
-      ⊎ (IsEnded at_end × IsUnclosed line input (closing_behind rules s (lines_of input))))
+      (IsUnfinishedLine line input
+      ⊎ (IsEnded at_end × IsUnclosed line input (closing_after rules s (lines_of input))))
       × AreShort limit (lines_before line input) × (output ≡ answers_to rules s (lines_before line input))
 
   -- What a run did: its source delivered the input, and its sink accepted the output. The output is a prefix of the
@@ -176,21 +177,21 @@ abbrev pub ReadsAll : Reading → Reading → List ℕ → Type 0
 ReadsAll reading reading' input =
     Delivers reading reading' input × IsEnded reading' × AreShort line_limit (lines_of input)
 
--- the line that is told, of what was given, is over the limit, or is one that was begun
-abbrev pub FailsOn : List ℕ → InputError → Type 0
+-- the line that the error names, of what was given, is over the limit, or is the unfinished one
+abbrev pub FailsOn : List ℕ → ScriptInputError → Type 0
 FailsOn given input.Read = Unit {0}
 FailsOn given (input.TooLong line) = IsTooLong line_limit (lines_of given) line
-FailsOn given (input.Memory line) = IsBegunLine line given
+FailsOn given (input.Memory line) = IsUnfinishedLine line given
 
--- the name of the fault of a run that ended early
-abbrev pub name_of_run : RunError → List ℕ
-name_of_run Read = codes "Read"
-name_of_run Write = codes "Write"
-name_of_run (LineTooLong line) = codes "LineTooLong"
-name_of_run (Memory line) = codes "Memory"
+-- the name of the error of a run that ended early
+abbrev pub name_of_run_error : RunError → List ℕ
+name_of_run_error Read = codes "Read"
+name_of_run_error Write = codes "Write"
+name_of_run_error (LineTooLong line) = codes "LineTooLong"
+name_of_run_error (Memory line) = codes "Memory"
 
--- the error of an input as the one of a run
-abbrev pub error_of_input : InputError → RunError
+-- the error of an input as the error of a run
+abbrev pub error_of_input : ScriptInputError → RunError
 error_of_input input.Read = Read
 error_of_input (input.TooLong line) = LineTooLong line
 error_of_input (input.Memory line) = Memory line

@@ -1,9 +1,9 @@
-//! The answers to lines, by a map.
+//! The answers of a map to lines of commands.
 ghost use Rattle.std.specs.Prelude.{◌≡◌, ◌++◌, ◌∷◌, [], Ok, OnOk};
 ghost use Rattle.moc_lines.specs.Language.{after_batch, answer_to};
 ghost use Rattle.moc_lines.specs.Runs.{script_rules};
 
-use crate::fault::{ReadError, push_fault};
+use crate::fault::{ReadError, push_error};
 use crate::language::{Commands, read_commands};
 use crate::reply_text::push_reply_line;
 use crate::responder::Responder;
@@ -13,7 +13,7 @@ use moc_ranges::Memory;
 use std::alloc::Global;
 use std::slice;
 
-/// Does a batch, and adds the answer.
+/// Applies a batch and appends the answer.
 fn answer_batch(
     map: &mut Map,
     alloc: Global,
@@ -27,7 +27,7 @@ fn answer_batch(
     push_reply_line(alloc, replies.as_slice(), text)
 }
 
-/// Does one command, and adds the answer: as the batch of it, without a list.
+/// Applies one command and appends the answer. Equivalent to a batch of one command, without allocating a list.
 fn answer_command(
     map: &mut Map,
     alloc: Global,
@@ -56,7 +56,7 @@ impl Responder for Map {
         match read_commands(alloc, line) {
             Ok(Commands::One(command)) => answer_command(self, alloc, &command, text),
             Ok(Commands::Several(batch)) => answer_batch(self, alloc, &batch, text),
-            Err(ReadError::Fault(fault)) => push_fault(fault.name(), text),
+            Err(ReadError::Fault(fault)) => push_error(fault.name(), text),
             Err(ReadError::Memory) => Err(Memory),
         }
     }

@@ -1,7 +1,7 @@
-//! What is wrong with a line.
+//! Errors of a line of commands.
 ghost use Rattle.std.specs.Prelude.{◌≡◌, ◌++◌, OnOk};
-ghost use Rattle.moc_text.specs.Names.{told_fault};
-ghost use Rattle.moc_lines.specs.Language.{name_of_line};
+ghost use Rattle.moc_text.specs.Names.{fault_report};
+ghost use Rattle.moc_lines.specs.Language.{name_of_line_error};
 ghost use Rattle.moc_lines.specs.Private.ReadErrors.{error_of_text};
 ghost use Rattle.moc_lines.specs.declared.fault.ReadError.TheVariants as read;
 
@@ -10,10 +10,10 @@ use moc_text::TextError;
 use std::alloc::AllocError;
 use thiserror::Error;
 
-/// Why a line of commands is bad. Its answer gives the name.
+/// Why a line of commands is invalid. The answer to the line states the name.
 #[derive(Clone, Copy, Debug, PartialEq, Eq, Error)]
-pub enum LineFault {
-    /// The first word is no command.
+pub enum LineError {
+    /// The first word is not a command.
     #[error("the first word is no command")]
     UnknownWord,
     /// A piece of the line is blank.
@@ -22,45 +22,48 @@ pub enum LineFault {
     /// The line has more than 16 pieces.
     #[error("a line has at most 16 commands")]
     TooManyCommands,
-    /// More or fewer fields than the command has.
+    /// The command has more or fewer fields than it takes.
     #[error("more or fewer fields than the command has")]
     WrongCount,
-    /// A field that should be a number has no digit, or another byte.
+    /// A field that should be a number is empty or has a byte that is not a digit.
     #[error("a field that is no number")]
     BadNumber,
-    /// An order above 29.
+    /// An order is above 29.
     #[error("an order above 29")]
     OrderTooLarge,
-    /// A number that no cell of the order has.
+    /// The index is not that of a cell of the order.
     #[error("no cell of the order has that number")]
     CellTooLarge,
-    /// The coverage of an operand is at fault. Its place is counted from behind the word before it.
+    /// The coverage of an operand is invalid. The offset of the error counts from the first byte after the preceding
+    /// word.
     #[error(transparent)]
     Coverage(TextError),
 }
 
-impl LineFault {
-    /// The name that the answer gives. Takes no memory.
+impl LineError {
+    /// Returns the name of the error, as the answer to the line states it. Allocates nothing.
     pub fn name(self) -> &'static str
-        ensures { result.now ≡ name_of_line self }
+        ensures { result.now ≡ name_of_line_error self }
     {
         match self {
-            LineFault::UnknownWord => "UnknownWord",
-            LineFault::EmptyCommand => "EmptyCommand",
-            LineFault::TooManyCommands => "TooManyCommands",
-            LineFault::WrongCount => "WrongCount",
-            LineFault::BadNumber => "BadNumber",
-            LineFault::OrderTooLarge => "OrderTooLarge",
-            LineFault::CellTooLarge => "CellTooLarge",
-            LineFault::Coverage(error) => error.name(),
+            LineError::UnknownWord => "UnknownWord",
+            LineError::EmptyCommand => "EmptyCommand",
+            LineError::TooManyCommands => "TooManyCommands",
+            LineError::WrongCount => "WrongCount",
+            LineError::BadNumber => "BadNumber",
+            LineError::OrderTooLarge => "OrderTooLarge",
+            LineError::CellTooLarge => "CellTooLarge",
+            LineError::Coverage(error) => error.name(),
         }
     }
 }
 
-/// Adds the answer to a line with the fault of this name, `fault NAME` and a line feed. Linear in the name; refused
-/// where memory runs out, and a part may then stand in the text.
-pub fn push_fault(name: &str, text: &mut Vec<u8>) -> Result<(), Memory>
-    ensures { OnOk result (text.new.items ≡ text.old.items ++ told_fault name.now) }
+/// Appends the answer to an invalid line: `fault NAME` and a line feed. Linear in the length of the name.
+///
+/// # Errors
+/// Fails with `Memory` if an allocation fails. The text may then end with a part of the answer.
+pub fn push_error(name: &str, text: &mut Vec<u8>) -> Result<(), Memory>
+    ensures { OnOk result (text.new.items ≡ text.old.items ++ fault_report name.now) }
 {
     text.extend_from_slice(b"fault ")?;
     text.extend_from_slice(name.as_bytes())?;
@@ -68,21 +71,21 @@ pub fn push_fault(name: &str, text: &mut Vec<u8>) -> Result<(), Memory>
     Ok(())
 }
 
-/// Why a text is not read.
+/// Why a text cannot be parsed.
 #[derive(Clone, Copy, Debug, PartialEq, Eq, Error)]
 pub enum ReadError {
-    /// The text is bad.
+    /// The text is invalid.
     #[error("{0}")]
-    Fault(LineFault),
-    /// Memory was refused.
+    Fault(LineError),
+    /// An allocation failed.
     #[error("out of memory")]
     Memory,
 }
 
-impl From<LineFault> for ReadError {
+impl From<LineError> for ReadError {
     ghost from_gives = { λ fault e. e ≡ read.Fault fault };
 
-    fn from(fault: LineFault) -> ReadError {
+    fn from(fault: LineError) -> ReadError {
         ReadError::Fault(fault)
     }
 }
@@ -90,7 +93,7 @@ impl From<LineFault> for ReadError {
 impl From<AllocError> for ReadError {
     ghost from_gives = { λ _ e. e ≡ read.Memory };
 
-    fn from(_refused: AllocError) -> ReadError {
+    fn from(_memory: AllocError) -> ReadError {
         ReadError::Memory
     }
 }
@@ -101,7 +104,7 @@ impl From<TextError> for ReadError {
     fn from(error: TextError) -> ReadError {
         match error {
             TextError::Memory => ReadError::Memory,
-            error => ReadError::Fault(LineFault::Coverage(error)),
+            error => ReadError::Fault(LineError::Coverage(error)),
         }
     }
 }

@@ -1,4 +1,5 @@
-//! Lines of bytes: what they say as commands, how replies are told, and the loop that answers the lines of a reader.
+//! The line languages of scripts and numbers: parsing of lines, texts of replies, and the loop that answers the lines
+//! of a reader.
 #![tactic(auto)]
 
 mod answer;
@@ -21,7 +22,7 @@ mod script;
 mod theorems;
 mod words;
 
-pub use fault::{LineFault, ReadError, push_fault};
+pub use fault::{LineError, ReadError, push_error};
 pub use fields::{only_field, two_fields};
 pub use language::{Commands, answer_text, read_batch, read_commands};
 pub use line_reader::LINE_LIMIT;
@@ -29,8 +30,8 @@ pub use moc_devices::{
     DeviceFault, GuardedSource, Log, OverReader, OverWriter, Sink, Source, write_all,
 };
 pub use name_error::NumberingNameError;
-pub use numbering::{NumberFault, Numbering};
-pub use reading::{InputError, number_behind_last, read_all, split_line};
+pub use numbering::{NumberError, Numbering};
+pub use reading::{ScriptInputError, line_after_last, read_all, split_line};
 pub use renumbering::{Renumbering, renumber};
 pub use reply_text::{push_count, push_cover, push_reply_line};
 pub use responder::Responder;
@@ -38,4 +39,4 @@ pub use run_error::RunError;
 pub use runner::answer_all_lines;
 pub use script::run;
 pub use theorems::reported_input_is_answered;
-pub use words::{is_blank_text, is_word, number_in, split_word};
+pub use words::{is_blank_text, is_word, parse_decimal, split_word};

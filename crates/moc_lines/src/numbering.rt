@@ -1,6 +1,6 @@
 //! The numberings of the cells of an order.
 ghost use Rattle.std.specs.Prelude.{◌≡◌};
-ghost use Rattle.moc_lines.specs.Numberings.{name_of_number, number_under};
+ghost use Rattle.moc_lines.specs.Numberings.{name_of_number_error, cell_number_in};
 ghost use Rattle.moc_lines.specs.Private.Finding.{FindsCell};
 
 use crate::name_error::NumberingNameError;
@@ -16,19 +16,20 @@ pub enum Numbering {
     Nest,
     /// HEALPix's ring numbering scheme: from 0, row by row from the north pole, and eastward in a row.
     Ring,
-    /// NUNIQ numbers (MOC 2.0): the nested ones and 4^(order + 1).
+    /// NUNIQ numbers (MOC 2.0): the nested numbers and 4^(order + 1).
     Uniq,
 }
 
-/// The numbering that the command line calls `nest`, `ring` or `uniq`; refused with `NotNumbering`.
+/// Parses the name of a numbering on the command line: `nest`, `ring` or `uniq`. Fails with `NotNumbering` for any
+/// other word.
 impl FromStr for Numbering {
     type Err = NumberingNameError;
 
-    ghost use Rattle.moc_sphere.specs.Names.{IsNamed};
+    ghost use Rattle.moc_sphere.specs.Names.{ParsesName};
     ghost use Rattle.moc_lines.specs.Numberings.{numbering_name};
     ghost use Rattle.moc_lines.specs.declared.name_error.NumberingNameError.TheVariants.{NotNumbering};
 
-    ghost from_str_gives = { IsNamed numbering_name NotNumbering };
+    ghost from_str_gives = { ParsesName numbering_name NotNumbering };
 
     fn from_str(word: &str) -> Result<Numbering, NumberingNameError> {
         match word {
@@ -40,7 +41,7 @@ impl FromStr for Numbering {
     }
 }
 
-/// The word of the command line, which `from_str` takes.
+/// Writes the word of the command line, which `from_str` parses.
 impl fmt::Display for Numbering {
     ghost use Rattle.std.specs.Prelude.{Some};
     ghost use Rattle.moc_lines.specs.Numberings.{numbering_name};
@@ -56,49 +57,49 @@ impl fmt::Display for Numbering {
     }
 }
 
-/// Why a line of numbers is bad. Its answer gives the name.
+/// Why a line of numbers is invalid. The answer to the line states the name.
 #[derive(Clone, Copy, Debug, PartialEq, Eq, Error)]
-pub enum NumberFault {
-    /// More than one field.
+pub enum NumberError {
+    /// The line has more than one field.
     #[error("more than one field")]
     WrongCount,
-    /// A field that has another byte than digits.
+    /// The field has a byte that is not a digit.
     #[error("a field that is no number")]
     BadNumber,
-    /// A number that no cell of the order has as its nested number.
+    /// The number is not the nested number of a cell of the order.
     #[error("no cell of the order has that number")]
     CellTooLarge,
-    /// A number that no cell of the order has as its ring number.
+    /// The number is not the ring number of a cell of the order.
     #[error("no cell of the order has that ring number")]
     RingTooLarge,
-    /// A number that no cell has as its NUNIQ number.
+    /// The number is not the NUNIQ number of a cell.
     #[error("a number that is no NUNIQ number")]
     NotUniq,
-    /// The NUNIQ number of a cell of another order.
+    /// The number is the NUNIQ number of a cell of another order.
     #[error("the NUNIQ number of a cell of another order")]
     OtherOrder,
 }
 
-impl NumberFault {
-    /// The name that the answer gives. Takes no memory.
+impl NumberError {
+    /// Returns the name of the error, as the answer to the line states it. Allocates nothing.
     pub fn name(self) -> &'static str
-        ensures { result.now ≡ name_of_number self }
+        ensures { result.now ≡ name_of_number_error self }
     {
         match self {
-            NumberFault::WrongCount => "WrongCount",
-            NumberFault::BadNumber => "BadNumber",
-            NumberFault::CellTooLarge => "CellTooLarge",
-            NumberFault::RingTooLarge => "RingTooLarge",
-            NumberFault::NotUniq => "NotUniq",
-            NumberFault::OtherOrder => "OtherOrder",
+            NumberError::WrongCount => "WrongCount",
+            NumberError::BadNumber => "BadNumber",
+            NumberError::CellTooLarge => "CellTooLarge",
+            NumberError::RingTooLarge => "RingTooLarge",
+            NumberError::NotUniq => "NotUniq",
+            NumberError::OtherOrder => "OtherOrder",
         }
     }
 }
 
 impl Numbering {
-    /// The number of a cell.
+    /// Returns the number of a cell in this numbering.
     pub(crate) fn number(self, cell: Cell) -> u64
-        ensures { result ≡ number_under self cell.order cell.index }
+        ensures { result ≡ cell_number_in self cell.order cell.index }
     {
         match self {
             Numbering::Nest => cell.index(),
@@ -107,29 +108,29 @@ impl Numbering {
         }
     }
 
-    /// The cell of the order that has this number, or the fault.
-    pub(crate) fn cell(self, order: Order, number: u64) -> Result<Cell, NumberFault>
+    /// Returns the cell of the order with this number, or the error.
+    pub(crate) fn cell(self, order: Order, number: u64) -> Result<Cell, NumberError>
         ensures { FindsCell self order number result }
     {
         match self {
-            Numbering::Nest => Cell::new(order, number).or(Err(NumberFault::CellTooLarge)),
-            Numbering::Ring => Cell::from_ring(order, number).or(Err(NumberFault::RingTooLarge)),
+            Numbering::Nest => Cell::new(order, number).or(Err(NumberError::CellTooLarge)),
+            Numbering::Ring => Cell::from_ring(order, number).or(Err(NumberError::RingTooLarge)),
             Numbering::Uniq => cell_of_uniq(order, number),
         }
     }
 }
 
-/// The cell of the order that has this NUNIQ number, or the fault.
-fn cell_of_uniq(order: Order, uniq: u64) -> Result<Cell, NumberFault>
+/// Returns the cell of the order with this NUNIQ number, or the error.
+fn cell_of_uniq(order: Order, uniq: u64) -> Result<Cell, NumberError>
     ensures { FindsCell Numbering.Uniq order uniq result }
 {
     let depth = order.get();
     let Ok(cell) = Cell::from_uniq(uniq) else {
-        return Err(NumberFault::NotUniq);
+        return Err(NumberError::NotUniq);
     };
     if cell.order().get() == depth {
         Ok(cell)
     } else {
-        Err(NumberFault::OtherOrder)
+        Err(NumberError::OtherOrder)
     }
 }

@@ -1,13 +1,13 @@
-//! A script that is read whole.
+//! Scripts that are read whole.
 ghost use Rattle.std.specs.Prelude.{◌≡◌, ◌≢◌, ◌<◌, ◌≤◌, ◌+◌, ◌++◌, ◌∷◌, ◌↔◌, [], false, length, IfOk, IfErr, OnOk};
 ghost use Rattle.std.specs.Prelude.{IsErrOf, Err, IsTrue, List, ℕ};
 ghost use Rattle.std.specs.List.{count_by};
 ghost use Rattle.moc_devices.specs.Devices.{Delivers};
 ghost use Rattle.moc_text.specs.Lines.{is_line_feed, lines_of};
 ghost use Rattle.moc_lines.specs.Runs.{FailsOn, ReadsAll};
-ghost use Rattle.moc_lines.specs.Private.Input.{IsHeld};
+ghost use Rattle.moc_lines.specs.Private.Input.{IsScriptState};
 
-use crate::bytes::{CHUNK, first_or_len};
+use crate::bytes::{CHUNK_SIZE, first_or_len};
 use crate::line_reader::LINE_LIMIT;
 use memchr::memrchr;
 use moc_devices::{DeviceFault, Source};
@@ -18,32 +18,32 @@ use thiserror::Error;
 #[derive(Drop)]
 struct Script {
     bytes: Vec<u8>,
-    /// Where the line begins that no line feed ends yet.
+    /// The start of the last line, which no line feed has ended yet.
     start: usize,
 }
 
 /// Why a script was not read to its end.
 #[derive(Clone, Copy, Debug, PartialEq, Eq, Error)]
-pub enum InputError {
-    /// The reader failed.
+pub enum ScriptInputError {
+    /// Reading failed.
     #[error("the input could not be read")]
     Read,
-    /// A line is over the limit. Lines are counted from 1.
+    /// A line is longer than the limit. Lines count from 1.
     #[error("line {line} is too long")]
     TooLong {
-        /// Its number.
+        /// The number of the line.
         line: u64,
     },
-    /// Memory was refused while this line was read; before the first, at 0.
+    /// An allocation failed while this line was read; 0 if it failed before the first line.
     #[error("out of memory at line {line}")]
     Memory {
-        /// Its number, from 1; or 0.
+        /// The number of the line, from 1; or 0.
         line: u64,
     },
 }
 
 impl Script {
-    /// Nothing yet.
+    /// Returns an empty script.
     fn new(alloc: Global) -> Script
         ensures { (result.bytes.items ≡ []) × (result.start ≡ 0) }
     {
@@ -53,29 +53,33 @@ impl Script {
         }
     }
 
-    /// The number of the line that no line feed ends yet.
-    fn begun(&self) -> u64
+    /// Returns the number of the unfinished line.
+    fn unfinished_line(&self) -> u64
         ensures { result ≡ count_by is_line_feed self.now.bytes.items + 1 }
     {
         line_feeds(&self.bytes) + 1
     }
 
-    /// Puts bytes behind the others, unless the line that is begun goes over the limit with them.
-    fn add(&mut self, chunk: &[u8]) -> Result<(), InputError>
-        requires held { IsHeld self.old.bytes.items self.old.start }
+    /// Appends bytes. Fails with `TooLong` if the unfinished line becomes longer than the limit.
+    fn add(&mut self, chunk: &[u8]) -> Result<(), ScriptInputError>
+        requires held { IsScriptState self.old.bytes.items self.old.start }
         requires some { 0 < length chunk.now }
-        requires short { length chunk.now ≤ CHUNK }
-        ensures held { OnOk result (IsHeld self.new.bytes.items self.new.start) }
+        requires short { length chunk.now ≤ CHUNK_SIZE }
+        ensures held { OnOk result (IsScriptState self.new.bytes.items self.new.start) }
         ensures bytes { OnOk result (self.new.bytes.items ≡ self.old.bytes.items ++ chunk.now) }
         ensures fails { IfErr result (λ e. FailsOn (self.old.bytes.items ++ chunk.now) e) }
-        ensures read { result ≢ Err InputError.Read }
+        ensures read { result ≢ Err ScriptInputError.Read }
     {
         let before = self.bytes.len();
         if first_or_len(b'\n', chunk) > LINE_LIMIT - (before - self.start) {
-            return Err(InputError::TooLong { line: self.begun() });
+            return Err(ScriptInputError::TooLong {
+                line: self.unfinished_line(),
+            });
         }
         let Ok(()) = self.bytes.extend_from_slice(chunk) else {
-            return Err(InputError::Memory { line: self.begun() });
+            return Err(ScriptInputError::Memory {
+                line: self.unfinished_line(),
+            });
         };
         if let Some(at) = memrchr(b'\n', chunk) {
             self.start = before + at + 1;
@@ -84,16 +88,16 @@ impl Script {
     }
 }
 
-/// How many line feeds bytes have.
+/// Returns the number of line feeds.
 fn line_feeds(bytes: &[u8]) -> u64
     ensures count { result ≡ count_by is_line_feed bytes.now }
-    ensures few { result ≤ length bytes.now }
+    ensures bounded { result ≤ length bytes.now }
 {
     bytes.iter().filter(|b| **b == b'\n').count() as u64
 }
 
-/// The number of the line behind the last, counted from 1. Linear in the bytes; takes no memory.
-pub fn number_behind_last(input: &[u8]) -> u64
+/// Returns the number of the line after the last, counted from 1. Linear in the number of bytes; allocates nothing.
+pub fn line_after_last(input: &[u8]) -> u64
     ensures { result ≡ length (lines_of input.now) + 1 }
 {
     let whole = line_feeds(input);
@@ -104,20 +108,24 @@ pub fn number_behind_last(input: &[u8]) -> u64
     }
 }
 
-/// Reads all lines, into one buffer, as they stand.
+/// Reads all lines, unchanged, into one buffer.
 ///
-/// Refused where the reader fails, at a line of more bytes than [`LINE_LIMIT`](crate::LINE_LIMIT), and where memory
-/// runs out. Of what is read at a time only the first and the last line feed are looked for. Takes time and memory
-/// linear in the bytes. Wants a reader of which no call has failed.
-pub fn read_all<R: Source>(alloc: Global, reader: &mut R) -> Result<Vec<u8>, InputError>
+/// Requires that no call of the reader has failed before.
+///
+/// # Errors
+/// Fails if reading fails, if a line has more bytes than [`LINE_LIMIT`](crate::LINE_LIMIT), or if an allocation fails.
+///
+/// # Complexity
+/// Time and memory are linear in the number of bytes. Of each chunk only the first and the last line feed are searched.
+pub fn read_all<R: Source>(alloc: Global, reader: &mut R) -> Result<Vec<u8>, ScriptInputError>
     requires reader { R.mark reader.old ≡ false }
     ensures all { IfOk result (λ input. ReadsAll (R.reading reader.old) (R.reading reader.new) input.items) }
     ensures fails { IfErr result (λ e.
         (given : List ℕ) × Delivers (R.reading reader.old) (R.reading reader.new) given × FailsOn given e) }
-    ensures read { IsErrOf result InputError.Read ↔ IsTrue (R.mark reader.new) }
+    ensures read { IsErrOf result ScriptInputError.Read ↔ IsTrue (R.mark reader.new) }
 {
-    let Ok(mut chunk) = vec![in alloc; 0u8; CHUNK] else {
-        return Err(InputError::Memory { line: 0 });
+    let Ok(mut chunk) = vec![in alloc; 0u8; CHUNK_SIZE] else {
+        return Err(ScriptInputError::Memory { line: 0 });
     };
     let mut script = Script::new(alloc);
     loop {
@@ -127,20 +135,21 @@ pub fn read_all<R: Source>(alloc: Global, reader: &mut R) -> Result<Vec<u8>, Inp
                 Ok(()) => {}
                 Err(fault) => return Err(fault),
             },
-            Err(DeviceFault) => return Err(InputError::Read),
+            Err(DeviceFault) => return Err(ScriptInputError::Read),
         }
     }
 }
 
-/// The first line of a text that has one, and what stands behind its line feed. Linear in the line; takes no memory.
+/// Splits a text that is not empty after its first line: returns the line without its line feed, and the rest. Linear
+/// in the length of the line; allocates nothing.
 pub fn split_line(text: &[u8]) -> (&[u8], &[u8])
     requires { 0 < length text.now }
     ensures lines { lines_of text.now ≡ result.0.now ∷ lines_of result.1.now }
     ensures less { length result.1.now < length text.now }
 {
-    let (line, behind) = text.split_at(first_or_len(b'\n', text));
-    match behind.split_first() {
+    let (line, following) = text.split_at(first_or_len(b'\n', text));
+    match following.split_first() {
         Some((_, rest)) => (line, rest),
-        None => (line, behind),
+        None => (line, following),
     }
 }

@@ -1,52 +1,55 @@
-//! Numbers of cells, told in another numbering, from a reader to a writer.
+//! Conversion of cell numbers between numberings, from a reader to a writer.
 ghost use Rattle.std.specs.Prelude.{◌≡◌, ◌++◌, ◌∷◌, ◌-◌, ◌^◌, [], false, OnOk, decimal, min};
 ghost use Rattle.std.specs.Result.{result_map_both};
-ghost use Rattle.moc_lines.specs.Runs.{script_text, line_limit, AnswersAll, EndsFlushed, Flushes, Runs, TellsFailed};
+ghost use Rattle.moc_lines.specs.Runs.{script_text, line_limit, AnswersAll, EndsFlushed, Flushes, Runs, ReportsFailure};
 ghost use Rattle.moc_lines.specs.Runs.{AreLinesAnswered, HasNotEnded};
 ghost use Rattle.moc_lines.specs.Language.{◌>>=◌ as and_then};
-ghost use Rattle.moc_lines.specs.Numberings.{number_on, other_number, renumber_rules};
+ghost use Rattle.moc_lines.specs.Numberings.{number_of_line, converted_number, renumber_rules};
 
-use crate::fault::push_fault;
-use crate::numbering::{NumberFault, Numbering};
+use crate::fault::push_error;
+use crate::numbering::{NumberError, Numbering};
 use crate::responder::Responder;
 use crate::run_error::RunError;
 use crate::runner::answer_all_lines;
-use crate::words::{SAFE_DIGITS, is_blank_text, number_in, short_number_in, split_word};
+use crate::words::{SAFE_DIGITS, is_blank_text, parse_decimal, parse_short_decimal, split_word};
 use itoa::write_digits;
 use moc_devices::{GuardedSource, Sink};
 use moc_ranges::Memory;
 use moc_sphere::Order;
 use std::alloc::Global;
 
-/// How many bytes a number takes at most, with a line feed behind it.
-const LINE: usize = 21;
+/// The maximal number of bytes of a number with its line feed.
+const MAX_NUMBER_LINE: usize = 21;
 
-/// From which numbering to which, of the cells of which order.
+/// A conversion between two numberings of the cells of an order.
 #[derive(Clone, Copy, Debug, PartialEq, Eq)]
 pub struct Renumbering {
     /// The numbering of the numbers that are read.
     pub from: Numbering,
-    /// The numbering of those that are written.
+    /// The numbering of the numbers that are written.
     pub to: Numbering,
     /// The order of the cells.
     pub order: Order,
 }
 
 impl Renumbering {
-    /// The number, in the one numbering, of the cell that has this number in the other; refused where the order has no
-    /// such cell: with `CellTooLarge`, `RingTooLarge`, `NotUniq` or `OtherOrder`. O(1); takes no memory.
-    pub fn of(self, number: u64) -> Result<u64, NumberFault>
-        ensures { result ≡ other_number self number }
+    /// Converts a number. Returns the number, in the target numbering, of the cell that has this number in the source
+    /// numbering. O(1); allocates nothing.
+    ///
+    /// # Errors
+    /// Fails with `CellTooLarge`, `RingTooLarge`, `NotUniq` or `OtherOrder` if the order has no such cell.
+    pub fn of(self, number: u64) -> Result<u64, NumberError>
+        ensures { result ≡ converted_number self number }
     {
         let cell = self.from.cell(self.order, number)?;
         Ok(self.to.number(cell))
     }
 
-    /// The same of the number that a line spells.
-    fn of_line(self, line: &[u8]) -> Result<u64, NumberFault>
-        ensures { result ≡ and_then (number_on line.now) (λ n. other_number self n) }
+    /// Converts the number on a line.
+    fn of_line(self, line: &[u8]) -> Result<u64, NumberError>
+        ensures { result ≡ and_then (number_of_line line.now) (λ n. converted_number self n) }
     {
-        // Any order is 29 at most, and so all its numbers have 62 bits at most.
+        // Every order is at most 29, and so all its numbers have at most 62 bits.
         self.order.get();
         self.of(read_number(line)?)
     }
@@ -66,7 +69,7 @@ impl Responder for Renumbering {
         }
         match self.of_line(line) {
             Ok(number) => push_number(number, text),
-            Err(fault) => push_fault(fault.name(), text),
+            Err(fault) => push_error(fault.name(), text),
         }
     }
 
@@ -75,48 +78,53 @@ impl Responder for Renumbering {
     }
 }
 
-/// The number that a line spells, which has just one field, or `u64::MAX` where it is larger.
-fn read_number(line: &[u8]) -> Result<u64, NumberFault>
-    ensures { result ≡ result_map_both (λ n. min n (2 ^ 64 - 1)) (λ fault. fault) (number_on line.now) }
+/// Parses the number on a line, which must have exactly one field. Returns `u64::MAX` for larger numbers.
+fn read_number(line: &[u8]) -> Result<u64, NumberError>
+    ensures { result ≡ result_map_both (λ n. min n (2 ^ 64 - 1)) (λ fault. fault) (number_of_line line.now) }
 {
     if line.len() <= SAFE_DIGITS {
-        if let Some(number) = short_number_in(line) {
+        if let Some(number) = parse_short_decimal(line) {
             return Ok(number);
         }
     }
-    let (field, behind) = split_word(line);
-    if !is_blank_text(behind) {
-        return Err(NumberFault::WrongCount);
+    let (field, following) = split_word(line);
+    if !is_blank_text(following) {
+        return Err(NumberError::WrongCount);
     }
-    number_in(field).ok_or(NumberFault::BadNumber)
+    parse_decimal(field).ok_or(NumberError::BadNumber)
 }
 
-/// Adds a number as a line.
+/// Appends a number as a line.
 fn push_number(number: u64, text: &mut Vec<u8>) -> Result<(), Memory>
     ensures { OnOk result (text.new.items ≡ text.old.items ++ (decimal number ++ 10 ∷ [])) }
 {
-    let mut line = [b'\n'; LINE];
-    let start = write_digits(number, &mut line, LINE - 1);
+    let mut line = [b'\n'; MAX_NUMBER_LINE];
+    let start = write_digits(number, &mut line, MAX_NUMBER_LINE - 1);
     text.extend_from_slice(&line[start..])?;
     Ok(())
 }
 
-/// Tells the numbers of cells of an order in another numbering, a number a line.
+/// Converts the cell numbers of an order to another numbering, one number a line.
 ///
-/// Lines are those of [`run`](crate::run). A line is one field, a number in base ten, and its answer is the number that
-/// the same cell has in the other numbering; the other lines that are not blank are answered `fault NAME`.
+/// Lines are those of [`run`](crate::run). A line is one field, a decimal number, and its answer is the number of the
+/// same cell in the other numbering. Any other line that is not blank has the answer `fault NAME`.
 ///
-/// | Fault | Line |
+/// | Name | Line |
 /// |---|---|
 /// | `WrongCount` | it has more than one field |
-/// | `BadNumber` | its field is no number |
-/// | `CellTooLarge` | the order has no cell of that nested number |
-/// | `RingTooLarge` | the order has no cell of that ring number |
-/// | `NotUniq` | it is no NUNIQ number |
+/// | `BadNumber` | its field is not a number |
+/// | `CellTooLarge` | it is not the nested number of a cell of the order |
+/// | `RingTooLarge` | it is not the ring number of a cell of the order |
+/// | `NotUniq` | it is not a NUNIQ number |
 /// | `OtherOrder` | it is the NUNIQ number of a cell of another order |
 ///
-/// Faults of the devices and lines over the limit end the call as they end `run`; what is written then is exactly the
-/// answers to the lines before. A line takes time linear in its bytes, and a growth of the buffers at most.
+/// # Errors
+/// If the call fails with `LineTooLong` or `Memory`, the output is exactly the answers to the lines before the line
+/// that the error names. If it fails with `Read`, the output is the answers to the whole lines that were read; with
+/// `Write`, as much of the answers as the writer accepted. After the whole text the writer is flushed, once.
+///
+/// # Complexity
+/// Each line takes time linear in its length.
 pub fn renumber<R: GuardedSource<W>, W: Sink>(
     alloc: Global,
     reader: &mut R,
@@ -144,12 +152,12 @@ pub fn renumber<R: GuardedSource<W>, W: Sink>(
     ensures answers { OnOk result (AnswersAll (script_text renumber_rules line_limit renumbering)
         (R.reading reader.old) (R.reading reader.new) (W.writing writer.old) (W.writing writer.new)) }
 
-    // Only the reader's end ends it without a fault, and then all is flushed, at once.
+    // The call succeeds only at the end of the input, and then flushes once after all output.
     ensures end { EndsFlushed result (R.reading reader.new) (W.flushed writer.old) (W.flushed writer.new) }
     ensures flushes { Flushes result (W.flushes writer.old) (W.flushes writer.new) }
 
-    // The devices' faults are theirs, and a device that failed is told.
-    ensures devices { TellsFailed result (R.mark reader.new) (W.mark writer.new) }
+    // An error names a device only if it has failed. If a device has failed, the call fails with `Read` or `Write`.
+    ensures devices { ReportsFailure result (R.mark reader.new) (W.mark writer.new) }
 {
     let mut responder = renumbering;
     answer_all_lines(alloc, &mut responder, reader, writer)

@@ -8,7 +8,7 @@ use moc_ranges::{Coverage, Memory};
 use moc_text::write_ascii;
 use std::alloc::Global;
 
-/// Adds the texts of replies, parted.
+/// Appends the texts of replies, separated by ` ; `.
 fn push_replies(alloc: Global, replies: &[Reply], text: &mut Vec<u8>) -> Result<(), Memory>
     ensures { OnOk result (text.new.items ≡ text.old.items ++ replies_text replies.now) }
 {
@@ -23,8 +23,10 @@ fn push_replies(alloc: Global, replies: &[Reply], text: &mut Vec<u8>) -> Result<
     Ok(())
 }
 
-/// Adds the line of replies: their texts, parted by ` ; `, and a line feed. Linear in the text; refused where memory
-/// runs out.
+/// Appends the line of replies: their texts, separated by ` ; `, and a line feed. Linear in the length of the text.
+///
+/// # Errors
+/// Fails with `Memory` if an allocation fails.
 pub fn push_reply_line(alloc: Global, replies: &[Reply], text: &mut Vec<u8>) -> Result<(), Memory>
     ensures { OnOk result (text.new.items ≡ text.old.items ++ (replies_text replies.now ++ 10 ∷ [])) }
 {
@@ -33,7 +35,7 @@ pub fn push_reply_line(alloc: Global, replies: &[Reply], text: &mut Vec<u8>) -> 
     Ok(())
 }
 
-/// Adds the text of a reply.
+/// Appends the text of a reply.
 fn push_reply(alloc: Global, reply: &Reply, text: &mut Vec<u8>) -> Result<(), Memory>
     ensures { OnOk result (text.new.items ≡ text.old.items ++ reply_text reply.now) }
 {
@@ -49,7 +51,10 @@ fn push_reply(alloc: Global, reply: &Reply, text: &mut Vec<u8>) -> Result<(), Me
     Ok(())
 }
 
-/// Adds a word and a number in base ten. Refused where memory runs out. Linear in the text that is added.
+/// Appends a word and a decimal number. Linear in the length of the appended text.
+///
+/// # Errors
+/// Fails with `Memory` if an allocation fails.
 pub fn push_count(word: &[u8], count: u64, text: &mut Vec<u8>) -> Result<(), Memory>
     ensures { OnOk result (text.new.items ≡ text.old.items ++ (word.now ++ decimal count)) }
 {
@@ -59,8 +64,11 @@ pub fn push_count(word: &[u8], count: u64, text: &mut Vec<u8>) -> Result<(), Mem
     Ok(())
 }
 
-/// Adds the text of a cover: `cover`, and of a set that is not empty its ASCII form (MOC 2.0). Linear in the text;
-/// refused where memory runs out.
+/// Appends the text of a `cover` reply: `cover`, and the ASCII format (MOC 2.0) of the set unless it is empty. Linear
+/// in the length of the text.
+///
+/// # Errors
+/// Fails with `Memory` if an allocation fails.
 pub fn push_cover(alloc: Global, set: &Coverage, text: &mut Vec<u8>) -> Result<(), Memory>
     ensures { OnOk result (text.new.items ≡ text.old.items ++ cover_text set.now) }
 {

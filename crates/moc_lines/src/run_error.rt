@@ -1,38 +1,38 @@
-//! Why a run ends early.
+//! Errors that end a run early.
 ghost use Rattle.std.specs.Prelude.{◌≡◌};
-ghost use Rattle.moc_lines.specs.Runs.{error_of_input, name_of_run};
+ghost use Rattle.moc_lines.specs.Runs.{error_of_input, name_of_run_error};
 
-use crate::reading::InputError;
+use crate::reading::ScriptInputError;
 use thiserror::Error;
 
 /// Why a run ended early.
 #[derive(Clone, Copy, Debug, PartialEq, Eq, Error)]
 pub enum RunError {
-    /// The reader failed.
+    /// Reading failed.
     #[error("the input could not be read")]
     Read,
-    /// The writer failed, or took none of some bytes.
+    /// Writing failed, or the writer accepted no bytes.
     #[error("the output could not be written")]
     Write,
-    /// A line is over the limit. Lines are counted from 1.
+    /// A line is longer than the limit. Lines count from 1.
     #[error("line {line} is too long")]
     LineTooLong {
-        /// Its number.
+        /// The number of the line.
         line: u64,
     },
-    /// A growth was refused while this line was read or answered; before the first line, at 0; once all lines are
-    /// answered, at one more than the lines.
+    /// An allocation failed while this line was read or answered. The number is 0 if it failed before the first line,
+    /// and one more than the number of lines if it failed after all lines were answered.
     #[error("out of memory at line {line}")]
     Memory {
-        /// Its number, from 1; or 0.
+        /// The number of the line, from 1; or 0.
         line: u64,
     },
 }
 
 impl RunError {
-    /// The name of the fault, as it is printed.
+    /// Returns the name of the error, as it is printed.
     pub fn name(self) -> &'static str
-        ensures { result.now ≡ name_of_run self }
+        ensures { result.now ≡ name_of_run_error self }
     {
         match self {
             RunError::Read => "Read",
@@ -43,14 +43,14 @@ impl RunError {
     }
 }
 
-impl From<InputError> for RunError {
+impl From<ScriptInputError> for RunError {
     ghost from_gives = { λ error e. e ≡ error_of_input error };
 
-    fn from(error: InputError) -> RunError {
+    fn from(error: ScriptInputError) -> RunError {
         match error {
-            InputError::Read => RunError::Read,
-            InputError::TooLong { line } => RunError::LineTooLong { line },
-            InputError::Memory { line } => RunError::Memory { line },
+            ScriptInputError::Read => RunError::Read,
+            ScriptInputError::TooLong { line } => RunError::LineTooLong { line },
+            ScriptInputError::Memory { line } => RunError::Memory { line },
         }
     }
 }

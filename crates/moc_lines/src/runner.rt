@@ -1,23 +1,23 @@
-//! A run under way.
+//! The loop that answers lines.
 ghost use Rattle.std.specs.Prelude.{◌≡◌, ◌≢◌, ◌++◌, [], IfOk, IfErr, if◌then◌else◌, IsTrue, ◌↔◌, false};
 ghost use Rattle.std.specs.Prelude.{OnOk, OnErr, IsErrOf, Ok, Err, is_err};
 ghost use Rattle.moc_devices.specs.Devices.{AcceptsNone, CallsMore, FlushesNothing, OnlyWrites, Sends};
-ghost use Rattle.moc_lines.specs.Private.LineReading.{IsOfLine, PermitsReadsWithinLine, TakesLine, holds_line};
-ghost use Rattle.moc_lines.specs.Runs.{script_text, line_limit, AnswersAll, EndsFlushed, Flushes, Runs, TellsFailed};
+ghost use Rattle.moc_lines.specs.Private.LineReading.{IsOfLine, PermitsReadsWithinLine, ReadsLine, has_line};
+ghost use Rattle.moc_lines.specs.Runs.{script_text, line_limit, AnswersAll, EndsFlushed, Flushes, Runs, ReportsFailure};
 ghost use Rattle.moc_lines.specs.Runs.{AreLinesAnswered, HasNotEnded};
 ghost use Rattle.moc_lines.specs.Private.Ended.{Ended};
 
-use crate::line_reader::{Found, LINE_LIMIT, LineReader};
-use crate::reading::InputError;
+use crate::line_reader::{LINE_LIMIT, LineKind, LineReader};
+use crate::reading::ScriptInputError;
 use crate::responder::Responder;
 use crate::run_error::RunError;
 use moc_devices::{DeviceFault, GuardedSource, Sink, write_all};
 use std::alloc::{AllocError, Global};
 
-/// How many bytes of answers are kept before they are written.
-const FULL: usize = 65_536;
+/// The number of bytes of answers that are buffered before they are written.
+const FLUSH_THRESHOLD: usize = 65_536;
 
-/// The lines to come, and the answers that are not written yet.
+/// The state of a run: the lines to be read, and the answers that are not written yet.
 #[derive(Drop)]
 struct Runner {
     alloc: Global,
@@ -27,7 +27,7 @@ struct Runner {
 }
 
 impl Runner {
-    /// Nothing is read, and nothing answered.
+    /// Returns the state before the first read.
     fn new(alloc: Global) -> Result<Runner, AllocError>
         ensures unread { IfOk result (λ r. r.lines.unread ≡ []) }
         ensures pending { IfOk result (λ r. r.pending.items ≡ []) }
@@ -60,7 +60,7 @@ impl Runner {
             (R.reading reader.old) (R.reading reader.new) (W.writing writer.old) (W.writing writer.new) result }
         ensures end { EndsFlushed result (R.reading reader.new) (W.flushed writer.old) (W.flushed writer.new) }
         ensures flushes { Flushes result (W.flushes writer.old) (W.flushes writer.new) }
-        ensures devices { TellsFailed result (R.mark reader.new) (W.mark writer.new) }
+        ensures devices { ReportsFailure result (R.mark reader.new) (W.mark writer.new) }
     {
         let outcome = self.answer_lines(responder, reader, writer);
         if is_write(&outcome) {
@@ -75,7 +75,7 @@ impl Runner {
         outcome
     }
 
-    /// Answers each line, and writes what is pending before each read that may wait.
+    /// Answers each line, and writes the pending answers before each read that may wait.
     fn answer_lines<A: Responder, R: GuardedSource<W>, W: Sink>(
         &mut self,
         responder: &mut A,
@@ -103,40 +103,40 @@ impl Runner {
                 return Err(RunError::Write);
             }
             match self.next_line(line, reader, writer) {
-                Ok(Found::Line) => self.answer_line(line, responder)?,
-                Ok(Found::LastLine) => {
+                Ok(LineKind::Line) => self.answer_line(line, responder)?,
+                Ok(LineKind::LastLine) => {
                     self.answer_line(line, responder)?;
                     return self.close(line + 1, responder);
                 }
-                Ok(Found::Nothing) => return self.close(line, responder),
+                Ok(LineKind::EndOfInput) => return self.close(line, responder),
                 Err(fault) => return Err(RunError::from(fault)),
             }
         }
         Err(RunError::Memory { line: u64::MAX })
     }
 
-    /// Takes the next line, whose number this is. Reads only in states in which `permission` grants it.
+    /// Reads the next line, which has this number. Reads only in states in which `permission` grants it.
     fn next_line<R: GuardedSource<W>, W>(
         &mut self,
         number: u64,
         reader: &mut R,
         writer: &W,
-    ) -> Result<Found, InputError>
+    ) -> Result<LineKind, ScriptInputError>
         requires permission { PermitsReadsWithinLine R.reading R.mark (λ r. R.may_read r writer.now)
             self.old.lines.unread reader.old }
         requires reader { R.mark reader.old ≡ false }
-        ensures takes { TakesLine LINE_LIMIT self.old.lines (R.reading reader.old)
+        ensures takes { ReadsLine LINE_LIMIT self.old.lines (R.reading reader.old)
             self.new.lines (R.reading reader.new) result }
         ensures pending { self.new.pending.items ≡ self.old.pending.items }
         ensures number { IfErr result (λ e. IsOfLine number e) }
-        ensures more { result ≡ Ok Found.Line → HasNotEnded (R.reading reader.old) (R.reading reader.new) }
-        ensures read { result ≡ Err InputError.Read ↔ IsTrue (R.mark reader.new) }
+        ensures more { result ≡ Ok LineKind.Line → HasNotEnded (R.reading reader.old) (R.reading reader.new) }
+        ensures read { result ≡ Err ScriptInputError.Read ↔ IsTrue (R.mark reader.new) }
     {
         self.lines.next_line(number, reader, writer)
     }
 
-    /// Does what the line of this number says, which was taken last, and adds the whole answer to what is pending, or
-    /// nothing.
+    /// Processes the last line that was read, which has this number. Appends the whole answer to the pending answers,
+    /// or nothing.
     fn answer_line<A: Responder>(&mut self, number: u64, responder: &mut A) -> Result<(), RunError>
         ensures text { OnOk result (self.new.pending.items ≡
             self.old.pending.items ++ A.rules.answer responder.old self.old.lines.line) }
@@ -154,12 +154,12 @@ impl Runner {
         Ok(())
     }
 
-    /// Adds what is said behind the last line to what is pending, the whole of it or nothing. `behind` is the number of
-    /// the line behind the last.
-    fn close<A: Responder>(&mut self, behind: u64, responder: &A) -> Result<(), RunError>
+    /// Appends the closing text to the pending answers, whole or not at all. `after_last` is the number of the line
+    /// after the last.
+    fn close<A: Responder>(&mut self, after_last: u64, responder: &A) -> Result<(), RunError>
         ensures text { OnOk result (self.new.pending.items ≡
             self.old.pending.items ++ A.rules.closing responder.now) }
-        ensures memory { IfErr result (λ fault. fault ≡ RunError.Memory behind) }
+        ensures memory { IfErr result (λ fault. fault ≡ RunError.Memory after_last) }
         ensures some { OnErr result (A.rules.closing responder.now ≢ []) }
         ensures err { OnErr result (self.new.pending.items ≡ self.old.pending.items) }
         ensures lines { self.new.lines ≡ self.old.lines }
@@ -167,26 +167,27 @@ impl Runner {
         self.answer.clear();
         let closed = responder.close(self.alloc, &mut self.answer);
         if closed.is_err() || self.pending.extend_from_slice(&self.answer).is_err() {
-            return Err(RunError::Memory { line: behind });
+            return Err(RunError::Memory { line: after_last });
         }
         Ok(())
     }
 
-    /// Writes what is pending, where the next line may have to be read, or much is pending.
+    /// Writes the pending answers if the buffer has no whole line, so that the next line may have to be read, or if at
+    /// least `FLUSH_THRESHOLD` bytes are pending.
     fn send_if_due<W: Sink>(&mut self, writer: &mut W) -> Result<(), DeviceFault>
         ensures sends { Sends self.old.pending.items (W.writing writer.old)
             self.new.pending.items (W.writing writer.new) result }
-        ensures written { OnOk result (holds_line self.new.lines.unread ≡ false → self.new.pending.items ≡ []) }
+        ensures written { OnOk result (has_line self.new.lines.unread ≡ false → self.new.pending.items ≡ []) }
         ensures lines { self.new.lines ≡ self.old.lines }
         ensures writes { OnlyWrites W.mark W.flushed W.flushes writer.old writer.new (is_err result) }
     {
-        if self.lines.holds_line() && self.pending.len() < FULL {
+        if self.lines.has_line() && self.pending.len() < FLUSH_THRESHOLD {
             return Ok(());
         }
         self.send(writer)
     }
 
-    /// Writes what is pending, in as many calls as it takes.
+    /// Writes the pending answers, in as many calls as necessary.
     fn send<W: Sink>(&mut self, writer: &mut W) -> Result<(), DeviceFault>
         ensures sends { Sends self.old.pending.items (W.writing writer.old)
             self.new.pending.items (W.writing writer.new) result }
@@ -200,18 +201,23 @@ impl Runner {
     }
 }
 
-/// Answers the lines of a reader, in order, as a responder does, and writes the answers, with what it says behind the
+/// Answers the lines of a reader, in order, by a responder, and writes the answers, with the closing text after the
 /// last line.
 ///
-/// A line ends at a line feed, and bytes behind the last one are a last line. Answers are written before each read that
-/// may wait. After the whole text the writer is flushed, once. Where the call ends with a fault, what is written is
-/// exactly the answers to the lines before the one that `LineTooLong` or `Memory` names, or to the whole lines that
-/// were read before `Read`; on `Write` it is as much of the answers as the writer took. What is said behind the last
-/// line is made before any of it is written: where memory is refused for it, `Memory` names the line behind the last;
-/// at 0 nothing was read.
+/// A line ends at a line feed; bytes after the last line feed are a last line. Answers are written before each read
+/// that may wait. After the whole text the writer is flushed, once.
 ///
-/// A line's end is looked for once, and the line is copied. Takes memory linear in the longest line and the longest
-/// answer.
+/// # Errors
+/// If the call fails with `LineTooLong` or `Memory`, the output is exactly the answers to the lines before the line
+/// that the error names. If it fails with `Read`, the output is the answers to the whole lines that were read; with
+/// `Write`, as much of the answers as the writer accepted. The closing text is made before any of it is written: if an
+/// allocation fails for it, `Memory` names the line after the last. `Memory` with line 0 means that nothing was read.
+///
+/// # Complexity
+/// Each line is searched for its end once, and copied.
+///
+/// # Memory
+/// Linear in the longest line and the longest answer.
 pub fn answer_all_lines<A: Responder, R: GuardedSource<W>, W: Sink>(
     alloc: Global,
     responder: &mut A,
@@ -238,12 +244,12 @@ pub fn answer_all_lines<A: Responder, R: GuardedSource<W>, W: Sink>(
     ensures answers { OnOk result (AnswersAll (script_text A.rules line_limit responder.old)
         (R.reading reader.old) (R.reading reader.new) (W.writing writer.old) (W.writing writer.new)) }
 
-    // Only the reader's end ends it without a fault, and then all is flushed, at once.
+    // The call succeeds only at the end of the input, and then flushes once after all output.
     ensures end { EndsFlushed result (R.reading reader.new) (W.flushed writer.old) (W.flushed writer.new) }
     ensures flushes { Flushes result (W.flushes writer.old) (W.flushes writer.new) }
 
-    // The devices' faults are theirs, and a device that failed is told.
-    ensures devices { TellsFailed result (R.mark reader.new) (W.mark writer.new) }
+    // An error names a device only if it has failed. If a device has failed, the call fails with `Read` or `Write`.
+    ensures devices { ReportsFailure result (R.mark reader.new) (W.mark writer.new) }
 {
     let Ok(mut runner) = Runner::new(alloc) else {
         return Err(RunError::Memory { line: 0 });
@@ -251,14 +257,14 @@ pub fn answer_all_lines<A: Responder, R: GuardedSource<W>, W: Sink>(
     runner.run(responder, reader, writer)
 }
 
-/// Whether the writer failed.
+/// Returns whether the writer failed.
 fn is_write(outcome: &Result<(), RunError>) -> bool
     ensures { IsTrue result ↔ (outcome.now ≡ Err RunError.Write) }
 {
     matches!(outcome, Err(RunError::Write))
 }
 
-/// Flushes the writer, if that is due.
+/// Flushes the writer if `is_due`.
 fn flush_if<W: Sink>(is_due: bool, writer: &mut W) -> Result<(), DeviceFault>
     requires writer { W.mark writer.old ≡ false }
     ensures bytes { AcceptsNone (W.writing writer.old) (W.writing writer.new) }

@@ -2,7 +2,7 @@
 ghost use Rattle.std.specs.Prelude.{◌≡◌, false, OnOk};
 ghost use Rattle.std.specs.FinSet as set;
 ghost use Rattle.moc_lines.specs.Runs.{answers_of, line_limit, script_rules, AreLinesAnswered, HasNotEnded};
-ghost use Rattle.moc_lines.specs.Runs.{AnswersAll, EndsFlushed, Flushes, Runs, TellsFailed};
+ghost use Rattle.moc_lines.specs.Runs.{AnswersAll, EndsFlushed, Flushes, Runs, ReportsFailure};
 
 use crate::run_error::RunError;
 use crate::runner::answer_all_lines;
@@ -11,36 +11,38 @@ use moc_parts::Map;
 use moc_ranges::Coverage;
 use std::alloc::Global;
 
-/// Answers a script: one client asks and changes one set of pixels of order 29, which starts empty.
+/// Runs a script: one client queries and changes one set of pixels of order 29, which is empty at first.
 ///
-/// A line ends at a line feed, and bytes behind the last one are a last line. A line of blanks (space, tab, CR) alone
-/// has no answer; every other line has one, in order, ended by a line feed. A line is 1 to 16 commands parted by `;`,
-/// done in order, and its answer is theirs, parted by ` ; `. A command is a word and its fields, or a word and an
-/// operand S: a coverage in the ASCII form of MOC 2.0 (the empty text is the empty set), behind `@` and an order where
-/// it is to be degraded first.
+/// A line ends at a line feed; bytes after the last line feed are a last line. A line of blanks only (space, tab, CR)
+/// has no answer. Every other line has an answer, in order, ended by a line feed. A line is 1 to 16 commands separated
+/// by `;`, applied in order. Its answer is the replies to the commands, separated by ` ; `. A command is a word and its
+/// fields, or a word and an operand S: a coverage in the ASCII format of MOC 2.0 (the empty text is the empty set),
+/// after `@` and an order if it is to be degraded first.
 ///
 /// | Command | Answer |
 /// |---|---|
 /// | `add S` | `changed N`: S is added, N of its pixels are new |
 /// | `remove S` | `changed N`: S is removed, N of its pixels were in the set |
-/// | `keep S` | `changed N`: what S and the set share is kept, N pixels are removed |
+/// | `keep S` | `changed N`: the intersection with S is kept, N pixels are removed |
 /// | `claim S` | `claimed`: S is added, no pixel of it was in the set; or `taken N`: N were, and nothing changes |
 /// | `invert` | `changed N`: the set is complemented, N is the number of all pixels |
 /// | `degrade K` | `changed N`: the set is degraded to order K, N pixels are new |
 /// | `count S` | `total N`: the set has N of the pixels of S |
-/// | `read S` | `cover T`: T is the ASCII form of what S and the set share; `cover` alone for nothing |
+/// | `read S` | `cover T`: T is the ASCII format of the intersection with S; `cover` alone if it is empty |
 /// | `near K I` | `near yes`: the set has a pixel of the cell I of order K or of a cell that touches it; or `near no` |
 ///
-/// A bad line changes nothing, and is answered `fault NAME`, by the first bad command from the left. Answers are
-/// written before each read that may wait.
+/// An invalid line changes nothing. Its answer is `fault NAME`, for the first invalid command from the left. Answers
+/// are written before each read that may wait.
 ///
-/// Where the call ends with a fault, what is written is exactly the answers to the lines before the one that
-/// `LineTooLong` or `Memory` names, or to the whole lines that were read before `Read`; on `Write` it is as much of
-/// the answers as the writer took. After the whole text the writer is flushed, once.
+/// # Errors
+/// If the call fails with `LineTooLong` or `Memory`, the output is exactly the answers to the lines before the line
+/// that the error names. If it fails with `Read`, the output is the answers to the whole lines that were read; with
+/// `Write`, as much of the answers as the writer accepted. After the whole text the writer is flushed, once.
 ///
-/// A line's end is looked for, then the line is copied, looked through for `;` and parsed, by a fixed number of passes
-/// over its bytes. A command takes O(n log n) time for the n cells of its operand, O(n) where they rise, and besides
-/// time and memory at most linear in the ranges of both sets.
+/// # Complexity
+/// Each line is searched for its end, copied, searched for `;` and parsed, by a fixed number of passes over its bytes.
+/// A command takes O(n log n) time for the n cells of its operand, O(n) if they are sorted, and in addition time and
+/// memory at most linear in the ranges of both sets.
 pub fn run<R: GuardedSource<W>, W: Sink>(
     alloc: Global,
     reader: &mut R,
@@ -67,12 +69,12 @@ pub fn run<R: GuardedSource<W>, W: Sink>(
     ensures answers { OnOk result (AnswersAll answers_of
         (R.reading reader.old) (R.reading reader.new) (W.writing writer.old) (W.writing writer.new)) }
 
-    // Only the reader's end ends a run without a fault, and then all is flushed, at once.
+    // The call succeeds only at the end of the input, and then flushes once after all output.
     ensures end { EndsFlushed result (R.reading reader.new) (W.flushed writer.old) (W.flushed writer.new) }
     ensures flushes { Flushes result (W.flushes writer.old) (W.flushes writer.new) }
 
-    // The devices' faults are theirs, and a device that failed is told.
-    ensures devices { TellsFailed result (R.mark reader.new) (W.mark writer.new) }
+    // An error names a device only if it has failed. If a device has failed, the call fails with `Read` or `Write`.
+    ensures devices { ReportsFailure result (R.mark reader.new) (W.mark writer.new) }
 {
     let Ok(mut map) = Map::new(alloc, Coverage::empty(alloc)) else {
         return Err(RunError::Memory { line: 0 });

@@ -1,4 +1,4 @@
-//! What follows from the contract of a run.
+//! Consequences of the contract of a run.
 ghost use Rattle.moc_lines.specs.Runs.{AnswersReportedInput, line_limit};
 
 use crate::responder::Responder;

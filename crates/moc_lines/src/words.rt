@@ -3,24 +3,24 @@ ghost use Rattle.std.specs.Prelude.{◌≡◌, ◌-◌, ◌^◌, ◌<◌, ◌≤
 ghost use Rattle.std.specs.List.{prefix_len, position_or_len};
 ghost use Rattle.std.specs.Option.{option_map};
 ghost use Rattle.std.specs.Str.{bytes_eq};
-ghost use Rattle.moc_lines.specs.Language.{is_line_blank, is_blank_text, word_of, behind_word, number_spelled};
+ghost use Rattle.moc_lines.specs.Language.{is_line_blank, is_blank_text, word_of, after_word, decimal_value};
 
-/// Whether a byte is a blank: a space, a tab or a CR.
+/// Returns whether a byte is a blank: a space, a tab or a CR.
 fn is_line_blank(byte: u8) -> bool
     ensures { result ≡ is_line_blank byte }
 {
     matches!(byte, b' ' | b'\t' | b'\r')
 }
 
-/// Whether a text is nothing, or blanks alone: spaces, tabs and CRs. Takes no memory. Linear in the blanks at its
-/// front.
+/// Returns whether a text is empty or consists of blanks: spaces, tabs and CRs. Linear in the number of leading blanks;
+/// allocates nothing.
 pub fn is_blank_text(text: &[u8]) -> bool
     ensures { result ≡ is_blank_text text.now }
 {
     text.iter().all(|byte| is_line_blank(*byte))
 }
 
-/// How many blanks stand at the front of a text.
+/// Returns the number of leading blanks of a text.
 fn blanks_in_front(text: &[u8]) -> usize
     ensures count { result ≡ prefix_len is_line_blank text.now }
     ensures within { result ≤ length text.now }
@@ -35,7 +35,7 @@ fn blanks_in_front(text: &[u8]) -> usize
     count
 }
 
-/// How many bytes stand before the first blank of a text.
+/// Returns the number of bytes before the first blank of a text.
 fn bytes_before_blank(text: &[u8]) -> usize
     ensures count { result ≡ position_or_len is_line_blank text.now }
     ensures within { result ≤ length text.now }
@@ -50,43 +50,44 @@ fn bytes_before_blank(text: &[u8]) -> usize
     count
 }
 
-/// The first word of a text, blanks before it skipped, and what stands behind that word. Linear in both; takes no
-/// memory.
+/// Skips leading blanks and splits a text after its first word: returns the word and the rest. Linear in the length of
+/// both; allocates nothing.
 pub fn split_word(text: &[u8]) -> (&[u8], &[u8])
     ensures word { result.0.now ≡ word_of text.now }
-    ensures behind { result.1.now ≡ behind_word text.now }
+    ensures following { result.1.now ≡ after_word text.now }
 {
     let front = text.split_at(blanks_in_front(text)).1;
     front.split_at(bytes_before_blank(front))
 }
 
-/// Whether a word is this one, by which the commands and the steps are told apart. Takes no memory. Linear in the word.
+/// Returns whether a word is the given one, such as the name of a command or a step. Linear in the length of the word;
+/// allocates nothing.
 pub fn is_word(word: &[u8], this: &str) -> bool
     ensures { result ≡ bytes_eq word.now this.now }
 {
     word == this.as_bytes()
 }
 
-/// How many digits a number may have that surely fits into 64 bits.
+/// The maximal number of digits with which every number fits into 64 bits.
 pub(crate) const SAFE_DIGITS: usize = 19;
 
-/// The number that a field spells in base ten, or `u64::MAX` where it is larger; `None` where it spells none. Takes no
-/// memory. Linear in the field.
-pub fn number_in(field: &[u8]) -> Option<u64>
-    ensures { result ≡ option_map (λ n. min n (2 ^ 64 - 1)) (number_spelled field.now) }
+/// Parses a decimal number; returns `u64::MAX` for larger numbers, and `None` if the field is not a number. Linear in
+/// the length of the field; allocates nothing.
+pub fn parse_decimal(field: &[u8]) -> Option<u64>
+    ensures { result ≡ option_map (λ n. min n (2 ^ 64 - 1)) (decimal_value field.now) }
 {
     if field.len() <= SAFE_DIGITS {
-        short_number_in(field)
+        parse_short_decimal(field)
     } else {
-        long_number_in(field)
+        parse_long_decimal(field)
     }
 }
 
-/// The number that a short field spells; it fits into 64 bits.
-pub(crate) fn short_number_in(field: &[u8]) -> Option<u64>
+/// Parses a number of at most `SAFE_DIGITS` digits, which fits into 64 bits.
+pub(crate) fn parse_short_decimal(field: &[u8]) -> Option<u64>
     requires short { length field.now ≤ SAFE_DIGITS }
-    ensures number { result ≡ number_spelled field.now }
-    ensures held { result ≡ option_map (λ n. min n (2 ^ 64 - 1)) (number_spelled field.now) }
+    ensures number { result ≡ decimal_value field.now }
+    ensures held { result ≡ option_map (λ n. min n (2 ^ 64 - 1)) (decimal_value field.now) }
 {
     if field.is_empty() {
         return None;
@@ -101,10 +102,10 @@ pub(crate) fn short_number_in(field: &[u8]) -> Option<u64>
     Some(value)
 }
 
-/// The number that a long field spells, or `u64::MAX` where it is larger.
-fn long_number_in(field: &[u8]) -> Option<u64>
+/// Parses a longer number; returns `u64::MAX` if it does not fit into 64 bits.
+fn parse_long_decimal(field: &[u8]) -> Option<u64>
     requires long { SAFE_DIGITS < length field.now }
-    ensures { result ≡ option_map (λ n. min n (2 ^ 64 - 1)) (number_spelled field.now) }
+    ensures { result ≡ option_map (λ n. min n (2 ^ 64 - 1)) (decimal_value field.now) }
 {
     let mut value: u64 = 0;
     for byte in field {

@@ -1,2 +1,2 @@
--- What serves this crate and `moc_ranges` alone, which was one with it.
-pub mod Kept
+-- Definitions that only this crate uses.
+pub mod BuilderState

@@ -1,15 +1,15 @@
 //! The blocks of a list, as slices of ranges.
-use moc_blocks::{Ahead, Node, blocks_in_nodes, next_block};
+use moc_blocks::{Cursor, Node, blocks_in_nodes, next_block};
 use std::fmt;
 use std::marker::Model;
 
-/// The chunks of a set that are still to come, in rising order: slices of its ranges (from, to),
-/// each of 1 to 128, two side by side of more than 128 together.
+/// An iterator over the chunks of a set, in ascending order: slices of its ranges (from, to). Each has 1 to 128 ranges,
+/// and two adjacent chunks together have more than 128.
 #[derive(Drop)]
 pub struct Chunks<'a> {
     /// The ranges of a set that has no nodes.
-    few: &'a [(u64, u64)],
-    ahead: Ahead<'a>,
+    small: &'a [(u64, u64)],
+    cursor: Cursor<'a>,
 }
 
 impl<'a> Model for Chunks<'a> {
@@ -18,7 +18,7 @@ impl<'a> Model for Chunks<'a> {
 
     ghost Value = { List (List (ℕ × ℕ)) };
 
-    ghost view = { λ c. chunks_of c.few.now c.ahead.blocks.now c.ahead.nodes.now };
+    ghost view = { λ c. chunks_of c.small.now c.cursor.blocks.now c.cursor.nodes.now };
 }
 
 ghost use Rattle.std.specs.Prelude.{◌≡◌, [], ◌∷◌, length, MatchOption, IfSome, Some};
@@ -27,21 +27,21 @@ ghost use Rattle.std.specs.Iterator.SizeHint.{IsWithinCount};
 ghost use Rattle.moc_blocks.specs.Private.Blocks.{chunks_of};
 
 impl<'a> Chunks<'a> {
-    /// These ranges as a chunk, if there are any, and the blocks of the nodes.
-    pub(crate) fn new(few: &'a [(u64, u64)], nodes: &'a [Node]) -> Self
-        ensures { result ≡ chunks_of few.now [] nodes.now }
+    /// Returns an iterator over the given ranges as one chunk, if there are any, and over the blocks of the nodes.
+    pub(crate) fn new(small: &'a [(u64, u64)], nodes: &'a [Node]) -> Self
+        ensures { result ≡ chunks_of small.now [] nodes.now }
     {
-        let ahead = Ahead { blocks: &[], nodes };
-        Self { few, ahead }
+        let cursor = Cursor { blocks: &[], nodes };
+        Self { small, cursor }
     }
 }
 
-/// How many ranges each has that is still to come, as `[128, 97]`.
+/// Writes the number of ranges of each remaining chunk, such as `[128, 97]`.
 impl fmt::Debug for Chunks<'_> {
     fn fmt<W: fmt::Write>(&self, f: &mut fmt::Formatter<W>) -> fmt::Result {
         let chunks = Chunks {
-            few: self.few,
-            ahead: self.ahead,
+            small: self.small,
+            cursor: self.cursor,
         };
         let mut first = true;
         write!(f, "[")?;
@@ -64,24 +64,24 @@ impl<'a> Iterator for Chunks<'a> {
     ghost remaining = { item_count (λ s. s) };
 
     fn next(&mut self) -> Option<&'a [(u64, u64)]> {
-        let few = self.few;
-        if !few.is_empty() {
-            self.few = &[];
-            return Some(few);
+        let small = self.small;
+        if !small.is_empty() {
+            self.small = &[];
+            return Some(small);
         }
-        let next = next_block(self.ahead)?;
-        self.ahead = next.ahead;
+        let next = next_block(self.cursor)?;
+        self.cursor = next.cursor;
         Some(next.block.ranges())
     }
 
-    /// Just how many they are: O(n/16) in those that are in nodes.
+    /// Returns the exact number of remaining chunks. Linear in the number of remaining nodes.
     fn size_hint(&self) -> (usize, Option<usize>)
         ensures lower { IsWithinCount result.0 (at_most (length self.now)) }
         ensures upper { IfSome result.1 (UpTo (at_most (length self.now))) }
         ensures exact { result ≡ (length self.now, Some (length self.now)) }
     {
-        let alone = if self.few.is_empty() { 0 } else { 1 };
-        let count = alone + self.ahead.blocks.len() + blocks_in_nodes(self.ahead.nodes);
+        let alone = if self.small.is_empty() { 0 } else { 1 };
+        let count = alone + self.cursor.blocks.len() + blocks_in_nodes(self.cursor.nodes);
         (count, Some(count))
     }
 }

@@ -1,18 +1,18 @@
-//! Normal lists of ranges in blocks: what a coverage stores, how it is read, searched and built.
+//! Normal lists of ranges in blocks: the storage of a coverage, and how it is read, searched and built.
 #![tactic(auto)]
 
 mod builder;
+mod builder_state;
 mod chunks;
-mod kept;
 mod list;
 mod nodes;
 mod ranges;
 mod steps;
 
-pub use builder::{ListBuilder, lengthen, list_of};
+pub use builder::{ListBuilder, extend_or_push, list_from_ranges};
+pub use builder_state::end_below;
 pub use chunks::Chunks;
-pub use kept::end_below;
 pub use list::RangeList;
-pub use moc_blocks::LONGEST;
-pub use ranges::{Advance, Behind, Ranges, Started};
+pub use moc_blocks::MAX_BLOCK_RANGES;
+pub use ranges::{Advance, BlockAndTail, Ranges, Tail};
 pub use steps::Steps;

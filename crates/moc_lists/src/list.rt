@@ -1,29 +1,32 @@
-//! The one normal list of ranges of a set, kept in blocks.
+//! The normal list of ranges of a set, stored in blocks.
 ghost use Rattle.std.specs.Prelude.{◌≡◌, ◌<◌, ◌≤◌, [], ◌∷◌, length, IfOk, MatchOption};
 ghost use Rattle.moc_blocks.specs.RangeList.{pixel_count, IsNormal, set_of};
 ghost use Rattle.moc_blocks.specs.Lemmas.Members.{in_ranges};
-ghost use Rattle.moc_blocks.specs.Blocks.{joining, AreBlocks, IsSearchOf};
+ghost use Rattle.moc_blocks.specs.Blocks.{concat, AreBlocks, IsSearchOf};
 ghost use Rattle.moc_blocks.specs.Private.Blocks.{IsStored, rest_of, width_of};
-ghost use Rattle.moc_blocks.specs.Private.Walks.{EndsBy, IsFirstPast};
+ghost use Rattle.moc_blocks.specs.Private.Walks.{EndsBy, IsFirstAfter};
 ghost use Rattle.moc_blocks.specs.Private.Added.{Inserts};
 
 use crate::chunks::Chunks;
 use crate::nodes::Nodes;
 use crate::ranges::Ranges;
 use crate::steps::{Steps, find_block, find_range};
-use moc_blocks::{Node, insert_few, measure_ranges, range_of_nodes_past, range_past};
+use moc_blocks::{
+    Node, insert_small, node_range_ending_after, range_ending_after, width_of_ranges,
+};
 use std::alloc::{AllocError, Global};
 use std::marker::Model;
 
-/// Ranges (from, to) in rising order, none empty and none touching the next: the one normal list of a set.
+/// The normal list of a set: ranges (from, to) in ascending order, none empty and none touching the next.
 ///
-/// Up to 128 are kept in one list, and more in blocks of 1 to 128, of which two side by side have together more than
-/// 128. Nodes have 1 to 16 blocks, and two side by side together more than 16. Copies share all blocks, results most of
-/// those that they have in common with what they are made of. Below, n is the number of ranges.
+/// Up to 128 ranges can be stored in one list. All others are stored in blocks of 1 to 128 ranges, where two adjacent
+/// blocks together have more than 128. Blocks are stored in nodes of 1 to 16 blocks, where two adjacent nodes together
+/// have more than 16. Copies share all blocks; a result shares most of the blocks that it has in common with its
+/// operands. Below, n is the number of ranges.
 #[derive(Drop)]
 pub struct RangeList {
     /// The ranges of a list that has no nodes.
-    few: Vec<(u64, u64)>,
+    small: Vec<(u64, u64)>,
     nodes: Nodes,
 }
 
@@ -33,139 +36,156 @@ impl Model for RangeList {
 
     ghost Value = { List (ℕ × ℕ) };
 
-    ghost view = { λ l. rest_of l.few.items [] l.nodes };
+    ghost view = { λ l. rest_of l.small.items [] l.nodes };
 
-    ghost invariant = { λ l. IsStored l.few.items l.nodes };
+    ghost invariant = { λ l. IsStored l.small.items l.nodes };
 }
 
 impl RangeList {
-    /// No ranges. Takes no memory.
+    /// Returns an empty list. Does not allocate.
     #[inline]
     pub fn empty(alloc: Global) -> Self
         ensures { result ≡ [] }
     {
         Self {
-            few: Vec::new(alloc),
+            small: Vec::new(alloc),
             nodes: Nodes::none(alloc),
         }
     }
 
-    /// One range.
-    pub fn of_range(alloc: Global, from: u64, to: u64) -> Result<Self, AllocError>
-        requires rising { from < to }
+    /// Returns the list of one range.
+    ///
+    /// # Errors
+    ///
+    /// Fails if an allocation fails.
+    pub fn from_range(alloc: Global, from: u64, to: u64) -> Result<Self, AllocError>
+        requires ascending { from < to }
         requires within { to ≤ pixel_count }
         ensures { IfOk result (λ l. l ≡ (from, to) ∷ []) }
     {
-        let few = [(from, to)].to_vec(alloc)?;
+        let small = [(from, to)].to_vec(alloc)?;
         Ok(Self {
-            few,
+            small,
             nodes: Nodes::none(alloc),
         })
     }
 
-    /// Few ranges. Takes no memory.
+    /// Returns the list of at most 128 ranges. Does not allocate.
     #[inline]
-    pub(crate) fn of_few(alloc: Global, few: Vec<(u64, u64)>) -> Self
-        requires { IsStored few.items [] }
-        ensures { result ≡ rest_of few.items [] [] }
+    pub(crate) fn from_small(alloc: Global, small: Vec<(u64, u64)>) -> Self
+        requires { IsStored small.items [] }
+        ensures { result ≡ rest_of small.items [] [] }
     {
         Self {
-            few,
+            small,
             nodes: Nodes::none(alloc),
         }
     }
 
-    /// The ranges of these nodes. Takes a number for each.
+    /// Returns the list of the given nodes. Allocates one number for each node.
     #[inline]
-    pub(crate) fn of_nodes(alloc: Global, nodes: Vec<Node>) -> Result<Self, AllocError>
+    pub(crate) fn from_nodes(alloc: Global, nodes: Vec<Node>) -> Result<Self, AllocError>
         requires { IsStored [] nodes.items }
         ensures { IfOk result (λ l. l ≡ rest_of [] [] nodes.items) }
     {
         let nodes = Nodes::new(alloc, nodes)?;
         Ok(Self {
-            few: Vec::new(alloc),
+            small: Vec::new(alloc),
             nodes,
         })
     }
 
-    /// The ranges, one after the other. Takes no memory.
+    /// Returns an iterator over the ranges. Does not allocate.
     #[inline]
     pub fn ranges(&self) -> Ranges<'_>
         ensures list { result ≡ self.now }
         ensures normal { IsNormal self.now }
     {
-        Ranges::new(&self.few, self.nodes.all())
+        Ranges::new(&self.small, self.nodes.all())
     }
 
-    /// The ranges as they are kept: in chunks of 1 to 128, of which two side by side have together more than 128.
+    /// Returns an iterator over the ranges in chunks of 1 to 128. Two adjacent chunks together have more than 128
+    /// ranges.
     #[inline]
     pub fn chunks(&self) -> Chunks<'_>
-        ensures list { joining result ≡ self.now }
+        ensures list { concat result ≡ self.now }
         ensures normal { IsNormal self.now }
         ensures sized { AreBlocks result }
     {
-        Chunks::new(&self.few, self.nodes.all())
+        Chunks::new(&self.small, self.nodes.all())
     }
 
-    /// How many numbers the ranges have. O(1), but O(n) for up to 128 ranges.
+    /// Returns the number of pixels in the ranges. O(1), but O(n) for up to 128 ranges.
     #[inline]
-    pub fn measure(&self) -> u64
+    pub fn total_width(&self) -> u64
         ensures value { result ≡ width_of self.now }
         ensures normal { IsNormal self.now }
     {
-        measure_ranges(&self.few) + self.nodes.size()
+        width_of_ranges(&self.small) + self.nodes.size()
     }
 
-    /// How many ranges there are. O(1).
+    /// Returns the number of ranges. O(1).
     #[inline]
     pub fn count(&self) -> usize
         ensures value { result ≡ length self.now }
         ensures normal { IsNormal self.now }
     {
-        self.few.len() + self.nodes.count()
+        self.small.len() + self.nodes.count()
     }
 
-    /// The first range that ends after the limit, if there is one. O(log n).
+    /// Returns the first range that ends after the limit, if any. O(log n).
     #[inline]
-    pub fn first_past(&self, limit: u64) -> Option<(u64, u64)>
-        ensures found { MatchOption result (EndsBy limit self.now) (λ range. IsFirstPast limit (range ∷ []) self.now) }
+    pub fn first_ending_after(&self, limit: u64) -> Option<(u64, u64)>
+        ensures found { MatchOption result (EndsBy limit self.now) (λ range. IsFirstAfter limit (range ∷ []) self.now) }
         ensures normal { IsNormal self.now }
     {
         match self.nodes.all() {
-            [] => range_past(&self.few, limit),
-            nodes => range_of_nodes_past(nodes, limit),
+            [] => range_ending_after(&self.small, limit),
+            nodes => node_range_ending_after(nodes, limit),
         }
     }
 
-    /// Whether a range has the number; counts each comparison with the bounds of a range or a chunk, and not those of
-    /// numbers of chunks by which a chunk is found. O((log n)²).
+    /// Returns whether a range contains the pixel, and adds the number of comparisons of the pixel with the bounds of a
+    /// range or a chunk to `steps`. Comparisons of positions, by which a chunk is found, are not counted. O((log n)²).
     #[inline]
     pub fn contains_counting(&self, pixel: u64, steps: &mut Steps) -> bool
         requires { steps.old < 9223372036854775808 }
         ensures found { result ≡ in_ranges self.now pixel }
         ensures cost { IsSearchOf (set_of self.now) steps.old steps.new }
     {
-        match &self.few[..] {
+        match &self.small[..] {
             [] => find_block(&self.nodes, pixel, steps),
-            few => find_range(few, pixel, steps),
+            small => find_range(small, pixel, steps),
         }
     }
 
-    /// The same ranges once more, in the same blocks: O(n) for up to 128 ranges, and else for the nodes alone.
+    /// Returns a list that shares all blocks with this list. Copies up to 128 ranges, or otherwise only the list of
+    /// nodes.
+    ///
+    /// # Errors
+    ///
+    /// Fails if an allocation fails.
     #[inline]
     pub fn share(&self, alloc: Global) -> Result<Self, AllocError>
         ensures same { IfOk result (λ l. l ≡ self.now) }
         ensures normal { IsNormal self.now }
     {
-        let few = self.few.to_vec(alloc)?;
+        let small = self.small.to_vec(alloc)?;
         let nodes = self.nodes.share(alloc)?;
-        Ok(Self { few, nodes })
+        Ok(Self { small, nodes })
     }
 
-    /// Adds a range that lies in a gap of a block to the list of that block, and tells how many numbers are new. None
-    /// where the list has no blocks, somebody else has that of the block, or of its node's blocks, too, the range
-    /// touches another, or the block is full; the list then is as it was. O(log n), and fewer ranges are looked at
-    /// where they lie evenly.
+    /// Inserts a range in place into a gap of a block, and returns the number of new pixels. Returns `None` if the list
+    /// has no blocks, if another list shares the block or the blocks of its node, if the range touches another range,
+    /// or if the block is full; the list is then unchanged.
+    ///
+    /// # Errors
+    ///
+    /// Fails if an allocation fails; the list is unchanged.
+    ///
+    /// # Complexity
+    ///
+    /// O(log n). Fewer ranges are examined if they are evenly spaced.
     #[inline]
     pub fn insert_in_gap(&mut self, from: u64, to: u64) -> Result<Option<u64>, AllocError>
         requires filled { from < to }
@@ -180,11 +200,19 @@ impl RangeList {
         self.nodes.insert_in_gap(from, to)
     }
 
-    /// Adds a range where that changes one block alone, and tells how many numbers are new: the block is made anew, in
-    /// its place where nobody else has the node's list of blocks and it stays one block, and else in a new node with
-    /// the pointers to the others. None where the range touches more than one block, or a rule of lengths would be
-    /// broken; the list then is as it was. O(log n), but where a block is cut a step for each node behind, which then
-    /// begins a block later.
+    /// Inserts a range if this changes only one block, and returns the number of new pixels. The block is rebuilt. It
+    /// is replaced in place if no other list shares the blocks of its node and it stays one block; otherwise it is put
+    /// into a new node that shares the other blocks. Returns `None` if the range touches more than one block, if the
+    /// fill rule would be broken, or if a list without blocks would have more than 128 ranges; the list is then
+    /// unchanged.
+    ///
+    /// # Errors
+    ///
+    /// Fails if an allocation fails; the list is unchanged.
+    ///
+    /// # Complexity
+    ///
+    /// O(log n), and one step for each later node if a block is split.
     pub fn insert(&mut self, alloc: Global, from: u64, to: u64) -> Result<Option<u64>, AllocError>
         requires filled { from < to }
         requires within { to ≤ pixel_count }
@@ -193,7 +221,7 @@ impl RangeList {
         ensures normal { IsNormal self.new }
     {
         if self.nodes.all().is_empty() {
-            return insert_few(alloc, &mut self.few, from, to);
+            return insert_small(alloc, &mut self.small, from, to);
         }
         self.nodes.insert(alloc, from, to)
     }

@@ -1,17 +1,18 @@
-//! The nodes of a list, whose blocks are found by their numbers.
+//! The nodes of a list, with an index that finds a block by its position.
 ghost use Rattle.std.specs.Prelude.{◌≡◌, ◌+◌, ◌<◌, ◌≤◌, ◌++◌, [], ◌∷◌, ℕ, length, get_or, take, drop};
 ghost use Rattle.std.specs.Prelude.{vec_len, vec_capacity, IfOk, MatchOption, OnErr, OnOk};
 ghost use Rattle.moc_blocks.specs.RangeList.{pixel_count};
-ghost use Rattle.moc_blocks.specs.Blocks.{joining};
-ghost use Rattle.moc_blocks.specs.Private.Blocks.{moved, width_of, AreStored, IsCountBegun, IsStored};
-ghost use Rattle.moc_blocks.specs.Private.Added.{replacing, with_second, GrowsBy, Inserts};
+ghost use Rattle.moc_blocks.specs.Blocks.{concat};
+ghost use Rattle.moc_blocks.specs.Private.Blocks.{shift_starts, width_of, AreStored, IsCountStarted, IsStored};
+ghost use Rattle.moc_blocks.specs.Private.Added.{replacing, one_or_two, GrowsBy, Inserts};
 
-use moc_blocks::{Block, Gap, Node, Renewed, Spot, gap_of, renew, share_nodes, spot_of};
+use moc_blocks::{
+    Block, BlockEdit, Gap, Node, NodeEdit, edit_block, edit_node, find_gap, share_nodes,
+};
 use std::alloc::{AllocError, Global};
 use std::marker::Model;
 
-/// Nodes in rising order, beside each how many blocks lie in those before it, and how many numbers and ranges they
-/// have.
+/// Nodes in ascending order, the number of blocks before each of them, and the number of pixels and of ranges of all.
 #[derive(Drop)]
 pub(crate) struct Nodes {
     nodes: Vec<Node>,
@@ -31,8 +32,13 @@ impl Model for Nodes {
     ghost invariant = { λ n. AreNodes n.starts.items n.size n.count n.nodes.items };
 }
 
-/// Puts two nodes in place of one.
-fn put_two(nodes: &mut Vec<Node>, place: usize, first: Node, second: Node) -> Result<(), AllocError>
+/// Replaces a node by two.
+fn replace_with_two(
+    nodes: &mut Vec<Node>,
+    place: usize,
+    first: Node,
+    second: Node,
+) -> Result<(), AllocError>
     requires { place < length nodes.old.items }
     ensures new { OnOk result (nodes.new.items
         ≡ replacing nodes.old.items place (first ∷ (second ∷ []))) }
@@ -43,19 +49,19 @@ fn put_two(nodes: &mut Vec<Node>, place: usize, first: Node, second: Node) -> Re
     Ok(())
 }
 
-/// Puts a node in place of one.
-fn put_one(nodes: &mut Vec<Node>, place: usize, first: Node)
+/// Replaces a node by one.
+fn replace_with_one(nodes: &mut Vec<Node>, place: usize, first: Node)
     requires { place < length nodes.old.items }
     ensures { nodes.new.items ≡ replacing nodes.old.items place (first ∷ []) }
 {
     nodes[place] = first;
 }
 
-/// Moves each start by what a node before it has more or fewer blocks than it had.
-fn move_each(starts: &mut [usize], less: usize, more: usize)
+/// Adjusts each start after a node before it was replaced: `less` blocks removed, and `more` added.
+fn shift_each(starts: &mut [usize], less: usize, more: usize)
     requires { (k : ℕ) → k < length starts.old
         → (less ≤ get_or starts.old k 0) × (get_or starts.old k 0 + more ≤ 18446744073709551615) }
-    ensures { starts.new ≡ moved less more starts.old }
+    ensures { starts.new ≡ shift_starts less more starts.old }
 {
     if less == more {
         return;
@@ -65,22 +71,22 @@ fn move_each(starts: &mut [usize], less: usize, more: usize)
     }
 }
 
-/// Moves the starts behind a place so.
-fn move_behind(starts: &mut Vec<usize>, place: usize, less: usize, more: usize)
+/// Adjusts the starts after a position.
+fn shift_after(starts: &mut Vec<usize>, place: usize, less: usize, more: usize)
     requires there { place < length starts.old.items }
     requires fits { (k : ℕ) → k < length (drop (place + 1) starts.old.items)
         → (less ≤ get_or (drop (place + 1) starts.old.items) k 0)
         × (get_or (drop (place + 1) starts.old.items) k 0 + more ≤ 18446744073709551615) }
-    ensures moved { starts.new.items
-        ≡ take (place + 1) starts.old.items ++ moved less more (drop (place + 1) starts.old.items) }
+    ensures shift_starts { starts.new.items
+        ≡ take (place + 1) starts.old.items ++ shift_starts less more (drop (place + 1) starts.old.items) }
     ensures len { vec_len starts.new ≡ vec_len starts.old }
     ensures capacity { vec_capacity starts.new ≡ vec_capacity starts.old }
 {
-    move_each(&mut starts[place + 1..], less, more);
+    shift_each(&mut starts[place + 1..], less, more);
 }
 
 impl Nodes {
-    /// No nodes. Takes no memory.
+    /// Returns an empty list of nodes. Does not allocate.
     #[inline]
     pub(crate) fn none(alloc: Global) -> Self
         ensures { result ≡ [] }
@@ -93,9 +99,9 @@ impl Nodes {
         }
     }
 
-    /// These nodes.
+    /// Returns the list of the given nodes.
     pub(crate) fn new(alloc: Global, nodes: Vec<Node>) -> Result<Self, AllocError>
-        requires { AreStored (joining nodes.items) }
+        requires { AreStored (concat nodes.items) }
         ensures { IfOk result (λ n. n ≡ nodes.items) }
     {
         let mut starts = Vec::with_capacity(alloc, nodes.len())?;
@@ -116,7 +122,7 @@ impl Nodes {
         })
     }
 
-    /// The nodes, one after the other.
+    /// Returns the nodes.
     #[inline]
     pub(crate) fn all(&self) -> &[Node]
         ensures { result.now ≡ self.now }
@@ -124,7 +130,7 @@ impl Nodes {
         &self.nodes
     }
 
-    /// The same nodes once more.
+    /// Returns a list that shares all nodes.
     #[inline]
     pub(crate) fn share(&self, alloc: Global) -> Result<Self, AllocError>
         ensures { IfOk result (λ n. n ≡ self.now) }
@@ -139,26 +145,26 @@ impl Nodes {
         })
     }
 
-    /// How many numbers lie in the nodes. O(1).
+    /// Returns the number of pixels in the nodes. O(1).
     #[inline]
     pub(crate) fn size(&self) -> u64
-        ensures { result ≡ width_of (joining (joining self.now)) }
+        ensures { result ≡ width_of (concat (concat self.now)) }
     {
         self.size
     }
 
-    /// How many ranges the nodes have. O(1).
+    /// Returns the number of ranges in the nodes. O(1).
     #[inline]
     pub(crate) fn count(&self) -> usize
-        ensures { result ≡ length (joining (joining self.now)) }
+        ensures { result ≡ length (concat (concat self.now)) }
     {
         self.count
     }
 
-    /// How many blocks the nodes have. O(1).
+    /// Returns the number of blocks in the nodes. O(1).
     pub(crate) fn count_blocks(&self) -> usize
-        requires { AreStored (joining self.now) }
-        ensures { result ≡ length (joining self.now) }
+        requires { AreStored (concat self.now) }
+        ensures { result ≡ length (concat self.now) }
     {
         let count = self.nodes.len();
         if count == 0 {
@@ -167,20 +173,20 @@ impl Nodes {
         self.starts[count - 1] + self.nodes[count - 1].blocks().len()
     }
 
-    /// How many nodes begin by this place of all blocks. O(log n).
-    fn count_begun(&self, place: usize) -> usize
-        ensures { IsCountBegun self.now place result }
+    /// Returns the number of nodes that begin at or before a position among all blocks. O(log n).
+    fn count_started(&self, place: usize) -> usize
+        ensures { IsCountStarted self.now place result }
     {
         self.starts.partition_point(|start| *start <= place)
     }
 
-    /// The block at this place of all blocks, if there is one: it lies in the last node that begins by the place.
-    /// O(log n).
+    /// Returns the block at a position among all blocks, if any. It is in the last node that begins at or before the
+    /// position. O(log n).
     pub(crate) fn block_at(&self, place: usize) -> Option<&Block>
-        ensures { MatchOption result (length (joining self.entry.now) ≤ place) (λ b.
-            (place < length (joining self.entry.now)) × (b.now ≡ get_or (joining self.entry.now) place b.now)) }
+        ensures { MatchOption result (length (concat self.entry.now) ≤ place) (λ b.
+            (place < length (concat self.entry.now)) × (b.now ≡ get_or (concat self.entry.now) place b.now)) }
     {
-        let begun = self.count_begun(place);
+        let begun = self.count_started(place);
         if begun == 0 {
             return None;
         }
@@ -192,16 +198,16 @@ impl Nodes {
         None
     }
 
-    /// Adds a range to the list of its block, in a gap of that, and tells how many numbers are new. None where somebody
-    /// else has that list, or that of the node's blocks, too, or there is no such gap; the nodes then are as they were.
+    /// Inserts a range in place into a gap of its block, and returns the number of new pixels. Returns `None` if the
+    /// block or the blocks of its node are shared, or if there is no such gap; the nodes are then unchanged.
     pub(crate) fn insert_in_gap(&mut self, from: u64, to: u64) -> Result<Option<u64>, AllocError>
         requires stored { IsStored [] self.old }
         requires filled { from < to }
         requires within { to ≤ pixel_count }
         ensures stored { IsStored [] self.new }
-        ensures inserted { Inserts from to (joining (joining self.old)) (joining (joining self.new)) result }
+        ensures inserted { Inserts from to (concat (concat self.old)) (concat (concat self.new)) result }
     {
-        let Some(Gap { node, block, place }) = gap_of(&self.nodes, from, to) else {
+        let Some(Gap { node, block, place }) = find_gap(&self.nodes, from, to) else {
             return Ok(None);
         };
         if !self.nodes[node].insert(block, place, (from, to))? {
@@ -212,9 +218,9 @@ impl Nodes {
         Ok(Some(to - from))
     }
 
-    /// Adds a range by one new block, in the list of blocks that its node has, and tells how many numbers are new. None
-    /// where somebody else has that list, too, or one block does not do; the nodes then are as they were.
-    fn insert_in_place(
+    /// Inserts a range by replacing one block in place, and returns the number of new pixels. Returns `None` if the
+    /// blocks of the node are shared, or if one block is not enough; the nodes are then unchanged.
+    fn insert_in_node(
         &mut self,
         alloc: Global,
         from: u64,
@@ -224,22 +230,22 @@ impl Nodes {
         requires filled { from < to }
         requires within { to ≤ pixel_count }
         ensures stored { IsStored [] self.new }
-        ensures inserted { Inserts from to (joining (joining self.old)) (joining (joining self.new)) result }
+        ensures inserted { Inserts from to (concat (concat self.old)) (concat (concat self.new)) result }
     {
         let Some(
-            Spot {
+            BlockEdit {
                 node,
                 block,
                 ranges,
                 added,
             },
-        ) = spot_of(alloc, &self.nodes, from, to)?
+        ) = edit_block(alloc, &self.nodes, from, to)?
         else {
             return Ok(None);
         };
         let new = Block::new(alloc, ranges)?;
         let others = self.count - self.nodes[node].count();
-        if !self.nodes[node].put_block(block, new) {
+        if !self.nodes[node].replace_block(block, new) {
             return Ok(None);
         }
         self.size += added;
@@ -247,24 +253,24 @@ impl Nodes {
         Ok(Some(added))
     }
 
-    /// Puts a node in place of one. Takes no memory.
-    fn put_node(&mut self, place: usize, node: Node, added: u64)
+    /// Replaces a node by one. Does not allocate.
+    fn replace_node(&mut self, place: usize, node: Node, added: u64)
         requires place { place < length self.old }
         requires before { IsStored [] self.old }
         requires stored { IsStored [] (replacing self.old place (node ∷ [])) }
-        requires grown { GrowsBy added self.old (replacing self.old place (node ∷ [])) }
+        requires grows { GrowsBy added self.old (replacing self.old place (node ∷ [])) }
         ensures { self.new ≡ replacing self.old place (node ∷ []) }
     {
         let others = self.count - self.nodes[place].count();
         let blocks = self.nodes[place].blocks().len();
-        move_behind(&mut self.starts, place, blocks, node.blocks().len());
+        shift_after(&mut self.starts, place, blocks, node.blocks().len());
         self.size += added;
         self.count = others + node.count();
-        put_one(&mut self.nodes, place, node);
+        replace_with_one(&mut self.nodes, place, node);
     }
 
-    /// Puts two nodes in place of one. Room for one node more and its number of blocks is had before anything changes.
-    fn put_two(
+    /// Replaces a node by two. Reserves the capacity for one more node and its start before anything changes.
+    fn replace_with_two(
         &mut self,
         place: usize,
         first: Node,
@@ -274,7 +280,7 @@ impl Nodes {
         requires place { place < length self.old }
         requires before { IsStored [] self.old }
         requires stored { IsStored [] (replacing self.old place (first ∷ (second ∷ []))) }
-        requires grown { GrowsBy added self.old (replacing self.old place (first ∷ (second ∷ []))) }
+        requires grows { GrowsBy added self.old (replacing self.old place (first ∷ (second ∷ []))) }
         ensures new { OnOk result (self.new ≡ replacing self.old place (first ∷ (second ∷ []))) }
         ensures unchanged { OnErr result (self.new ≡ self.old) }
     {
@@ -284,9 +290,9 @@ impl Nodes {
         let new_blocks = first.blocks().len() + second.blocks().len();
         let ranges = first.count() + second.count();
         self.starts.reserve(1)?;
-        put_two(&mut self.nodes, place, first, second)?;
-        move_behind(&mut self.starts, place, blocks, new_blocks);
-        // There is room.
+        replace_with_two(&mut self.nodes, place, first, second)?;
+        shift_after(&mut self.starts, place, blocks, new_blocks);
+        // The capacity is reserved.
         let Ok(()) = self.starts.insert(place + 1, start) else {
             unreachable!()
         };
@@ -295,32 +301,32 @@ impl Nodes {
         Ok(())
     }
 
-    /// Puts one node or two in place of one.
-    fn put(&mut self, renewed: Renewed) -> Result<(), AllocError>
-        requires place { renewed.place < length self.old }
+    /// Replaces a node by one or two.
+    fn put(&mut self, edit: NodeEdit) -> Result<(), AllocError>
+        requires place { edit.place < length self.old }
         requires before { IsStored [] self.old }
-        requires stored { IsStored [] (replacing self.old renewed.place (with_second renewed.first renewed.second)) }
-        requires grown { GrowsBy renewed.added self.old
-            (replacing self.old renewed.place (with_second renewed.first renewed.second)) }
+        requires stored { IsStored [] (replacing self.old edit.place (one_or_two edit.first edit.second)) }
+        requires grows { GrowsBy edit.added self.old
+            (replacing self.old edit.place (one_or_two edit.first edit.second)) }
         ensures new { OnOk result (self.new
-            ≡ replacing self.old renewed.place (with_second renewed.first renewed.second)) }
+            ≡ replacing self.old edit.place (one_or_two edit.first edit.second)) }
         ensures unchanged { OnErr result (self.new ≡ self.old) }
     {
-        let Renewed {
+        let NodeEdit {
             place,
             first,
             second,
             added,
-        } = renewed;
+        } = edit;
         if let Some(second) = second {
-            return self.put_two(place, first, second, added);
+            return self.replace_with_two(place, first, second, added);
         }
-        self.put_node(place, first, added);
+        self.replace_node(place, first, added);
         Ok(())
     }
 
-    /// Adds a range where that changes one block alone, which is made anew, and tells how many numbers are new. None
-    /// where it does not, or a rule of lengths would be broken; the nodes then are as they were.
+    /// Inserts a range if this changes only one block, which is rebuilt, and returns the number of new pixels. Returns
+    /// `None` if it changes more, or if the fill rule would be broken; the nodes are then unchanged.
     pub(crate) fn insert(
         &mut self,
         alloc: Global,
@@ -331,16 +337,16 @@ impl Nodes {
         requires filled { from < to }
         requires within { to ≤ pixel_count }
         ensures stored { IsStored [] self.new }
-        ensures inserted { Inserts from to (joining (joining self.old)) (joining (joining self.new)) result }
+        ensures inserted { Inserts from to (concat (concat self.old)) (concat (concat self.new)) result }
     {
-        if let Some(added) = self.insert_in_place(alloc, from, to)? {
+        if let Some(added) = self.insert_in_node(alloc, from, to)? {
             return Ok(Some(added));
         }
-        let Some(renewed) = renew(alloc, self.all(), from, to)? else {
+        let Some(edit) = edit_node(alloc, self.all(), from, to)? else {
             return Ok(None);
         };
-        let added = renewed.added;
-        self.put(renewed)?;
+        let added = edit.added;
+        self.put(edit)?;
         Ok(Some(added))
     }
 }

@@ -1,21 +1,22 @@
-//! What is still to come of a list.
+//! Iterators over the ranges of a list.
 ghost use Rattle.std.specs.Iterator.{YieldsFirst, UpTo, at_most, item_count};
 ghost use Rattle.std.specs.Iterator.SizeHint.{IsWithinCount};
 
 use moc_blocks::{
-    Ahead, Begun, Block, LONGEST, Node, block_ahead, block_below, count_in_blocks, count_in_nodes,
-    front_from, leading_below, next_ahead, node_below, pass_ranges,
+    Block, BlockCursor, Cursor, MAX_BLOCK_RANGES, Node, block_below, count_in_blocks,
+    count_in_nodes, enter_next_block, next_range, node_below, skip_ranges, split_below,
+    start_of_next,
 };
 use std::fmt;
 use std::marker::Model;
 
-/// The ranges (from, to) of a list that are still to come, in rising order, `to` not included. Those of a coverage are
-/// pixels of order 29 by their nested numbers.
+/// An iterator over the ranges (from, to) of a list in ascending order; `to` is not included. The ranges of a coverage
+/// are ranges of order-29 pixels in the nested numbering.
 #[derive(Drop)]
 pub struct Ranges<'a> {
-    /// The rest of a block that is begun.
+    /// The remaining ranges of the current block.
     ranges: &'a [(u64, u64)],
-    ahead: Ahead<'a>,
+    cursor: Cursor<'a>,
 }
 
 impl<'a> Model for Ranges<'a> {
@@ -25,40 +26,40 @@ impl<'a> Model for Ranges<'a> {
 
     ghost Value = { List (ℕ × ℕ) };
 
-    ghost view = { λ r. rest_of r.ranges.now r.ahead.blocks.now r.ahead.nodes.now };
+    ghost view = { λ r. rest_of r.ranges.now r.cursor.blocks.now r.cursor.nodes.now };
 
-    ghost invariant = { λ r. IsNormal (rest_of r.ranges.now r.ahead.blocks.now r.ahead.nodes.now) };
+    ghost invariant = { λ r. IsNormal (rest_of r.ranges.now r.cursor.blocks.now r.cursor.nodes.now) };
 }
 
 ghost use Rattle.std.specs.Prelude.{ℕ, ◌≡◌, ◌<◌, ◌≤◌, ◌++◌, ◌∷◌, [], List, length, MatchOption, IfSome, Some, min};
 ghost use Rattle.moc_blocks.specs.RangeList.{IsNormal};
-ghost use Rattle.moc_blocks.specs.Blocks.{joining};
+ghost use Rattle.moc_blocks.specs.Blocks.{concat};
 ghost use Rattle.moc_blocks.specs.Private.Blocks.{last_of, next_of, rest_of};
-ghost use Rattle.moc_blocks.specs.Private.Walks.{Advances, Passes};
+ghost use Rattle.moc_blocks.specs.Private.Walks.{Advances, Skips};
 
-/// What is behind a block that is begun.
+/// The rest of a list after the current block.
 #[derive(Drop)]
-pub struct Behind<'a> {
-    ahead: Ahead<'a>,
+pub struct Tail<'a> {
+    cursor: Cursor<'a>,
 }
 
-impl<'a> Model for Behind<'a> {
+impl<'a> Model for Tail<'a> {
     ghost use Rattle.std.specs.Prelude.{List, ℕ, []};
     ghost use Rattle.moc_blocks.specs.Private.Blocks.{rest_of};
 
     ghost Value = { List (ℕ × ℕ) };
 
-    ghost view = { λ b. rest_of [] b.ahead.blocks.now b.ahead.nodes.now };
+    ghost view = { λ b. rest_of [] b.cursor.blocks.now b.cursor.nodes.now };
 }
 
-/// The rest of a block that is begun, and what is behind it.
+/// The remaining ranges of the current block, and the rest of the list after it.
 #[derive(Drop)]
-pub struct Started<'a> {
+pub struct BlockAndTail<'a> {
     pub ranges: &'a [(u64, u64)],
-    pub behind: Behind<'a>,
+    pub tail: Tail<'a>,
 }
 
-/// How many numbers were passed, and the next range.
+/// The number of common pixels of the ranges that were skipped, and the next range.
 #[derive(Clone, Copy)]
 pub struct Advance {
     pub common: u64,
@@ -66,18 +67,18 @@ pub struct Advance {
 }
 
 impl<'a> Ranges<'a> {
-    /// These ranges, and those of all blocks of these nodes.
+    /// Returns an iterator over the given ranges and those of all blocks of the nodes.
     #[inline]
     pub(crate) fn new(ranges: &'a [(u64, u64)], nodes: &'a [Node]) -> Self
         requires { IsNormal (rest_of ranges.now [] nodes.now) }
         ensures list { result ≡ rest_of ranges.now [] nodes.now }
         ensures normal { IsNormal result }
     {
-        let ahead = Ahead { blocks: &[], nodes };
-        Self { ranges, ahead }
+        let cursor = Cursor { blocks: &[], nodes };
+        Self { ranges, cursor }
     }
 
-    /// These ranges alone.
+    /// Returns an iterator over the given ranges.
     #[inline]
     pub fn of(ranges: &'a [(u64, u64)]) -> Self
         requires { IsNormal ranges.now }
@@ -87,103 +88,111 @@ impl<'a> Ranges<'a> {
         Self::new(ranges, &[])
     }
 
-    /// How many ranges there are, or as many as fit into a block where some are in blocks.
+    /// Returns a capacity for the remaining ranges: their number if all are in the current block, but at most the
+    /// number that fits into a block; otherwise that number.
     #[inline]
     pub fn room(&self) -> usize
-        ensures fits { result ≤ LONGEST }
-        ensures enough { min (length self.now) LONGEST ≤ result }
+        ensures fits { result ≤ MAX_BLOCK_RANGES }
+        ensures enough { min (length self.now) MAX_BLOCK_RANGES ≤ result }
     {
-        if self.ahead.blocks.is_empty() && self.ahead.nodes.is_empty() {
-            self.ranges.len().min(LONGEST)
+        if self.cursor.blocks.is_empty() && self.cursor.nodes.is_empty() {
+            self.ranges.len().min(MAX_BLOCK_RANGES)
         } else {
-            LONGEST
+            MAX_BLOCK_RANGES
         }
     }
 
-    /// The ranges as a slice, where none are in blocks that are not begun.
+    /// Returns the remaining ranges as a slice, or `None` if there are blocks after the current one.
     #[inline]
-    pub fn few(&self) -> Option<&'a [(u64, u64)]>
-        ensures { IfSome result (λ few. (few.now ≡ self.now) × IsNormal few.now) }
+    pub fn slice(&self) -> Option<&'a [(u64, u64)]>
+        ensures { IfSome result (λ slice. (slice.now ≡ self.now) × IsNormal slice.now) }
     {
-        if self.ahead.blocks.is_empty() && self.ahead.nodes.is_empty() {
+        if self.cursor.blocks.is_empty() && self.cursor.nodes.is_empty() {
             Some(self.ranges)
         } else {
             None
         }
     }
 
-    /// Where the next range begins; the largest number if there is none.
+    /// Returns the start of the next range, or the largest number at the end.
     #[inline]
     pub fn next_from(&self) -> u64
         ensures { result ≡ next_of self.now }
     {
         match self.ranges {
             [range, ..] => range.0,
-            [] => front_from(self.ahead),
+            [] => start_of_next(self.cursor),
         }
     }
 
-    /// Whether a block is begun.
+    /// Returns whether the iterator is inside a block.
     #[inline]
     pub fn is_in_block(&self) -> bool {
         !self.ranges.is_empty()
     }
 
-    /// The rest of the block that is begun, and what is behind it.
+    /// Returns the remaining ranges of the current block, and the cursor after it.
     #[inline]
-    fn begun(&self) -> Begun<'a>
-        ensures { rest_of result.ranges.now result.ahead.blocks.now result.ahead.nodes.now ≡ self.now }
+    fn current(&self) -> BlockCursor<'a>
+        ensures { rest_of result.ranges.now result.cursor.blocks.now result.cursor.nodes.now ≡ self.now }
     {
-        Begun {
+        BlockCursor {
             ranges: self.ranges,
-            ahead: self.ahead,
+            cursor: self.cursor,
         }
     }
 
-    /// The rest of the block that is begun as a slice, and what is behind it.
+    /// Returns the remaining ranges of the current block as a slice, and the rest of the list after it.
     #[inline]
-    pub fn started(&self) -> Started<'a>
-        ensures { result.ranges.now ++ result.behind ≡ self.now }
+    pub fn split_block(&self) -> BlockAndTail<'a>
+        ensures { result.ranges.now ++ result.tail ≡ self.now }
     {
-        Started {
+        BlockAndTail {
             ranges: self.ranges,
-            behind: Behind { ahead: self.ahead },
+            tail: Tail {
+                cursor: self.cursor,
+            },
         }
     }
 
-    /// The block that is begun, or else the next one, and what is behind it, if there is one.
+    /// Returns the remaining ranges of the current block, or else the next block, and the rest of the list after it.
+    /// Returns `None` at the end.
     #[inline]
-    pub fn next_block(&self) -> Option<Started<'a>>
+    pub fn next_block(&self) -> Option<BlockAndTail<'a>>
         ensures { MatchOption result (self.now ≡ []) (λ s.
-            (s.ranges.now ++ s.behind ≡ self.now) × (0 < length s.ranges.now)) }
+            (s.ranges.now ++ s.tail ≡ self.now) × (0 < length s.ranges.now)) }
     {
         let [] = self.ranges else {
-            return Some(Started {
+            return Some(BlockAndTail {
                 ranges: self.ranges,
-                behind: Behind { ahead: self.ahead },
+                tail: Tail {
+                    cursor: self.cursor,
+                },
             });
         };
-        let begun = block_ahead(self.ahead)?;
-        Some(Started {
-            ranges: begun.ranges,
-            behind: Behind { ahead: begun.ahead },
+        let current = enter_next_block(self.cursor)?;
+        Some(BlockAndTail {
+            ranges: current.ranges,
+            tail: Tail {
+                cursor: current.cursor,
+            },
         })
     }
 
-    /// Begins the next block, where none is begun.
+    /// Enters the next block if the iterator is between blocks.
     #[inline]
-    pub fn begin_block(&mut self)
+    pub fn enter_block(&mut self)
         requires { IsNormal self.old }
         ensures { self.new ≡ self.old }
     {
         if let Some(next) = self.next_block() {
-            self.resume(next.ranges, next.behind);
+            self.resume(next.ranges, next.tail);
         }
     }
 
-    /// The next range, where a block is begun.
+    /// Returns the next range if the iterator is inside a block.
     #[inline]
-    pub fn begun_range(&self) -> Option<(u64, u64)>
+    pub fn current_range(&self) -> Option<(u64, u64)>
         ensures { IfSome result (λ range. (rest : List (ℕ × ℕ)) × (self.now ≡ range ∷ rest)) }
     {
         match self.ranges {
@@ -192,24 +201,24 @@ impl<'a> Ranges<'a> {
         }
     }
 
-    /// Goes on with these ranges, and what is behind them.
+    /// Continues with the given ranges, and then with the given rest of a list.
     #[inline]
-    pub fn resume(&mut self, ranges: &'a [(u64, u64)], behind: Behind<'a>)
-        requires { IsNormal (ranges.now ++ behind) }
-        ensures { self.new ≡ ranges.entry.now ++ behind.entry }
+    pub fn resume(&mut self, ranges: &'a [(u64, u64)], tail: Tail<'a>)
+        requires { IsNormal (ranges.now ++ tail) }
+        ensures { self.new ≡ ranges.entry.now ++ tail.entry }
     {
         self.ranges = ranges;
-        self.ahead = behind.ahead;
+        self.cursor = tail.cursor;
     }
 
-    /// Takes off the next node whole, where none is begun and it ends below the limit.
+    /// Takes the next node whole if the iterator is between nodes and this node ends below the limit.
     pub(crate) fn take_node_below(&mut self, limit: u64) -> Option<&'a Node>
-        ensures parts { MatchOption result (self.new ≡ self.old) (λ n. self.old ≡ joining n.now ++ self.new) }
-        ensures below { IfSome result (λ n. last_of (joining n.now) < limit) }
-        ensures some { IfSome result (λ n. 0 < length (joining n.now)) }
+        ensures parts { MatchOption result (self.new ≡ self.old) (λ n. self.old ≡ concat n.now ++ self.new) }
+        ensures below { IfSome result (λ n. last_of (concat n.now) < limit) }
+        ensures some { IfSome result (λ n. 0 < length (concat n.now)) }
     {
-        let whole = node_below(self.ranges, self.ahead, limit)?;
-        self.ahead = Ahead {
+        let whole = node_below(self.ranges, self.cursor, limit)?;
+        self.cursor = Cursor {
             blocks: &[],
             nodes: whole.nodes,
         };
@@ -217,72 +226,77 @@ impl<'a> Ranges<'a> {
         Some(whole.node)
     }
 
-    /// Takes off the next block whole, where none is begun and it ends below the limit.
+    /// Takes the next block whole if the iterator is between blocks and this block ends below the limit.
     pub(crate) fn take_block_below(&mut self, limit: u64) -> Option<&'a Block>
         ensures parts { MatchOption result (self.new ≡ self.old) (λ b. self.old ≡ b.now ++ self.new) }
         ensures below { IfSome result (λ b. last_of b.now < limit) }
         ensures some { IfSome result (λ b. 0 < length b.now) }
-        ensures fits { IfSome result (λ b. length b.now ≤ LONGEST) }
+        ensures fits { IfSome result (λ b. length b.now ≤ MAX_BLOCK_RANGES) }
     {
-        let whole = block_below(self.ranges, self.ahead, limit)?;
-        self.ahead = whole.ahead;
+        let whole = block_below(self.ranges, self.cursor, limit)?;
+        self.cursor = whole.cursor;
         self.ranges = &[];
         Some(whole.block)
     }
 
-    /// Takes off those ranges of the block that is begun that end below the limit, where there are some.
+    /// Takes the ranges of the current block that end below the limit, or returns `None` if there are none.
     #[inline]
     pub fn take_ranges_below(&mut self, limit: u64) -> Option<&'a [(u64, u64)]>
         ensures parts { MatchOption result (self.new ≡ self.old) (λ r. self.old ≡ r.now ++ self.new) }
         ensures below { IfSome result (λ r. last_of r.now < limit) }
         ensures some { IfSome result (λ r. 0 < length r.now) }
     {
-        let leading = leading_below(self.ranges, limit)?;
+        let leading = split_below(self.ranges, limit)?;
         self.ranges = leading.rest;
         Some(leading.first)
     }
 
-    /// Leaves out the ranges that end where the range begins, and those after them that lie in it,
-    /// and answers how many numbers these have. O(log n), and the nodes, blocks and ranges in it.
+    /// Skips the ranges that end at or before the start of the range, and then those that are inside the range. Returns
+    /// the number of pixels that they have in common with the range.
+    ///
+    /// # Complexity
+    ///
+    /// O(log n), and linear in the number of nodes, blocks and ranges inside the range.
     #[inline(never)]
-    pub fn pass(&mut self, range: (u64, u64)) -> u64
+    pub fn skip_counting(&mut self, range: (u64, u64)) -> u64
         requires { range.0 ≤ range.1 }
-        ensures { Passes range self.old self.new result }
+        ensures { Skips range self.old self.new result }
     {
-        let passed = pass_ranges(self.begun(), range);
-        self.ranges = passed.begun.ranges;
-        self.ahead = passed.begun.ahead;
+        let passed = skip_ranges(self.current(), range);
+        self.ranges = passed.current.ranges;
+        self.cursor = passed.current.cursor;
         passed.common
     }
 
-    /// Leaves out the ranges that end by a number. O(log n).
+    /// Skips the ranges that end at or before the limit. O(log n).
     #[inline]
     pub fn skip_to(&mut self, limit: u64)
-        ensures { ((n : ℕ) × Passes (limit, limit) self.old self.new n) }
+        ensures { ((n : ℕ) × Skips (limit, limit) self.old self.new n) }
     {
-        self.pass((limit, limit));
+        self.skip_counting((limit, limit));
     }
 
-    /// Whether the range that stands `reach` ahead in the block that is begun ends after the limit: to go on one
-    /// by one then costs less than a search.
+    /// Returns whether the range `lookahead` positions ahead in the current block ends after the limit. Also returns
+    /// `true` if the current block has ranges, but none that far ahead. In both cases, advancing one by one costs less
+    /// than a search. Returns `false` between blocks.
     #[inline(always)]
-    pub fn is_near(&self, limit: u64, reach: usize) -> bool {
-        match self.ranges.get(reach) {
+    pub fn is_near(&self, limit: u64, lookahead: usize) -> bool {
+        match self.ranges.get(lookahead) {
             Some(range) => limit < range.1,
             None => self.is_in_block(),
         }
     }
 
-    /// The next range in the block that is begun, where the one `reach` ahead of it ends after the beginning of
-    /// the range given. Else it is the next one behind those that `pass` leaves out.
+    /// Advances to the next range. If `is_near` is false for the start of the given range, first skips the ranges that
+    /// `skip_counting` skips.
     #[inline(always)]
-    pub fn advance(&mut self, range: (u64, u64), reach: usize) -> Advance
+    pub fn advance(&mut self, range: (u64, u64), lookahead: usize) -> Advance
         requires { range.0 ≤ range.1 }
         ensures { Advances range self.old self.new result.next result.common }
     {
         let mut common = 0;
-        if !self.is_near(range.0, reach) {
-            common = self.pass(range);
+        if !self.is_near(range.0, lookahead) {
+            common = self.skip_counting(range);
         }
         Advance {
             common,
@@ -290,22 +304,22 @@ impl<'a> Ranges<'a> {
         }
     }
 
-    /// The same as `advance` to where a range without numbers begins: a range behind some that end by
-    /// the limit.
+    /// Does the same as `advance` for an empty range at the limit. The returned range can end at or before the limit,
+    /// because not always all ranges that end there are skipped.
     #[inline(always)]
-    pub fn next_past(&mut self, limit: u64, reach: usize) -> Option<(u64, u64)>
+    pub fn next_ending_after(&mut self, limit: u64, lookahead: usize) -> Option<(u64, u64)>
         ensures { ((n : ℕ) × Advances (limit, limit) self.old self.new result n) }
     {
-        self.advance((limit, limit), reach).next
+        self.advance((limit, limit), lookahead).next
     }
 }
 
-/// Those that are still to come, as `{0..4, 6..8}`.
+/// Writes the remaining ranges, such as `{0..4, 6..8}`.
 impl fmt::Debug for Ranges<'_> {
     fn fmt<W: fmt::Write>(&self, f: &mut fmt::Formatter<W>) -> fmt::Result {
         let ranges = Ranges {
             ranges: self.ranges,
-            ahead: self.ahead,
+            cursor: self.cursor,
         };
         let mut first = true;
         write!(f, "{{")?;
@@ -335,9 +349,9 @@ impl<'a> Iterator for Ranges<'a> {
                 Some(*range)
             }
             [] => {
-                let front = next_ahead(self.ahead)?;
+                let front = next_range(self.cursor)?;
                 self.ranges = front.ranges;
-                self.ahead = front.ahead;
+                self.cursor = front.cursor;
                 Some(front.range)
             }
         }
@@ -348,8 +362,8 @@ impl<'a> Iterator for Ranges<'a> {
         ensures upper { IfSome result.1 (UpTo (at_most (length self.now))) }
         ensures exact { result ≡ (length self.now, Some (length self.now)) }
     {
-        let ahead = count_in_blocks(self.ahead.blocks) + count_in_nodes(self.ahead.nodes);
-        let count = self.ranges.len() + ahead;
+        let cursor = count_in_blocks(self.cursor.blocks) + count_in_nodes(self.cursor.nodes);
+        let count = self.ranges.len() + cursor;
         (count, Some(count))
     }
 }

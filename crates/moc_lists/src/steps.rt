@@ -1,7 +1,7 @@
-//! Looking up a number, and counting what that takes.
+//! Searches for a pixel, with a count of the comparisons.
 use std::marker::Model;
 
-/// How many comparisons of a number with the bounds of a range or a block look-ups have made.
+/// A counter of the comparisons of a pixel with the bounds of a range or a block.
 #[derive(Debug, Drop)]
 pub struct Steps {
     count: u64,
@@ -18,27 +18,27 @@ impl Model for Steps {
 ghost use Rattle.std.specs.Prelude.{◌≡◌, ◌+◌, ◌<◌, ◌≤◌, ◌^◌, ℕ, length};
 ghost use Rattle.moc_blocks.specs.RangeList.{IsNormal};
 ghost use Rattle.moc_blocks.specs.Lemmas.Members.{in_ranges};
-ghost use Rattle.moc_blocks.specs.Blocks.{joining};
+ghost use Rattle.moc_blocks.specs.Blocks.{concat};
 ghost use Rattle.moc_blocks.specs.Private.Blocks.{AreStored};
 
 use crate::nodes::Nodes;
 
 impl Steps {
-    /// None so far.
+    /// Returns a counter at zero.
     pub fn new() -> Self
         ensures { result ≡ 0 }
     {
         Self { count: 0 }
     }
 
-    /// How many there were.
+    /// Returns the number of comparisons.
     pub fn get(&self) -> u64
         ensures { result ≡ self.now }
     {
         self.count
     }
 
-    /// Counts one more.
+    /// Counts one more comparison.
     #[inline]
     fn step(&mut self)
         requires { self.old < 9223372036854776000 }
@@ -48,13 +48,13 @@ impl Steps {
     }
 }
 
-/// Whether a range has the number.
+/// Returns whether a range contains the pixel.
 pub(crate) fn find_range(ranges: &[(u64, u64)], pixel: u64, steps: &mut Steps) -> bool
     requires normal { IsNormal ranges.now }
     requires fits { length ranges.now ≤ 128 }
-    requires room { steps.old < 9223372036854775900 }
+    requires capacity { steps.old < 9223372036854775900 }
     ensures found { result ≡ in_ranges ranges.now pixel }
-    ensures rises { steps.old ≤ steps.new }
+    ensures increases { steps.old ≤ steps.new }
     ensures cost { (d : ℕ) → length ranges.now < 2 ^ d → steps.new ≤ steps.old + d }
 {
     let mut low = 0;
@@ -74,14 +74,15 @@ pub(crate) fn find_range(ranges: &[(u64, u64)], pixel: u64, steps: &mut Steps) -
     false
 }
 
-/// Whether a block of the nodes has the number. It halves all their blocks by their numbers: to go from a node to its
-/// blocks would take a step too many where the nodes are not full. Finding a block by its place compares none.
+/// Returns whether a block of the nodes contains the pixel. A binary search over the positions of all blocks: searching
+/// the nodes first and then the blocks of a node would take one step too many if nodes are not full. Finding a block by
+/// its position compares no pixels.
 pub(crate) fn find_block(nodes: &Nodes, pixel: u64, steps: &mut Steps) -> bool
-    requires stored { AreStored (joining nodes.now) }
-    requires room { steps.old < 9223372036854775808 }
-    ensures found { result ≡ in_ranges (joining (joining nodes.now)) pixel }
-    ensures rises { steps.old ≤ steps.new }
-    ensures cost { (d : ℕ) → length (joining nodes.now) < 2 ^ d → steps.new ≤ steps.old + d + 8 }
+    requires stored { AreStored (concat nodes.now) }
+    requires capacity { steps.old < 9223372036854775808 }
+    ensures found { result ≡ in_ranges (concat (concat nodes.now)) pixel }
+    ensures increases { steps.old ≤ steps.new }
+    ensures cost { (d : ℕ) → length (concat nodes.now) < 2 ^ d → steps.new ≤ steps.old + d + 8 }
 {
     let mut low = 0;
     let mut high = nodes.count_blocks();

@@ -1,4 +1,4 @@
--- What just one of two lists of ranges has, range by range.
+-- The symmetric difference of two lists of ranges, range by range.
 use Rattle.std.proofs.Common.{◌≡◌, ℕ, ◌<◌, ◌≤◌, Bool, true, false, not, ◌||◌, ◌&&◌, List, [], ◌∷◌, ◌++◌, min, max}
 use Rattle.std.proofs.Common.{refl, sym, ap, subst, ◌∙◌, arith, append_assoc, inl, inr}
 use Rattle.std.specs.Prelude.{nat_le, nat_lt}
@@ -9,89 +9,89 @@ use Rattle.moc_blocks.specs.Lemmas.Members.{same_members, in_range, in_ranges, c
 use Rattle.moc_operations.specs.Lemmas.Members.{contains-symmetric}
 use Rattle.moc_operations.specs.Operations.{symmetric}
 use Rattle.moc_blocks.specs.Private.Blocks.{next_of}
-use Rattle.moc_blocks.specs.Private.Built.{CanCarry, Carries, EndsBelow}
+use Rattle.moc_blocks.specs.Private.Built.{CanAppend, MovesPrefix, EndsBelow}
 use Rattle.moc_blocks.specs.Lemmas.Ranges.{later_only}
-use Rattle.moc_operations.specs.Private.Differing.{differs, IsParted, IsDiffering}
+use Rattle.moc_operations.specs.Private.Differing.{exactly_one, IsRemovedFromBoth, IsSymmetricStep}
 use Rattle.moc_blocks.proofs.Merging.{normal_append, ends_next, EndsBelow-append, EndsBelow-more}
 use Rattle.moc_operations.proofs.Merging.{next_later}
 use Rattle.moc_blocks.proofs.Blocking.{IsNormal-prefix, IsNormal-suffix}
 use Rattle.moc_operations.proofs.Lacking.{none_before, range_from}
 use Rattle.moc_blocks.proofs.Building.{pushed_normal}
 
-pub differs_view : (xs ys zs : List (ℕ × ℕ)) → ((q : ℕ) → in_ranges zs q ≡ differs (in_ranges xs q) (in_ranges ys q)) → set_of zs ≡ symmetric (set_of xs) (set_of ys)
+pub differs_view : (xs ys zs : List (ℕ × ℕ)) → ((q : ℕ) → in_ranges zs q ≡ exactly_one (in_ranges xs q) (in_ranges ys q)) → set_of zs ≡ symmetric (set_of xs) (set_of ys)
 differs_view xs ys zs each = same_members _ _ (λ q.
-    contains-set_of zs q ∙ each q ∙ (λ i. differs (sym (contains-set_of xs q) i) (sym (contains-set_of ys q) i))
+    contains-set_of zs q ∙ each q ∙ (λ i. exactly_one (sym (contains-set_of xs q) i) (sym (contains-set_of ys q) i))
     ∙ sym (contains-symmetric (set_of xs) (set_of ys) q))
 
-pub differs_swap : (a b : Bool) → differs a b ≡ differs b a
+pub differs_swap : (a b : Bool) → exactly_one a b ≡ exactly_one b a
 differs_swap true true = refl
 differs_swap true false = refl
 differs_swap false true = refl
 differs_swap false false = refl
 
--- a range that ends before the other begins
-apart_early : (a b c d q : ℕ) (xs ys : Bool) → b < c → q < b → xs ≡ false → ys ≡ false → differs ((nat_le a q && nat_lt q b) || xs) ((nat_le c q && nat_lt q d) || ys) ≡ ((nat_le a q && nat_lt q b) || differs xs ((nat_le c q && nat_lt q d) || ys))
+-- a number before the end of a range that ends before the other begins
+apart_early : (a b c d q : ℕ) (xs ys : Bool) → b < c → q < b → xs ≡ false → ys ≡ false → exactly_one ((nat_le a q && nat_lt q b) || xs) ((nat_le c q && nat_lt q d) || ys) ≡ ((nat_le a q && nat_lt q b) || exactly_one xs ((nat_le c q && nat_lt q d) || ys))
 apart_early a b c d q xs ys bc lt no_xs no_ys = grind (arith, nat_tests)
 
-apart_late : (a b q : ℕ) (xs ys : Bool) → b ≤ q → differs ((nat_le a q && nat_lt q b) || xs) ys ≡ ((nat_le a q && nat_lt q b) || differs xs ys)
+apart_late : (a b q : ℕ) (xs ys : Bool) → b ≤ q → exactly_one ((nat_le a q && nat_lt q b) || xs) ys ≡ ((nat_le a q && nat_lt q b) || exactly_one xs ys)
 apart_late a b q xs ys ge = grind (arith, nat_tests)
 
--- a range that ends where the other begins
-touch_early : (a b c d q : ℕ) (xs ys : Bool) → b ≡ c → c < d → q < b → xs ≡ false → ys ≡ false → differs ((nat_le a q && nat_lt q b) || xs) ((nat_le c q && nat_lt q d) || ys) ≡ differs xs ((nat_le a q && nat_lt q d) || ys)
+-- a number before the end of a range that ends where the other begins
+touch_early : (a b c d q : ℕ) (xs ys : Bool) → b ≡ c → c < d → q < b → xs ≡ false → ys ≡ false → exactly_one ((nat_le a q && nat_lt q b) || xs) ((nat_le c q && nat_lt q d) || ys) ≡ exactly_one xs ((nat_le a q && nat_lt q d) || ys)
 touch_early a b c d q xs ys bc cd lt no_xs no_ys = grind (arith, nat_tests)
 
-touch_late : (a b c d q : ℕ) (xs ys : Bool) → a < b → b ≡ c → b ≤ q → differs ((nat_le a q && nat_lt q b) || xs) ((nat_le c q && nat_lt q d) || ys) ≡ differs xs ((nat_le a q && nat_lt q d) || ys)
+touch_late : (a b c d q : ℕ) (xs ys : Bool) → a < b → b ≡ c → b ≤ q → exactly_one ((nat_le a q && nat_lt q b) || xs) ((nat_le c q && nat_lt q d) || ys) ≡ exactly_one xs ((nat_le a q && nat_lt q d) || ys)
 touch_late a b c d q xs ys ab bc ge = grind (arith, nat_tests)
 
--- a range that ends within the other
-over_early : (a b c d from to q : ℕ) (xs ys : Bool) → a < b → c < b → b ≤ d → from ≡ min a c → to ≡ max a c → q < b → xs ≡ false → ys ≡ false → differs ((nat_le a q && nat_lt q b) || xs) ((nat_le c q && nat_lt q d) || ys) ≡ ((nat_le from q && nat_lt q to) || differs xs ((nat_le b q && nat_lt q d) || ys))
+-- a number before the end of a range that ends inside the other
+over_early : (a b c d from to q : ℕ) (xs ys : Bool) → a < b → c < b → b ≤ d → from ≡ min a c → to ≡ max a c → q < b → xs ≡ false → ys ≡ false → exactly_one ((nat_le a q && nat_lt q b) || xs) ((nat_le c q && nat_lt q d) || ys) ≡ ((nat_le from q && nat_lt q to) || exactly_one xs ((nat_le b q && nat_lt q d) || ys))
 over_early a b c d from to q xs ys ab cb bd f t lt no_xs no_ys = grind (arith, nat_tests)
 
-over_late : (a b c d from to q : ℕ) (xs ys : Bool) → a < b → c < b → from ≡ min a c → to ≡ max a c → b ≤ q → differs ((nat_le a q && nat_lt q b) || xs) ((nat_le c q && nat_lt q d) || ys) ≡ ((nat_le from q && nat_lt q to) || differs xs ((nat_le b q && nat_lt q d) || ys))
+over_late : (a b c d from to q : ℕ) (xs ys : Bool) → a < b → c < b → from ≡ min a c → to ≡ max a c → b ≤ q → exactly_one ((nat_le a q && nat_lt q b) || xs) ((nat_le c q && nat_lt q d) || ys) ≡ ((nat_le from q && nat_lt q to) || exactly_one xs ((nat_le b q && nat_lt q d) || ys))
 over_late a b c d from to q xs ys ab cb f t ge = grind (arith, nat_tests)
 
 none_in : (b q : ℕ) (k : Bool) → ((nat_le b q && nat_lt q b) || k) ≡ k
 none_in b q k = grind (arith, nat_tests)
 
--- what just one has, where the first range ends before the second's begins
-apart : (x y : ℕ × ℕ) (xs ys : List (ℕ × ℕ)) (q : ℕ) → IsNormal (x ∷ xs) → IsNormal (y ∷ ys) → x.1 < y.0 → differs (in_ranges (x ∷ xs) q) (in_ranges (y ∷ ys) q) ≡ (in_range x q || differs (in_ranges xs q) (in_ranges (y ∷ ys) q))
+-- the numbers in exactly one list, if the first range ends before the second's begins
+apart : (x y : ℕ × ℕ) (xs ys : List (ℕ × ℕ)) (q : ℕ) → IsNormal (x ∷ xs) → IsNormal (y ∷ ys) → x.1 < y.0 → exactly_one (in_ranges (x ∷ xs) q) (in_ranges (y ∷ ys) q) ≡ (in_range x q || exactly_one (in_ranges xs q) (in_ranges (y ∷ ys) q))
 apart x y xs ys q nx ny lt = elim (cases_lt q x.1) [
   | inl low ↦ apart_early x.0 x.1 y.0 y.1 q (in_ranges xs q) (in_ranges ys q) lt low (later_only x.1 q xs nx.3 nx.2 (omega arith)) (later_only y.1 q ys ny.3 ny.2 (omega (arith, ny.0)))
   | inr ge ↦ apart_late x.0 x.1 q (in_ranges xs q) (in_ranges (y ∷ ys) q) ge
 ]
 
-touch : (x y : ℕ × ℕ) (xs ys : List (ℕ × ℕ)) (q : ℕ) → IsNormal (x ∷ xs) → IsNormal (y ∷ ys) → x.1 ≡ y.0 → differs (in_ranges (x ∷ xs) q) (in_ranges (y ∷ ys) q) ≡ differs (in_ranges xs q) (in_ranges ((x.0, y.1) ∷ ys) q)
+touch : (x y : ℕ × ℕ) (xs ys : List (ℕ × ℕ)) (q : ℕ) → IsNormal (x ∷ xs) → IsNormal (y ∷ ys) → x.1 ≡ y.0 → exactly_one (in_ranges (x ∷ xs) q) (in_ranges (y ∷ ys) q) ≡ exactly_one (in_ranges xs q) (in_ranges ((x.0, y.1) ∷ ys) q)
 touch x y xs ys q nx ny at = elim (cases_lt q x.1) [
   | inl low ↦ touch_early x.0 x.1 y.0 y.1 q (in_ranges xs q) (in_ranges ys q) at ny.0 low (later_only x.1 q xs nx.3 nx.2 (omega arith)) (later_only y.1 q ys ny.3 ny.2 (omega (arith, ny.0)))
   | inr ge ↦ touch_late x.0 x.1 y.0 y.1 q (in_ranges xs q) (in_ranges ys q) nx.0 at ge
 ]
 
-over : (x y : ℕ × ℕ) (xs ys : List (ℕ × ℕ)) (from to q : ℕ) → IsNormal (x ∷ xs) → IsNormal (y ∷ ys) → y.0 < x.1 → x.1 ≤ y.1 → from ≡ min x.0 y.0 → to ≡ max x.0 y.0 → differs (in_ranges (x ∷ xs) q) (in_ranges (y ∷ ys) q) ≡ (in_range (from, to) q || differs (in_ranges xs q) (in_ranges ((x.1, y.1) ∷ ys) q))
-over x y xs ys from to q nx ny reach ends f t = elim (cases_lt q x.1) [
-  | inl low ↦ over_early x.0 x.1 y.0 y.1 from to q (in_ranges xs q) (in_ranges ys q) nx.0 reach ends f t low (later_only x.1 q xs nx.3 nx.2 (omega arith)) (later_only y.1 q ys ny.3 ny.2 (omega arith))
-  | inr ge ↦ over_late x.0 x.1 y.0 y.1 from to q (in_ranges xs q) (in_ranges ys q) nx.0 reach f t ge
+over : (x y : ℕ × ℕ) (xs ys : List (ℕ × ℕ)) (from to q : ℕ) → IsNormal (x ∷ xs) → IsNormal (y ∷ ys) → y.0 < x.1 → x.1 ≤ y.1 → from ≡ min x.0 y.0 → to ≡ max x.0 y.0 → exactly_one (in_ranges (x ∷ xs) q) (in_ranges (y ∷ ys) q) ≡ (in_range (from, to) q || exactly_one (in_ranges xs q) (in_ranges ((x.1, y.1) ∷ ys) q))
+over x y xs ys from to q nx ny lookahead ends f t = elim (cases_lt q x.1) [
+  | inl low ↦ over_early x.0 x.1 y.0 y.1 from to q (in_ranges xs q) (in_ranges ys q) nx.0 lookahead ends f t low (later_only x.1 q xs nx.3 nx.2 (omega arith)) (later_only y.1 q ys ny.3 ny.2 (omega arith))
+  | inr ge ↦ over_late x.0 x.1 y.0 y.1 from to q (in_ranges xs q) (in_ranges ys q) nx.0 lookahead f t ge
 ]
 
-over_both : (x y : ℕ × ℕ) (xs ys : List (ℕ × ℕ)) (from to q : ℕ) → IsNormal (x ∷ xs) → IsNormal (y ∷ ys) → x.1 ≡ y.1 → from ≡ min x.0 y.0 → to ≡ max x.0 y.0 → differs (in_ranges (x ∷ xs) q) (in_ranges (y ∷ ys) q) ≡ (in_range (from, to) q || differs (in_ranges xs q) (in_ranges ys q))
+over_both : (x y : ℕ × ℕ) (xs ys : List (ℕ × ℕ)) (from to q : ℕ) → IsNormal (x ∷ xs) → IsNormal (y ∷ ys) → x.1 ≡ y.1 → from ≡ min x.0 y.0 → to ≡ max x.0 y.0 → exactly_one (in_ranges (x ∷ xs) q) (in_ranges (y ∷ ys) q) ≡ (in_range (from, to) q || exactly_one (in_ranges xs q) (in_ranges ys q))
 over_both x y xs ys from to q nx ny at f t =
     over x y xs ys from to q nx ny (omega (arith, ny.0)) (omega arith) f t
-    ∙ ap (λ n. in_range (from, to) q || differs (in_ranges xs q) (in_ranges ((x.1, n) ∷ ys) q)) (sym at)
-    ∙ ap (λ b. in_range (from, to) q || differs (in_ranges xs q) b) (none_in x.1 q (in_ranges ys q))
+    ∙ ap (λ n. in_range (from, to) q || exactly_one (in_ranges xs q) (in_ranges ((x.1, n) ∷ ys) q)) (sym at)
+    ∙ ap (λ b. in_range (from, to) q || exactly_one (in_ranges xs q) b) (none_in x.1 q (in_ranges ys q))
 
-pub parted_apart : (x y : ℕ × ℕ) (kept kept' : List (ℕ × ℕ)) → IsNormal kept → x.0 < x.1 → y.0 < y.1 → x.1 ≤ pixel_count → EndsBelow (min x.0 y.0) kept → x.1 < y.0 → kept' ≡ kept ++ x ∷ [] → IsParted x y y kept kept'
+pub parted_apart : (x y : ℕ × ℕ) (kept kept' : List (ℕ × ℕ)) → IsNormal kept → x.0 < x.1 → y.0 < y.1 → x.1 ≤ pixel_count → EndsBelow (min x.0 y.0) kept → x.1 < y.0 → kept' ≡ kept ++ x ∷ [] → IsRemovedFromBoth x y y kept kept'
 parted_apart x y kept kept' normal filled other within after lt is =
     let first = EndsBelow-more (min x.0 y.0) x.0 kept after (omega arith) in
-    subst (λ (k : List (ℕ × ℕ)). IsParted x y y kept k) (sym is) (record {
+    subst (λ (k : List (ℕ × ℕ)). IsRemovedFromBoth x y y kept k) (sym is) (record {
       normal = pushed_normal kept x normal filled within first;
       end = refl;
       filled = other;
       below = λ f low. EndsBelow-append (min f y.0) kept (x ∷ []) (EndsBelow-more x.0 (min f y.0) kept first (omega arith)) (omega arith, tt);
-      same = λ xs ys q nx ny. ap (λ b. b || differs (in_ranges xs q) (in_ranges (y ∷ ys) q)) (in_ranges-append kept (x ∷ []) q ∙ ap (λ b. in_ranges kept q || b) (or_false (in_range x q)))
-          ∙ or_assoc (in_ranges kept q) (in_range x q) (differs (in_ranges xs q) (in_ranges (y ∷ ys) q))
+      same = λ xs ys q nx ny. ap (λ b. b || exactly_one (in_ranges xs q) (in_ranges (y ∷ ys) q)) (in_ranges-append kept (x ∷ []) q ∙ ap (λ b. in_ranges kept q || b) (or_false (in_range x q)))
+          ∙ or_assoc (in_ranges kept q) (in_range x q) (exactly_one (in_ranges xs q) (in_ranges (y ∷ ys) q))
           ∙ ap (λ b. in_ranges kept q || b) (sym (apart x y xs ys q nx ny lt));
     })
 
-pub parted_touch : (x y : ℕ × ℕ) (kept : List (ℕ × ℕ)) → IsNormal kept → x.0 < x.1 → x.1 < y.1 → EndsBelow (min x.0 y.0) kept → x.1 ≡ y.0 → IsParted x y (x.0, y.1) kept kept
+pub parted_touch : (x y : ℕ × ℕ) (kept : List (ℕ × ℕ)) → IsNormal kept → x.0 < x.1 → x.1 < y.1 → EndsBelow (min x.0 y.0) kept → x.1 ≡ y.0 → IsRemovedFromBoth x y (x.0, y.1) kept kept
 parted_touch x y kept normal filled ends after at = record {
   normal = normal;
   end = refl;
@@ -100,19 +100,19 @@ parted_touch x y kept normal filled ends after at = record {
   same = λ xs ys q nx ny. ap (λ b. in_ranges kept q || b) (sym (touch x y xs ys q nx ny at));
 }
 
-pub parted_over : (x y : ℕ × ℕ) (from to : ℕ) (kept kept' : List (ℕ × ℕ)) → x.0 < x.1 → x.1 < y.1 → y.0 < x.1 → from ≡ min x.0 y.0 → to ≡ max x.0 y.0 → IsNormal kept' → ((f : ℕ) → from ≤ f → to < f → EndsBelow f kept') → ((q : ℕ) → in_ranges kept' q ≡ (in_ranges kept q || in_range (from, to) q)) → IsParted x y (x.1, y.1) kept kept'
-parted_over x y from to kept kept' filled ends reach f t normal below same = record {
+pub parted_over : (x y : ℕ × ℕ) (from to : ℕ) (kept kept' : List (ℕ × ℕ)) → x.0 < x.1 → x.1 < y.1 → y.0 < x.1 → from ≡ min x.0 y.0 → to ≡ max x.0 y.0 → IsNormal kept' → ((f : ℕ) → from ≤ f → to < f → EndsBelow f kept') → ((q : ℕ) → in_ranges kept' q ≡ (in_ranges kept q || in_range (from, to) q)) → IsRemovedFromBoth x y (x.1, y.1) kept kept'
+parted_over x y from to kept kept' filled ends lookahead f t normal below same = record {
   normal = normal;
   end = refl;
   filled = ends;
   below = λ g low. below (min g x.1) (omega arith) (omega arith);
-  same = λ xs ys q nx ny. ap (λ b. b || differs (in_ranges xs q) (in_ranges ((x.1, y.1) ∷ ys) q)) (same q)
-      ∙ or_assoc (in_ranges kept q) (in_range (from, to) q) (differs (in_ranges xs q) (in_ranges ((x.1, y.1) ∷ ys) q))
-      ∙ ap (λ b. in_ranges kept q || b) (sym (over x y xs ys from to q nx ny reach (omega arith) f t));
+  same = λ xs ys q nx ny. ap (λ b. b || exactly_one (in_ranges xs q) (in_ranges ((x.1, y.1) ∷ ys) q)) (same q)
+      ∙ or_assoc (in_ranges kept q) (in_range (from, to) q) (exactly_one (in_ranges xs q) (in_ranges ((x.1, y.1) ∷ ys) q))
+      ∙ ap (λ b. in_ranges kept q || b) (sym (over x y xs ys from to q nx ny lookahead (omega arith) f t));
 }
 
-pub differing_start : (kept xs ys : List (ℕ × ℕ)) → kept ≡ [] → IsNormal xs → IsNormal ys → IsDiffering kept xs ys xs ys
-differing_start kept xs ys none nx ny = subst (λ (k : List (ℕ × ℕ)). IsDiffering k xs ys xs ys) (sym none) (record {
+pub differing_start : (kept xs ys : List (ℕ × ℕ)) → kept ≡ [] → IsNormal xs → IsNormal ys → IsSymmetricStep kept xs ys xs ys
+differing_start kept xs ys none nx ny = subst (λ (k : List (ℕ × ℕ)). IsSymmetricStep k xs ys xs ys) (sym none) (record {
   normal = tt;
   first_normal = nx;
   second_normal = ny;
@@ -120,7 +120,7 @@ differing_start kept xs ys none nx ny = subst (λ (k : List (ℕ × ℕ)). IsDif
   same = λ q. refl;
 })
 
-pub differing_swap : (kept xs ys whole_xs whole_ys : List (ℕ × ℕ)) → IsDiffering kept xs ys whole_xs whole_ys → IsDiffering kept ys xs whole_ys whole_xs
+pub differing_swap : (kept xs ys whole_xs whole_ys : List (ℕ × ℕ)) → IsSymmetricStep kept xs ys whole_xs whole_ys → IsSymmetricStep kept ys xs whole_ys whole_xs
 differing_swap kept xs ys whole_xs whole_ys s = record {
   normal = s.normal;
   first_normal = s.second_normal;
@@ -129,8 +129,8 @@ differing_swap kept xs ys whole_xs whole_ys s = record {
   same = λ q. ap (λ b. in_ranges kept q || b) (differs_swap (in_ranges ys q) (in_ranges xs q)) ∙ s.same q ∙ differs_swap (in_ranges whole_xs q) (in_ranges whole_ys q);
 }
 
--- the range that ends first was parted
-pub differing_parted : (kept kept' xs ys whole_xs whole_ys : List (ℕ × ℕ)) (x y z : ℕ × ℕ) → IsDiffering kept (x ∷ xs) (y ∷ ys) whole_xs whole_ys → IsParted x y z kept kept' → IsDiffering kept' xs (z ∷ ys) whole_xs whole_ys
+-- the range that ends first was removed
+pub differing_parted : (kept kept' xs ys whole_xs whole_ys : List (ℕ × ℕ)) (x y z : ℕ × ℕ) → IsSymmetricStep kept (x ∷ xs) (y ∷ ys) whole_xs whole_ys → IsRemovedFromBoth x y z kept kept' → IsSymmetricStep kept' xs (z ∷ ys) whole_xs whole_ys
 differing_parted kept kept' xs ys whole_xs whole_ys x y z s t =
     let next : x.1 < next_of xs = (ends_next (x ∷ []) xs s.first_normal).0 in
     record {
@@ -141,8 +141,8 @@ differing_parted kept kept' xs ys whole_xs whole_ys x y z s t =
       same = λ q. t.same xs ys q s.first_normal s.second_normal ∙ s.same q;
     }
 
--- both ranges end at one place
-pub differing_both : (kept kept' xs ys whole_xs whole_ys : List (ℕ × ℕ)) (x y : ℕ × ℕ) (from to : ℕ) → IsDiffering kept (x ∷ xs) (y ∷ ys) whole_xs whole_ys → x.1 ≡ y.1 → from ≡ min x.0 y.0 → to ≡ max x.0 y.0 → IsNormal kept' → ((f : ℕ) → from ≤ f → to < f → EndsBelow f kept') → ((q : ℕ) → in_ranges kept' q ≡ (in_ranges kept q || in_range (from, to) q)) → IsDiffering kept' xs ys whole_xs whole_ys
+-- both ranges end at the same number
+pub differing_both : (kept kept' xs ys whole_xs whole_ys : List (ℕ × ℕ)) (x y : ℕ × ℕ) (from to : ℕ) → IsSymmetricStep kept (x ∷ xs) (y ∷ ys) whole_xs whole_ys → x.1 ≡ y.1 → from ≡ min x.0 y.0 → to ≡ max x.0 y.0 → IsNormal kept' → ((f : ℕ) → from ≤ f → to < f → EndsBelow f kept') → ((q : ℕ) → in_ranges kept' q ≡ (in_ranges kept q || in_range (from, to) q)) → IsSymmetricStep kept' xs ys whole_xs whole_ys
 differing_both kept kept' xs ys whole_xs whole_ys x y from to s at f t normal below same =
     let next : x.1 < next_of xs = (ends_next (x ∷ []) xs s.first_normal).0 in
     let next_y : y.1 < next_of ys = (ends_next (y ∷ []) ys s.second_normal).0 in
@@ -153,67 +153,67 @@ differing_both kept kept' xs ys whole_xs whole_ys x y from to s at f t normal be
       first_normal = s.first_normal.3;
       second_normal = s.second_normal.3;
       below = below (min (next_of xs) (next_of ys)) (omega arith) (omega arith);
-      same = λ q. ap (λ b. b || differs (in_ranges xs q) (in_ranges ys q)) (same q)
-          ∙ or_assoc (in_ranges kept q) (in_range (from, to) q) (differs (in_ranges xs q) (in_ranges ys q))
+      same = λ q. ap (λ b. b || exactly_one (in_ranges xs q) (in_ranges ys q)) (same q)
+          ∙ or_assoc (in_ranges kept q) (in_range (from, to) q) (exactly_one (in_ranges xs q) (in_ranges ys q))
           ∙ ap (λ b. in_ranges kept q || b) (sym (over_both x y xs ys from to q s.first_normal s.second_normal at f t))
           ∙ s.same q;
     }
 
--- ---- ranges that are carried over
+-- ---- ranges that are appended whole
 
 pub ends_both : (f g : ℕ) (rs : List (ℕ × ℕ)) → EndsBelow f rs → EndsBelow g rs → EndsBelow (min f g) rs
 ends_both f g [] low high = tt
 ends_both f g (r ∷ rs) low high = (omega (arith, low.0, high.0), ends_both f g rs low.1 high.1)
 
-alone_bool : (r all ys gone xs : Bool) → differs all ys ≡ (gone || differs xs ys) → (r ≡ true → ys ≡ false) → differs (r || all) ys ≡ ((r || gone) || differs xs ys)
-alone_bool true all ys gone xs rest alone = ap (λ b. not b || (b && false)) (alone refl)
-alone_bool false all ys gone xs rest alone = rest
+alone_bool : (r all ys removed xs : Bool) → exactly_one all ys ≡ (removed || exactly_one xs ys) → (r ≡ true → ys ≡ false) → exactly_one (r || all) ys ≡ ((r || removed) || exactly_one xs ys)
+alone_bool true all ys removed xs rest alone = ap (λ b. not b || (b && false)) (alone refl)
+alone_bool false all ys removed xs rest alone = rest
 
 -- ranges of the first list that end before the second's next one begins
-pub differs_gone : (gone xs ys : List (ℕ × ℕ)) (q : ℕ) → IsNormal ys → EndsBelow (next_of ys) gone → differs (in_ranges (gone ++ xs) q) (in_ranges ys q) ≡ (in_ranges gone q || differs (in_ranges xs q) (in_ranges ys q))
+pub differs_gone : (removed xs ys : List (ℕ × ℕ)) (q : ℕ) → IsNormal ys → EndsBelow (next_of ys) removed → exactly_one (in_ranges (removed ++ xs) q) (in_ranges ys q) ≡ (in_ranges removed q || exactly_one (in_ranges xs q) (in_ranges ys q))
 differs_gone [] xs ys q other below = refl
-differs_gone (r ∷ gone) xs ys q other below =
+differs_gone (r ∷ removed) xs ys q other below =
     let alone : in_range r q ≡ true → in_ranges ys q ≡ false = λ here. none_before ys q other (omega (arith, below.0, (range_from r q here).1)) in
-    alone_bool (in_range r q) (in_ranges (gone ++ xs) q) (in_ranges ys q) (in_ranges gone q) (in_ranges xs q) (differs_gone gone xs ys q other below.1) alone
+    alone_bool (in_range r q) (in_ranges (removed ++ xs) q) (in_ranges ys q) (in_ranges removed q) (in_ranges xs q) (differs_gone removed xs ys q other below.1) alone
 
-pub differing_carried : (kept kept' xs xs' ys whole_xs whole_ys : List (ℕ × ℕ)) (limit : ℕ) → IsDiffering kept xs ys whole_xs whole_ys → limit ≤ next_of ys → Carries xs xs' limit kept kept' → IsDiffering kept' xs' ys whole_xs whole_ys
+pub differing_carried : (kept kept' xs xs' ys whole_xs whole_ys : List (ℕ × ℕ)) (limit : ℕ) → IsSymmetricStep kept xs ys whole_xs whole_ys → limit ≤ next_of ys → MovesPrefix xs xs' limit kept kept' → IsSymmetricStep kept' xs' ys whole_xs whole_ys
 differing_carried kept kept' xs xs' ys whole_xs whole_ys limit s le c =
     let whole = subst IsNormal c.parts s.first_normal in
-    let later = next_later c.gone xs' whole in
-    let before = EndsBelow-more limit (next_of ys) c.gone c.below le in
+    let later = next_later c.removed xs' whole in
+    let before = EndsBelow-more limit (next_of ys) c.removed c.below le in
     record {
       normal = c.built;
-      first_normal = IsNormal-suffix c.gone xs' whole;
+      first_normal = IsNormal-suffix c.removed xs' whole;
       second_normal = s.second_normal;
       below = subst (λ (k : List (ℕ × ℕ)). EndsBelow (min (next_of xs') (next_of ys)) k) (sym c.kept)
-          (EndsBelow-append (min (next_of xs') (next_of ys)) kept c.gone
+          (EndsBelow-append (min (next_of xs') (next_of ys)) kept c.removed
           (EndsBelow-more (min (next_of xs) (next_of ys)) (min (next_of xs') (next_of ys)) kept s.below (omega (arith, ap next_of c.parts, later)))
-          (ends_both (next_of xs') (next_of ys) c.gone (ends_next c.gone xs' whole) before));
-      same = λ q. ap (λ b. b || differs (in_ranges xs' q) (in_ranges ys q)) (ap (λ (k : List (ℕ × ℕ)). in_ranges k q) c.kept ∙ in_ranges-append kept c.gone q)
-          ∙ or_assoc (in_ranges kept q) (in_ranges c.gone q) (differs (in_ranges xs' q) (in_ranges ys q))
+          (ends_both (next_of xs') (next_of ys) c.removed (ends_next c.removed xs' whole) before));
+      same = λ q. ap (λ b. b || exactly_one (in_ranges xs' q) (in_ranges ys q)) (ap (λ (k : List (ℕ × ℕ)). in_ranges k q) c.kept ∙ in_ranges-append kept c.removed q)
+          ∙ or_assoc (in_ranges kept q) (in_ranges c.removed q) (exactly_one (in_ranges xs' q) (in_ranges ys q))
           ∙ ap (λ b. in_ranges kept q || b)
-          (sym (differs_gone c.gone xs' ys q s.second_normal before)
-          ∙ ap (λ (k : List (ℕ × ℕ)). differs (in_ranges k q) (in_ranges ys q)) (sym c.parts))
+          (sym (differs_gone c.removed xs' ys q s.second_normal before)
+          ∙ ap (λ (k : List (ℕ × ℕ)). exactly_one (in_ranges k q) (in_ranges ys q)) (sym c.parts))
           ∙ s.same q;
     }
 
--- the first list has no more
-pub differed_normal : (kept xs ys whole_xs whole_ys : List (ℕ × ℕ)) → IsDiffering kept xs ys whole_xs whole_ys → xs ≡ [] → IsNormal (kept ++ ys)
+-- the first list has no more ranges
+pub differed_normal : (kept xs ys whole_xs whole_ys : List (ℕ × ℕ)) → IsSymmetricStep kept xs ys whole_xs whole_ys → xs ≡ [] → IsNormal (kept ++ ys)
 differed_normal kept xs ys whole_xs whole_ys s none =
     normal_append kept ys s.normal s.second_normal (EndsBelow-more (min (next_of xs) (next_of ys)) (next_of ys) kept s.below (omega arith))
 
-pub differs_none : (b : Bool) → b ≡ differs false b
+pub differs_none : (b : Bool) → b ≡ exactly_one false b
 differs_none true = refl
 differs_none false = refl
 
-pub differed : (kept xs ys whole_xs whole_ys : List (ℕ × ℕ)) → IsDiffering kept xs ys whole_xs whole_ys → xs ≡ [] → (q : ℕ) → in_ranges (kept ++ ys) q ≡ differs (in_ranges whole_xs q) (in_ranges whole_ys q)
+pub differed : (kept xs ys whole_xs whole_ys : List (ℕ × ℕ)) → IsSymmetricStep kept xs ys whole_xs whole_ys → xs ≡ [] → (q : ℕ) → in_ranges (kept ++ ys) q ≡ exactly_one (in_ranges whole_xs q) (in_ranges whole_ys q)
 differed kept xs ys whole_xs whole_ys s none q =
     in_ranges-append kept ys q ∙ ap (λ b. in_ranges kept q || b) (differs_none (in_ranges ys q))
-    ∙ ap (λ (l : List (ℕ × ℕ)). in_ranges kept q || differs (in_ranges l q) (in_ranges ys q)) (sym none) ∙ s.same q
+    ∙ ap (λ (l : List (ℕ × ℕ)). in_ranges kept q || exactly_one (in_ranges l q) (in_ranges ys q)) (sym none) ∙ s.same q
 
--- ---- what is left of one list
+-- ---- the rest of one list
 
--- what is kept, and the rest behind it
+-- the result, and the rest after it
 pub record IsFinishing (kept rest whole : List (ℕ × ℕ)) : Type 0 where
   pub normal : IsNormal (kept ++ rest)
   pub same : kept ++ rest ≡ whole
@@ -223,14 +223,14 @@ finishing_head kept xs whole x s =
     let rest = IsNormal-suffix kept (x ∷ xs) s.normal in
     (rest.0, rest.1, ends_next kept (x ∷ xs) s.normal)
 
-pub finishing_can : (kept xs whole : List (ℕ × ℕ)) → IsFinishing kept xs whole → CanCarry xs kept
+pub finishing_can : (kept xs whole : List (ℕ × ℕ)) → IsFinishing kept xs whole → CanAppend xs kept
 finishing_can kept xs whole s = record {
   normal = IsNormal-suffix kept xs s.normal;
   built = IsNormal-prefix kept xs s.normal;
   after = ends_next kept xs s.normal;
 }
 
-pub finishing_more : (kept kept' gone rest rest' whole : List (ℕ × ℕ)) → IsFinishing kept rest whole → rest ≡ gone ++ rest' → kept' ≡ kept ++ gone → IsFinishing kept' rest' whole
-finishing_more kept kept' gone rest rest' whole s parts is =
-    let all : kept' ++ rest' ≡ kept ++ rest = ap (λ (k : List (ℕ × ℕ)). k ++ rest') is ∙ append_assoc kept gone rest' ∙ ap (λ (r : List (ℕ × ℕ)). kept ++ r) (sym parts) in
+pub finishing_more : (kept kept' removed rest rest' whole : List (ℕ × ℕ)) → IsFinishing kept rest whole → rest ≡ removed ++ rest' → kept' ≡ kept ++ removed → IsFinishing kept' rest' whole
+finishing_more kept kept' removed rest rest' whole s parts is =
+    let all : kept' ++ rest' ≡ kept ++ rest = ap (λ (k : List (ℕ × ℕ)). k ++ rest') is ∙ append_assoc kept removed rest' ∙ ap (λ (r : List (ℕ × ℕ)). kept ++ r) (sym parts) in
     record { normal = subst IsNormal (sym all) s.normal; same = all ∙ s.same }

@@ -9,9 +9,9 @@ use Rattle.moc_blocks.specs.RangeList.{IsNormal, BeginsAfter}
 use Rattle.moc_blocks.specs.Lemmas.Members.{in_ranges, in_ranges-append}
 use Rattle.moc_blocks.specs.Private.Blocks.{next_of}
 use Rattle.moc_blocks.specs.Private.Built.{EndsBelow}
-use Rattle.moc_blocks.specs.Private.Walks.{EndsBy, Passes}
+use Rattle.moc_blocks.specs.Private.Walks.{EndsBy, Skips}
 use Rattle.moc_blocks.specs.Lemmas.Ranges.{later_only}
-use Rattle.moc_operations.specs.Private.Meeting.{IsRising, CanMeet, MeetsOn, LeavesOut, gaps_before, gaps_of, end_of}
+use Rattle.moc_operations.specs.Private.Meeting.{IsAscending, CanIntersect, Intersects, SkipsBelow, gaps_before, gaps_of, end_of}
 use Rattle.moc_blocks.proofs.Blocking.{IsNormal-suffix, nothing_more}
 use Rattle.moc_blocks.proofs.Merging.{ends_next, EndsBelow-append, EndsBelow-more}
 use Rattle.moc_operations.proofs.Merging.{next_later}
@@ -22,13 +22,13 @@ pub length_gaps : (low : ℕ) (rs : List (ℕ × ℕ)) → length (gaps_before l
 length_gaps low [] = refl
 length_gaps low (r ∷ rs) = omega (arith, length_gaps r.1 rs)
 
--- the gap at a place
+-- the gap at a position
 pub gap_at : (low : ℕ) (rs : List (ℕ × ℕ)) (i : ℕ) → i < length rs → get_or (gaps_before low rs) i (0, 0) ≡ (end_of low (take i rs), (get_or rs i (0, 0)).0)
 gap_at low [] i lt = absurd (omega arith)
 gap_at low (r ∷ rs) zero lt = refl
 gap_at low (r ∷ rs) (suc i) lt = gap_at r.1 rs i (omega arith)
 
--- what comes before the gap at a place ends where the range before it does
+-- what precedes the gap at a position ends where the range before it does
 pub end_before : (low : ℕ) (rs : List (ℕ × ℕ)) (i : ℕ) → i < length rs → end_of low (take (suc i) rs) ≡ (get_or rs i (0, 0)).1
 end_before low [] i lt = absurd (omega arith)
 end_before low (r ∷ rs) zero lt = refl
@@ -48,14 +48,14 @@ end_parts low rs zero = refl
 end_parts low [] (suc i) = refl
 end_parts low (r ∷ rs) (suc i) = end_parts r.1 rs i
 
-pub gaps_split : (low : ℕ) (rs behind whole : List (ℕ × ℕ)) → rs ++ behind ≡ whole → gaps_of low whole ≡ gaps_before low rs ++ gaps_of (end_of low rs) behind
-gaps_split low rs behind whole is = ap (λ l. gaps_of low l) (sym is) ∙ gaps-append low rs behind
+pub gaps_split : (low : ℕ) (rs tail whole : List (ℕ × ℕ)) → rs ++ tail ≡ whole → gaps_of low whole ≡ gaps_before low rs ++ gaps_of (end_of low rs) tail
+gaps_split low rs tail whole is = ap (λ l. gaps_of low l) (sym is) ∙ gaps-append low rs tail
 
--- the gaps from a place on
-pub gaps_left : (low : ℕ) (rs behind : List (ℕ × ℕ)) (i : ℕ) → drop i (gaps_before low rs) ++ gaps_of (end_of low rs) behind ≡ gaps_of (end_of low (take i rs)) (drop i rs ++ behind)
-gaps_left low rs behind i =
-    (λ k. drop_gaps low rs i k ++ gaps_of (end_parts low rs i k) behind)
-    ∙ sym (gaps-append (end_of low (take i rs)) (drop i rs) behind)
+-- the gaps from a position on
+pub gaps_left : (low : ℕ) (rs tail : List (ℕ × ℕ)) (i : ℕ) → drop i (gaps_before low rs) ++ gaps_of (end_of low rs) tail ≡ gaps_of (end_of low (take i rs)) (drop i rs ++ tail)
+gaps_left low rs tail i =
+    (λ k. drop_gaps low rs i k ++ gaps_of (end_parts low rs i k) tail)
+    ∙ sym (gaps-append (end_of low (take i rs)) (drop i rs) tail)
 
 begins_gap : (x low : ℕ) (rs : List (ℕ × ℕ)) → x < low → BeginsAfter x (gaps_of low rs)
 begins_gap x low [] lt = lt
@@ -73,15 +73,15 @@ pub first_gap : (low next : ℕ) (rs : List (ℕ × ℕ)) → next ≡ next_of r
 first_gap low next [] is = ap (λ n. (low, n) ∷ []) (sym is)
 first_gap low next (r ∷ rs) is = ap (λ n. (low, n) ∷ gaps_of r.1 rs) (sym is)
 
-pub gaps_rising : (low : ℕ) (rs : List (ℕ × ℕ)) → IsNormal rs → low ≤ next_of rs → IsRising (gaps_of low rs)
+pub gaps_rising : (low : ℕ) (rs : List (ℕ × ℕ)) → IsNormal rs → low ≤ next_of rs → IsAscending (gaps_of low rs)
 gaps_rising low [] normal le = (le, tt, tt)
 gaps_rising low (r ∷ rs) normal le =
     let next : r.1 < next_of rs = (ends_next (r ∷ []) rs normal).0 in
     (le, begins_gap r.0 r.1 rs normal.0, gaps_rising r.1 rs normal.3 (omega arith))
 
-pub rising_low : (low : ℕ) (rs : List (ℕ × ℕ)) → IsRising (gaps_of low rs) → low ≤ next_of rs
-rising_low low [] rising = rising.0
-rising_low low (r ∷ rs) rising = rising.0
+pub rising_low : (low : ℕ) (rs : List (ℕ × ℕ)) → IsAscending (gaps_of low rs) → low ≤ next_of rs
+rising_low low [] ascending = ascending.0
+rising_low low (r ∷ rs) ascending = ascending.0
 
 before_both : (low a b q : ℕ) (more rest : Bool) → low ≤ a → a < b → q < b → more ≡ false → rest ≡ (nat_le b q && not more) → ((nat_le low q && nat_lt q a) || rest) ≡ (nat_le low q && not ((nat_le a q && nat_lt q b) || more))
 before_both low a b q more rest le lt early none is = grind (arith, nat_tests)
@@ -92,7 +92,7 @@ behind_both low a b q more rest le lt late is = grind (arith, nat_tests)
 no_gap : (low q : ℕ) → q < 18446744073709551615 → ((nat_le low q && nat_lt q 18446744073709551615) || false) ≡ (nat_le low q && true)
 no_gap low q lt = grind (arith, nat_tests)
 
--- a number is in a gap where it is in no range
+-- a number is in a gap if it is in no range
 pub in_gaps : (low : ℕ) (rs : List (ℕ × ℕ)) (q : ℕ) → IsNormal rs → low ≤ next_of rs → q < 18446744073709551615 → in_ranges (gaps_of low rs) q ≡ (nat_le low q && not (in_ranges rs q))
 in_gaps low [] q normal le lt = no_gap low q lt
 in_gaps low (r ∷ rs) q normal le lt =
@@ -110,7 +110,7 @@ and_same false b c is = refl
 from_start : (q : ℕ) (b : Bool) → (nat_le 0 q && b) ≡ b
 from_start q b = grind (arith, nat_tests)
 
--- what a list has in the gaps of another is what the other lacks
+-- the numbers of a list in the gaps of another list are those that the other list does not have
 pub common_gaps : (xs ys : List (ℕ × ℕ)) (q : ℕ) → IsNormal xs → IsNormal ys → (in_ranges xs q && in_ranges (gaps_of 0 ys) q) ≡ (in_ranges xs q && not (in_ranges ys q))
 common_gaps xs ys q nx ny = and_same (in_ranges xs q) (in_ranges (gaps_of 0 ys) q) (not (in_ranges ys q)) (λ here.
     let lt = normal_below xs q nx here in
@@ -124,7 +124,7 @@ below_by : (limit : ℕ) (rs : List (ℕ × ℕ)) → EndsBy limit rs → EndsBe
 below_by limit [] ended = tt
 below_by limit (r ∷ rs) ended = (omega (arith, ended.0), below_by limit rs ended.1)
 
--- ranges of the other list that end where a list's next one begins, or before, were left out
+-- ranges of the other list that end at or before the start of a list's next range were skipped
 none_past : (limit q : ℕ) (rs : List (ℕ × ℕ)) → EndsBelow (limit + 1) rs → limit ≤ q → in_ranges rs q ≡ false
 none_past limit q [] below le = refl
 none_past limit q (r ∷ rs) below le = let rest = none_past limit q rs below.1 le in let end = below.0 in grind (arith, nat_tests)
@@ -133,54 +133,54 @@ from_first : (rs : List (ℕ × ℕ)) (q : ℕ) → IsNormal rs → in_ranges rs
 from_first rs q normal here =
     subst (λ (l : List (ℕ × ℕ)). next_of l ≤ q) (nothing_more rs) (normal_from rs [] q (subst IsNormal (sym (nothing_more rs)) normal) here)
 
-pub left_by : (limit : ℕ) (xs xs' : List (ℕ × ℕ)) (n : ℕ) → Passes (limit, limit) xs xs' n → LeavesOut (limit + 1) xs xs'
-left_by limit xs xs' n p = record { gone = p.gone; parts = p.parts; below = below_by limit p.gone p.ended }
+pub left_by : (limit : ℕ) (xs xs' : List (ℕ × ℕ)) (n : ℕ) → Skips (limit, limit) xs xs' n → SkipsBelow (limit + 1) xs xs'
+left_by limit xs xs' n p = record { removed = p.removed; parts = p.parts; below = below_by limit p.removed p.ended }
 
-pub left_more : (f g : ℕ) (xs xs' xs'' : List (ℕ × ℕ)) → LeavesOut f xs xs' → f ≤ g → LeavesOut g xs' xs'' → LeavesOut g xs xs''
+pub left_more : (f g : ℕ) (xs xs' xs'' : List (ℕ × ℕ)) → SkipsBelow f xs xs' → f ≤ g → SkipsBelow g xs' xs'' → SkipsBelow g xs xs''
 left_more f g xs xs' xs'' a le b = record {
-  gone = a.gone ++ b.gone;
-  parts = a.parts ∙ ap (λ (l : List (ℕ × ℕ)). a.gone ++ l) b.parts ∙ sym (append_assoc a.gone b.gone xs'');
-  below = EndsBelow-append g a.gone b.gone (EndsBelow-more f g a.gone a.below le) b.below;
+  removed = a.removed ++ b.removed;
+  parts = a.parts ∙ ap (λ (l : List (ℕ × ℕ)). a.removed ++ l) b.parts ∙ sym (append_assoc a.removed b.removed xs'');
+  below = EndsBelow-append g a.removed b.removed (EndsBelow-more f g a.removed a.below le) b.below;
 }
 
-pub left_weaker : (f g : ℕ) (xs xs' : List (ℕ × ℕ)) → LeavesOut f xs xs' → f ≤ g → LeavesOut g xs xs'
-left_weaker f g xs xs' a le = record { gone = a.gone; parts = a.parts; below = EndsBelow-more f g a.gone a.below le }
+pub left_weaker : (f g : ℕ) (xs xs' : List (ℕ × ℕ)) → SkipsBelow f xs xs' → f ≤ g → SkipsBelow g xs xs'
+left_weaker f g xs xs' a le = record { removed = a.removed; parts = a.parts; below = EndsBelow-more f g a.removed a.below le }
 
-gaps_grow : (xs ys ys' : List (ℕ × ℕ)) (low from q : ℕ) → IsNormal xs → IsNormal ys → low ≤ next_of ys → from ≡ next_of xs → LeavesOut (from + 1) ys ys' → (in_ranges xs q && in_ranges (gaps_of low ys') q) ≡ (in_ranges xs q && in_ranges (gaps_of low ys) q)
+gaps_grow : (xs ys ys' : List (ℕ × ℕ)) (low from q : ℕ) → IsNormal xs → IsNormal ys → low ≤ next_of ys → from ≡ next_of xs → SkipsBelow (from + 1) ys ys' → (in_ranges xs q && in_ranges (gaps_of low ys') q) ≡ (in_ranges xs q && in_ranges (gaps_of low ys) q)
 gaps_grow xs ys ys' low from q nx ny le is l = and_same (in_ranges xs q) (in_ranges (gaps_of low ys') q) (in_ranges (gaps_of low ys) q) (λ here.
     let lt = normal_below xs q nx here in
     let past = from_first xs q nx here in
     let whole = subst IsNormal l.parts ny in
-    let later : next_of ys ≤ next_of ys' = omega (arith, ap next_of l.parts, next_later l.gone ys' whole) in
-    let none = none_past from q l.gone l.below (omega arith) in
-    let same : in_ranges ys q ≡ in_ranges ys' q = ap (λ (k : List (ℕ × ℕ)). in_ranges k q) l.parts ∙ in_ranges-append l.gone ys' q ∙ ap (λ b. b || in_ranges ys' q) none in
-    in_gaps low ys' q (IsNormal-suffix l.gone ys' whole) (omega arith) (omega arith)
+    let later : next_of ys ≤ next_of ys' = omega (arith, ap next_of l.parts, next_later l.removed ys' whole) in
+    let none = none_past from q l.removed l.below (omega arith) in
+    let same : in_ranges ys q ≡ in_ranges ys' q = ap (λ (k : List (ℕ × ℕ)). in_ranges k q) l.parts ∙ in_ranges-append l.removed ys' q ∙ ap (λ b. b || in_ranges ys' q) none in
+    in_gaps low ys' q (IsNormal-suffix l.removed ys' whole) (omega arith) (omega arith)
     ∙ ap (λ b. nat_le low q && not b) (sym same)
     ∙ sym (in_gaps low ys q ny le (omega arith)))
 
-pub lacks_left : (ks xs ys ys' : List (ℕ × ℕ)) (low from : ℕ) → CanMeet xs (gaps_of low ys) ks → IsNormal ys → from ≡ next_of xs → LeavesOut (from + 1) ys ys' → MeetsOn xs xs (gaps_of low ys) (gaps_of low ys') ks ks
+pub lacks_left : (ks xs ys ys' : List (ℕ × ℕ)) (low from : ℕ) → CanIntersect xs (gaps_of low ys) ks → IsNormal ys → from ≡ next_of xs → SkipsBelow (from + 1) ys ys' → Intersects xs xs (gaps_of low ys) (gaps_of low ys') ks ks
 lacks_left ks xs ys ys' low from can ny is l =
     let whole = subst IsNormal l.parts ny in
-    let le = rising_low low ys can.second_rising in
-    let later : next_of ys ≤ next_of ys' = omega (arith, ap next_of l.parts, next_later l.gone ys' whole) in
+    let le = rising_low low ys can.second_ascending in
+    let later : next_of ys ≤ next_of ys' = omega (arith, ap next_of l.parts, next_later l.removed ys' whole) in
     record {
       can = record {
         built = can.built;
         first_normal = can.first_normal;
-        second_rising = gaps_rising low ys' (IsNormal-suffix l.gone ys' whole) (omega arith);
+        second_ascending = gaps_rising low ys' (IsNormal-suffix l.removed ys' whole) (omega arith);
         below = EndsBelow-more (max (next_of xs) (next_of (gaps_of low ys))) (max (next_of xs) (next_of (gaps_of low ys'))) ks can.below (omega (arith, next_gap low ys, next_gap low ys'));
       };
       same = λ q. ap (λ k. in_ranges ks q || k) (gaps_grow xs ys ys' low from q can.first_normal ny le is l);
     }
 
--- one list has no more
-pub can_end : (ks xs ys : List (ℕ × ℕ)) (low : ℕ) → CanMeet xs (gaps_of low ys) ks → IsNormal ys → CanMeet xs (gaps_of low []) ks
+-- one list has no more ranges
+pub can_end : (ks xs ys : List (ℕ × ℕ)) (low : ℕ) → CanIntersect xs (gaps_of low ys) ks → IsNormal ys → CanIntersect xs (gaps_of low []) ks
 can_end ks xs ys low can ny =
-    let le = rising_low low ys can.second_rising in
+    let le = rising_low low ys can.second_ascending in
     record {
       built = can.built;
       first_normal = can.first_normal;
-      second_rising = (omega (arith, le, next_small ys ny), tt, tt);
+      second_ascending = (omega (arith, le, next_small ys ny), tt, tt);
       below = EndsBelow-more (max (next_of xs) (next_of (gaps_of low ys))) (max (next_of xs) low) ks can.below (omega (arith, next_gap low ys));
     }
 
@@ -190,6 +190,6 @@ lacked_end xs ys low q ended = elim ended [
   | inr none ↦ ap (λ (l : List (ℕ × ℕ)). in_ranges xs q && in_ranges (gaps_of low l) q) (sym none)
 ]
 
-pub lacked_all : (ks made xs xs' ys ys' : List (ℕ × ℕ)) (low : ℕ) → IsNormal xs → IsNormal ys → MeetsOn xs xs' (gaps_of 0 ys) (gaps_of low ys') [] ks → (xs' ≡ []) ⊎ (ys' ≡ []) → ((q : ℕ) → in_ranges made q ≡ (in_ranges ks q || (in_ranges xs' q && in_ranges (gaps_of low []) q))) → (q : ℕ) → in_ranges made q ≡ (in_ranges xs q && not (in_ranges ys q))
-lacked_all ks made xs xs' ys ys' low nx ny m ended made_is q =
+pub lacked_all : (ks written xs xs' ys ys' : List (ℕ × ℕ)) (low : ℕ) → IsNormal xs → IsNormal ys → Intersects xs xs' (gaps_of 0 ys) (gaps_of low ys') [] ks → (xs' ≡ []) ⊎ (ys' ≡ []) → ((q : ℕ) → in_ranges written q ≡ (in_ranges ks q || (in_ranges xs' q && in_ranges (gaps_of low []) q))) → (q : ℕ) → in_ranges written q ≡ (in_ranges xs q && not (in_ranges ys q))
+lacked_all ks written xs xs' ys ys' low nx ny m ended made_is q =
     made_is q ∙ ap (λ k. in_ranges ks q || k) (lacked_end xs' ys' low q ended) ∙ m.same q ∙ common_gaps xs ys q nx ny

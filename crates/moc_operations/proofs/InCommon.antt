@@ -1,4 +1,4 @@
--- What two lists of ranges have in common, range by range.
+-- The intersection of two lists of ranges, range by range.
 use Rattle.std.proofs.Common.{◌≡◌, ℕ, ◌+◌, ◌<◌, ◌≤◌, Bool, true, false, ◌||◌, ◌&&◌, List, [], ◌∷◌, ◌++◌, min, max}
 use Rattle.std.proofs.Common.{refl, sym, ap, subst, ◌∙◌, arith, inl, inr, Option, None}
 use Rattle.std.specs.Prelude.{nat_le, nat_lt}
@@ -7,11 +7,11 @@ use Rattle.std.proofs.lemmas.Bool.Decides.{nat_tests}
 use Rattle.moc_blocks.specs.RangeList.{IsNormal, BeginsAfter}
 use Rattle.moc_blocks.specs.Lemmas.Members.{in_range, in_ranges, in_ranges-append, or_false, or_assoc, and_false}
 use Rattle.moc_blocks.specs.Private.Blocks.{next_of}
-use Rattle.moc_blocks.specs.Private.Built.{EndsBelow, Carries}
-use Rattle.moc_operations.specs.Private.Taking.{TakesCommon}
-use Rattle.moc_operations.specs.Private.Meeting.{IsRising}
-use Rattle.moc_operations.specs.Private.Walks.{begun}
-use Rattle.moc_blocks.specs.Private.Walks.{EndsBy, Advances, Passes}
+use Rattle.moc_blocks.specs.Private.Built.{EndsBelow, MovesPrefix}
+use Rattle.moc_operations.specs.Private.Taking.{MovesCommon}
+use Rattle.moc_operations.specs.Private.Meeting.{IsAscending}
+use Rattle.moc_operations.specs.Private.Walks.{from_current}
+use Rattle.moc_blocks.specs.Private.Walks.{EndsBy, Advances, Skips}
 use Rattle.moc_operations.proofs.Merging.{next_later}
 use Rattle.moc_blocks.proofs.Merging.{ends_next, EndsBelow-append, EndsBelow-more}
 use Rattle.moc_blocks.proofs.Blocking.{IsNormal-suffix}
@@ -28,17 +28,17 @@ outside a b c d from to q later more ends f w ge = grind (arith, nat_tests)
 nothing_in : (from to q : ℕ) (k : Bool) → to ≤ from → k ≡ (k || (nat_le from q && nat_lt q to))
 nothing_in from to q k le = grind (arith, nat_tests)
 
-pub rising_normal : (rs : List (ℕ × ℕ)) → IsNormal rs → IsRising rs
+pub rising_normal : (rs : List (ℕ × ℕ)) → IsNormal rs → IsAscending rs
 rising_normal [] normal = tt
 rising_normal (r ∷ rs) normal = (omega (arith, normal.0), normal.2, rising_normal rs normal.3)
 
--- a rising list has nothing before it begins
-pub none_early : (x q : ℕ) (ranges : List (ℕ × ℕ)) → IsRising ranges → BeginsAfter x ranges → q ≤ x → in_ranges ranges q ≡ false
-none_early x q [] rising after le = refl
-none_early x q (range ∷ ranges) rising after le = let rest = none_early range.1 q ranges rising.2 rising.1 (omega arith) in grind (arith, nat_tests)
+-- a number before the start of an ascending list is in none of its ranges
+pub none_early : (x q : ℕ) (ranges : List (ℕ × ℕ)) → IsAscending ranges → BeginsAfter x ranges → q ≤ x → in_ranges ranges q ≡ false
+none_early x q [] ascending after le = refl
+none_early x q (range ∷ ranges) ascending after le = let rest = none_early range.1 q ranges ascending.2 ascending.1 (omega arith) in grind (arith, nat_tests)
 
--- a range gave what it has in common with another that ends no sooner
-pub pieces_rising : (x y : ℕ × ℕ) (xs ys : List (ℕ × ℕ)) (from to q : ℕ) → IsRising (y ∷ ys) → x.1 ≤ y.1 → from ≡ max x.0 y.0 → to ≡ min x.1 y.1 → (in_ranges (x ∷ xs) q && in_ranges (y ∷ ys) q) ≡ (in_range (from, to) q || (in_ranges xs q && in_ranges (y ∷ ys) q))
+-- the common part of a range and another that ends no sooner was appended
+pub pieces_rising : (x y : ℕ × ℕ) (xs ys : List (ℕ × ℕ)) (from to q : ℕ) → IsAscending (y ∷ ys) → x.1 ≤ y.1 → from ≡ max x.0 y.0 → to ≡ min x.1 y.1 → (in_ranges (x ∷ xs) q && in_ranges (y ∷ ys) q) ≡ (in_range (from, to) q || (in_ranges xs q && in_ranges (y ∷ ys) q))
 pieces_rising x y xs ys from to q ry ends f t = elim (cases_lt q x.1) [
   | inl lt ↦ inside x.0 x.1 y.0 y.1 from to q (in_ranges xs q) (in_ranges ys q) ends f t lt (none_early y.1 q ys ry.2 ry.1 (omega arith))
   | inr ge ↦ outside x.0 x.1 y.0 y.1 from to q (in_ranges xs q) (in_ranges ys q) ends f t ge
@@ -53,16 +53,16 @@ pieces_back x y xs ys from to q nx ends f t =
     ∙ pieces y x ys xs from to q nx ends (omega (arith, f)) (omega (arith, t))
     ∙ ap (λ b. in_range (from, to) q || b) (and_swap (in_ranges ys q) (in_ranges (x ∷ xs) q))
 
--- how far an intersection has come
-pub record IsMeeting (ks xs ys whole_xs whole_ys : List (ℕ × ℕ)) : Type 0 where
+-- the invariant of an intersection
+pub record IsIntersectionStep (ks xs ys whole_xs whole_ys : List (ℕ × ℕ)) : Type 0 where
   pub built : IsNormal ks
   pub first_normal : IsNormal xs
   pub second_normal : IsNormal ys
   pub below : EndsBelow (max (next_of xs) (next_of ys)) ks
   pub same : (q : ℕ) → (in_ranges ks q || (in_ranges xs q && in_ranges ys q)) ≡ (in_ranges whole_xs q && in_ranges whole_ys q)
 
--- the first list's next range gave what it has in common with the second's
-pub meeting_kept : (ks ks' xs ys whole_xs whole_ys : List (ℕ × ℕ)) (x y : ℕ × ℕ) → IsMeeting ks (x ∷ xs) (y ∷ ys) whole_xs whole_ys → x.1 ≤ y.1 → IsNormal ks' → ((f : ℕ) → max x.0 y.0 ≤ f → min x.1 y.1 < f → EndsBelow f ks') → ((q : ℕ) → in_ranges ks' q ≡ (in_ranges ks q || in_range (max x.0 y.0, min x.1 y.1) q)) → IsMeeting ks' xs (y ∷ ys) whole_xs whole_ys
+-- the common part of the first list's next range and the second's was appended
+pub meeting_kept : (ks ks' xs ys whole_xs whole_ys : List (ℕ × ℕ)) (x y : ℕ × ℕ) → IsIntersectionStep ks (x ∷ xs) (y ∷ ys) whole_xs whole_ys → x.1 ≤ y.1 → IsNormal ks' → ((f : ℕ) → max x.0 y.0 ≤ f → min x.1 y.1 < f → EndsBelow f ks') → ((q : ℕ) → in_ranges ks' q ≡ (in_ranges ks q || in_range (max x.0 y.0, min x.1 y.1) q)) → IsIntersectionStep ks' xs (y ∷ ys) whole_xs whole_ys
 meeting_kept ks ks' xs ys whole_xs whole_ys x y s ends built below same =
     let next : x.1 < next_of xs = (ends_next (x ∷ []) xs s.first_normal).0 in
     let filled : x.0 < x.1 = s.first_normal.0 in
@@ -77,7 +77,7 @@ meeting_kept ks ks' xs ys whole_xs whole_ys x y s ends built below same =
           ∙ s.same q;
     }
 
-pub meeting_swap : (ks xs ys whole_xs whole_ys : List (ℕ × ℕ)) → IsMeeting ks xs ys whole_xs whole_ys → IsMeeting ks ys xs whole_ys whole_xs
+pub meeting_swap : (ks xs ys whole_xs whole_ys : List (ℕ × ℕ)) → IsIntersectionStep ks xs ys whole_xs whole_ys → IsIntersectionStep ks ys xs whole_ys whole_xs
 meeting_swap ks xs ys whole_xs whole_ys s = record {
   built = s.built;
   first_normal = s.second_normal;
@@ -86,8 +86,8 @@ meeting_swap ks xs ys whole_xs whole_ys s = record {
   same = λ q. ap (λ k. in_ranges ks q || k) (and_swap (in_ranges ys q) (in_ranges xs q)) ∙ s.same q ∙ and_swap (in_ranges whole_xs q) (in_ranges whole_ys q);
 }
 
--- the second list's next range gave what it has in common with the first's
-pub meeting_kept_back : (ks ks' xs ys whole_xs whole_ys : List (ℕ × ℕ)) (x y : ℕ × ℕ) → IsMeeting ks (x ∷ xs) (y ∷ ys) whole_xs whole_ys → y.1 ≤ x.1 → IsNormal ks' → ((f : ℕ) → max x.0 y.0 ≤ f → min x.1 y.1 < f → EndsBelow f ks') → ((q : ℕ) → in_ranges ks' q ≡ (in_ranges ks q || in_range (max x.0 y.0, min x.1 y.1) q)) → IsMeeting ks' ys (x ∷ xs) whole_ys whole_xs
+-- the common part of the second list's next range and the first's was appended
+pub meeting_kept_back : (ks ks' xs ys whole_xs whole_ys : List (ℕ × ℕ)) (x y : ℕ × ℕ) → IsIntersectionStep ks (x ∷ xs) (y ∷ ys) whole_xs whole_ys → y.1 ≤ x.1 → IsNormal ks' → ((f : ℕ) → max x.0 y.0 ≤ f → min x.1 y.1 < f → EndsBelow f ks') → ((q : ℕ) → in_ranges ks' q ≡ (in_ranges ks q || in_range (max x.0 y.0, min x.1 y.1) q)) → IsIntersectionStep ks' ys (x ∷ xs) whole_ys whole_xs
 meeting_kept_back ks ks' xs ys whole_xs whole_ys x y s ends built below same =
     let from : max x.0 y.0 ≡ max y.0 x.0 = omega arith in
     let to : min x.1 y.1 ≡ min y.1 x.1 = omega arith in
@@ -107,26 +107,26 @@ taken_bool true x true m none = refl
 taken_bool true true false m none = refl
 taken_bool true false false m none = none refl
 
-pub common_parts : (gone xs ys : List (ℕ × ℕ)) (y : ℕ × ℕ) (q : ℕ) → IsRising (y ∷ ys) → EndsBy y.1 gone → (in_ranges (gone ++ xs) q && in_ranges (y ∷ ys) q) ≡ ((in_ranges gone q && in_range y q) || (in_ranges xs q && in_ranges (y ∷ ys) q))
-common_parts gone xs ys y q rising ended =
-    ap (λ b. b && in_ranges (y ∷ ys) q) (in_ranges-append gone xs q)
-    ∙ taken_bool (in_ranges gone q) (in_ranges xs q) (in_range y q) (in_ranges ys q)
-    (λ here. let lt : q < y.1 = ends_by_in y.1 gone q ended here in none_early y.1 q ys rising.2 rising.1 (omega arith))
+pub common_parts : (removed xs ys : List (ℕ × ℕ)) (y : ℕ × ℕ) (q : ℕ) → IsAscending (y ∷ ys) → EndsBy y.1 removed → (in_ranges (removed ++ xs) q && in_ranges (y ∷ ys) q) ≡ ((in_ranges removed q && in_range y q) || (in_ranges xs q && in_ranges (y ∷ ys) q))
+common_parts removed xs ys y q ascending ended =
+    ap (λ b. b && in_ranges (y ∷ ys) q) (in_ranges-append removed xs q)
+    ∙ taken_bool (in_ranges removed q) (in_ranges xs q) (in_range y q) (in_ranges ys q)
+    (λ here. let lt : q < y.1 = ends_by_in y.1 removed q ended here in none_early y.1 q ys ascending.2 ascending.1 (omega arith))
 
--- more ranges of the first list gave what they have in common with the second's next range
-pub meeting_taken : (ks ks' xs xs' ys whole_xs whole_ys : List (ℕ × ℕ)) (y : ℕ × ℕ) → IsMeeting ks xs (y ∷ ys) whole_xs whole_ys → TakesCommon xs xs' y ks ks' → IsMeeting ks' xs' (y ∷ ys) whole_xs whole_ys
+-- the common parts of more ranges of the first list and the second's next range were appended
+pub meeting_taken : (ks ks' xs xs' ys whole_xs whole_ys : List (ℕ × ℕ)) (y : ℕ × ℕ) → IsIntersectionStep ks xs (y ∷ ys) whole_xs whole_ys → MovesCommon xs xs' y ks ks' → IsIntersectionStep ks' xs' (y ∷ ys) whole_xs whole_ys
 meeting_taken ks ks' xs xs' ys whole_xs whole_ys y s t = record {
   built = t.built;
-  first_normal = IsNormal-suffix t.gone xs' (subst IsNormal t.parts s.first_normal);
+  first_normal = IsNormal-suffix t.removed xs' (subst IsNormal t.parts s.first_normal);
   second_normal = s.second_normal;
   below = t.below;
   same = λ q. ap (λ k. k || (in_ranges xs' q && in_ranges (y ∷ ys) q)) (t.same q)
-      ∙ or_assoc (in_ranges ks q) (in_ranges t.gone q && in_range y q) (in_ranges xs' q && in_ranges (y ∷ ys) q)
-      ∙ ap (λ k. in_ranges ks q || k) (sym (common_parts t.gone xs' ys y q (rising_normal (y ∷ ys) s.second_normal) t.ended) ∙ ap (λ (l : List (ℕ × ℕ)). in_ranges l q && in_ranges (y ∷ ys) q) (sym t.parts))
+      ∙ or_assoc (in_ranges ks q) (in_ranges t.removed q && in_range y q) (in_ranges xs' q && in_ranges (y ∷ ys) q)
+      ∙ ap (λ k. in_ranges ks q || k) (sym (common_parts t.removed xs' ys y q (rising_normal (y ∷ ys) s.second_normal) t.ended) ∙ ap (λ (l : List (ℕ × ℕ)). in_ranges l q && in_ranges (y ∷ ys) q) (sym t.parts))
       ∙ s.same q;
 }
 
--- ranges that end before a range have nothing in common with it
+-- ranges that end before a range begins have nothing in common with it
 ended_bool : (k g y : Bool) → (g ≡ true → y ≡ false) → k ≡ (k || (g && y))
 ended_bool true g y none = refl
 ended_bool false true y none = sym (none refl)
@@ -139,24 +139,24 @@ ends_by-below : (limit : ℕ) (rs : List (ℕ × ℕ)) → EndsBelow (limit + 1)
 ends_by-below limit [] below = tt
 ends_by-below limit (r ∷ rs) below = (omega (arith, below.0), ends_by-below limit rs below.1)
 
-pub taken_ended : (ks xs xs' gone : List (ℕ × ℕ)) (y : ℕ × ℕ) → IsNormal xs → y.0 ≤ y.1 → IsNormal ks → EndsBelow (max (next_of xs) y.0) ks → xs ≡ gone ++ xs' → EndsBy y.0 gone → TakesCommon xs xs' y ks ks
-taken_ended ks xs xs' gone y normal rises built after parts ended =
+pub taken_ended : (ks xs xs' removed : List (ℕ × ℕ)) (y : ℕ × ℕ) → IsNormal xs → y.0 ≤ y.1 → IsNormal ks → EndsBelow (max (next_of xs) y.0) ks → xs ≡ removed ++ xs' → EndsBy y.0 removed → MovesCommon xs xs' y ks ks
+taken_ended ks xs xs' removed y normal increases built after parts ended =
     let whole = subst IsNormal parts normal in
     record {
-      gone = gone;
+      removed = removed;
       parts = parts;
-      ended = ends_by_more y.0 y.1 gone rises ended;
+      ended = ends_by_more y.0 y.1 removed increases ended;
       built = built;
-      below = EndsBelow-more (max (next_of xs) y.0) (max (next_of xs') y.0) ks after (omega (arith, ap next_of parts, next_later gone xs' whole));
-      same = λ q. ended_bool (in_ranges ks q) (in_ranges gone q) (in_range y q) (λ here. before_range y q (ends_by_in y.0 gone q ended here));
+      below = EndsBelow-more (max (next_of xs) y.0) (max (next_of xs') y.0) ks after (omega (arith, ap next_of parts, next_later removed xs' whole));
+      same = λ q. ended_bool (in_ranges ks q) (in_ranges removed q) (in_range y q) (λ here. before_range y q (ends_by_in y.0 removed q ended here));
     }
 
-pub taken_passed : (ks xs xs' : List (ℕ × ℕ)) (y : ℕ × ℕ) (n : ℕ) → IsNormal xs → y.0 ≤ y.1 → IsNormal ks → EndsBelow (max (next_of xs) y.0) ks → Passes (y.0, y.0) xs xs' n → TakesCommon xs xs' y ks ks
-taken_passed ks xs xs' y n normal rises built after p = taken_ended ks xs xs' p.gone y normal rises built after p.parts p.ended
+pub taken_passed : (ks xs xs' : List (ℕ × ℕ)) (y : ℕ × ℕ) (n : ℕ) → IsNormal xs → y.0 ≤ y.1 → IsNormal ks → EndsBelow (max (next_of xs) y.0) ks → Skips (y.0, y.0) xs xs' n → MovesCommon xs xs' y ks ks
+taken_passed ks xs xs' y n normal increases built after p = taken_ended ks xs xs' p.removed y normal increases built after p.parts p.ended
 
-pub taken_past : (ks xs t : List (ℕ × ℕ)) (y : ℕ × ℕ) (r : Option (ℕ × ℕ)) (n : ℕ) → IsNormal xs → y.0 ≤ y.1 → IsNormal ks → EndsBelow (max (next_of xs) y.0) ks → Advances (y.0, y.0) xs t r n → TakesCommon xs (begun r t) y ks ks
-taken_past ks xs t y r n normal rises built after a =
-    subst (λ (l : List (ℕ × ℕ)). TakesCommon xs l y ks ks) (sym (begun_is a.rest r t a.step)) (taken_passed ks xs a.rest y n normal rises built after a.passed)
+pub taken_past : (ks xs t : List (ℕ × ℕ)) (y : ℕ × ℕ) (r : Option (ℕ × ℕ)) (n : ℕ) → IsNormal xs → y.0 ≤ y.1 → IsNormal ks → EndsBelow (max (next_of xs) y.0) ks → Advances (y.0, y.0) xs t r n → MovesCommon xs (from_current r t) y ks ks
+taken_past ks xs t y r n normal increases built after a =
+    subst (λ (l : List (ℕ × ℕ)). MovesCommon xs l y ks ks) (sym (begun_is a.rest r t a.step)) (taken_passed ks xs a.rest y n normal increases built after a.passed)
 
 inside_bool : (k g y : Bool) → (g ≡ true → y ≡ true) → (k || g) ≡ (k || (g && y))
 inside_bool true g y all = refl
@@ -176,33 +176,33 @@ normal_from (r ∷ rs) ss q normal e = elim (or_cases (in_range r q) (in_ranges 
 range_holds : (y : ℕ × ℕ) (q : ℕ) → y.0 ≤ q → q < y.1 → in_range y q ≡ true
 range_holds y q low high = grind (arith, nat_tests)
 
-pub taken_carried : (ks ks' xs xs' : List (ℕ × ℕ)) (y : ℕ × ℕ) (limit : ℕ) → IsNormal xs → y.0 ≤ next_of xs → limit ≤ y.1 + 1 → EndsBelow (next_of xs) ks → Carries xs xs' limit ks ks' → TakesCommon xs xs' y ks ks'
+pub taken_carried : (ks ks' xs xs' : List (ℕ × ℕ)) (y : ℕ × ℕ) (limit : ℕ) → IsNormal xs → y.0 ≤ next_of xs → limit ≤ y.1 + 1 → EndsBelow (next_of xs) ks → MovesPrefix xs xs' limit ks ks' → MovesCommon xs xs' y ks ks'
 taken_carried ks ks' xs xs' y limit normal from is after c =
     let whole = subst IsNormal c.parts normal in
-    let ended = ends_by-below y.1 c.gone (EndsBelow-more limit (y.1 + 1) c.gone c.below is) in
+    let ended = ends_by-below y.1 c.removed (EndsBelow-more limit (y.1 + 1) c.removed c.below is) in
     record {
-      gone = c.gone;
+      removed = c.removed;
       parts = c.parts;
       ended = ended;
       built = c.built;
       below = EndsBelow-more (next_of xs') (max (next_of xs') y.0) ks' (carried_after ks ks' xs xs' limit normal after c) (omega arith);
-      same = λ q. ap (λ (l : List (ℕ × ℕ)). in_ranges l q) c.kept ∙ in_ranges-append ks c.gone q
-          ∙ inside_bool (in_ranges ks q) (in_ranges c.gone q) (in_range y q)
-          (λ here. range_holds y q (omega (arith, from, ap next_of c.parts, normal_from c.gone xs' q whole here)) (ends_by_in y.1 c.gone q ended here));
+      same = λ q. ap (λ (l : List (ℕ × ℕ)). in_ranges l q) c.kept ∙ in_ranges-append ks c.removed q
+          ∙ inside_bool (in_ranges ks q) (in_ranges c.removed q) (in_range y q)
+          (λ here. range_holds y q (omega (arith, from, ap next_of c.parts, normal_from c.removed xs' q whole here)) (ends_by_in y.1 c.removed q ended here));
     }
 
-pub met_first : (ks xs ys whole_xs whole_ys : List (ℕ × ℕ)) (f : Option (ℕ × ℕ)) → IsMeeting ks (begun f xs) ys whole_xs whole_ys → f ≡ None → (q : ℕ) → in_ranges ks q ≡ (in_ranges whole_xs q && in_ranges whole_ys q)
+pub met_first : (ks xs ys whole_xs whole_ys : List (ℕ × ℕ)) (f : Option (ℕ × ℕ)) → IsIntersectionStep ks (from_current f xs) ys whole_xs whole_ys → f ≡ None → (q : ℕ) → in_ranges ks q ≡ (in_ranges whole_xs q && in_ranges whole_ys q)
 met_first ks xs ys whole_xs whole_ys f s none q =
     sym (or_false (in_ranges ks q))
-    ∙ (λ i. in_ranges ks q || (in_ranges (begun (sym none i) xs) q && in_ranges ys q)) ∙ s.same q
+    ∙ (λ i. in_ranges ks q || (in_ranges (from_current (sym none i) xs) q && in_ranges ys q)) ∙ s.same q
 
-pub met_second : (ks xs ys whole_xs whole_ys : List (ℕ × ℕ)) (f : Option (ℕ × ℕ)) → IsMeeting ks xs (begun f ys) whole_xs whole_ys → f ≡ None → (q : ℕ) → in_ranges ks q ≡ (in_ranges whole_xs q && in_ranges whole_ys q)
+pub met_second : (ks xs ys whole_xs whole_ys : List (ℕ × ℕ)) (f : Option (ℕ × ℕ)) → IsIntersectionStep ks xs (from_current f ys) whole_xs whole_ys → f ≡ None → (q : ℕ) → in_ranges ks q ≡ (in_ranges whole_xs q && in_ranges whole_ys q)
 met_second ks xs ys whole_xs whole_ys f s none q =
     sym (or_false (in_ranges ks q))
     ∙ ap (λ k. in_ranges ks q || k) (sym (and_false (in_ranges xs q)))
-    ∙ (λ i. in_ranges ks q || (in_ranges xs q && in_ranges (begun (sym none i) ys) q)) ∙ s.same q
+    ∙ (λ i. in_ranges ks q || (in_ranges xs q && in_ranges (from_current (sym none i) ys) q)) ∙ s.same q
 
--- what is built after two ranges gave what they have in common
+-- the result after the common part of two ranges was appended
 pub common_after : (kept : List (ℕ × ℕ)) (from from' : ℕ) → EndsBelow from kept → from' ≡ from → EndsBelow from' kept
 common_after kept from from' below is = subst (λ (n : ℕ). EndsBelow n kept) (sym is) below
 

@@ -1,4 +1,4 @@
--- What one list of ranges has and another lacks, range by range.
+-- The difference of two lists of ranges, range by range.
 use Rattle.std.proofs.Common.{◌≡◌, ℕ, ◌<◌, ◌≤◌, Bool, true, false, not, ◌||◌, ◌&&◌, List, [], ◌∷◌, ◌++◌, min, refl}
 use Rattle.std.proofs.Common.{sym, ap, subst, ◌∙◌, arith, inl, inr, Option, None, Some}
 use Rattle.std.specs.Prelude.{nat_le, nat_lt}
@@ -7,8 +7,8 @@ use Rattle.std.proofs.lemmas.Bool.Decides.{nat_tests}
 use Rattle.moc_blocks.specs.RangeList.{IsNormal}
 use Rattle.moc_blocks.specs.Lemmas.Members.{in_range, in_ranges, in_ranges-append, or_false, or_assoc, and_false}
 use Rattle.moc_blocks.specs.Private.Blocks.{next_of}
-use Rattle.moc_blocks.specs.Private.Built.{EndsBelow, Carries}
-use Rattle.moc_operations.specs.Private.Walks.{begun}
+use Rattle.moc_blocks.specs.Private.Built.{EndsBelow, MovesPrefix}
+use Rattle.moc_operations.specs.Private.Walks.{from_current}
 use Rattle.moc_blocks.specs.Private.Walks.{EndsBy, Advances}
 use Rattle.moc_blocks.specs.Lemmas.Ranges.{later_only}
 use Rattle.moc_blocks.proofs.Merging.{ends_next, EndsBelow-append, EndsBelow-more}
@@ -16,7 +16,7 @@ use Rattle.moc_operations.proofs.Merging.{next_later}
 use Rattle.moc_blocks.proofs.Blocking.{IsNormal-suffix}
 use Rattle.moc_operations.proofs.Walking.{Steps, begun_is}
 
--- a range of the second list that ends before the first
+-- a range of the second list that ends before the first's begins
 past_early : (a b c d q : ℕ) (later more : Bool) → q < a → later ≡ false → (((nat_le a q && nat_lt q b) || later) && not ((nat_le c q && nat_lt q d) || more)) ≡ (((nat_le a q && nat_lt q b) || later) && not more)
 past_early a b c d q later more lt none = grind (arith, nat_tests)
 
@@ -29,7 +29,7 @@ past x y xs ys q nx le = elim (cases_lt q x.0) [
   | inr ge ↦ past_late x.0 x.1 y.0 y.1 q (in_ranges xs q) (in_ranges ys q) le ge
 ]
 
--- a range of the first list that goes on behind one of the second
+-- a range of the first list that extends past a range of the second
 trim_early : (a b c d to q : ℕ) (later more : Bool) → d < b → c < d → to ≡ min b c → q < d → later ≡ false → more ≡ false → (((nat_le a q && nat_lt q b) || later) && not ((nat_le c q && nat_lt q d) || more)) ≡ ((nat_le a q && nat_lt q to) || (((nat_le d q && nat_lt q b) || later) && not more))
 trim_early a b c d to q later more db cd is lt nl nm = grind (arith, nat_tests)
 
@@ -37,9 +37,9 @@ trim_late : (a b c d to q : ℕ) (later more : Bool) → a < d → c < d → to 
 trim_late a b c d to q later more ad cd is ge = grind (arith, nat_tests)
 
 pub trim : (x y : ℕ × ℕ) (xs ys : List (ℕ × ℕ)) (to q : ℕ) → IsNormal (x ∷ xs) → IsNormal (y ∷ ys) → x.0 < y.1 → y.1 < x.1 → to ≡ min x.1 y.0 → (in_ranges (x ∷ xs) q && not (in_ranges (y ∷ ys) q)) ≡ (in_range (x.0, to) q || (in_ranges ((y.1, x.1) ∷ xs) q && not (in_ranges ys q)))
-trim x y xs ys to q nx ny reach ends is = elim (cases_lt q y.1) [
+trim x y xs ys to q nx ny lookahead ends is = elim (cases_lt q y.1) [
   | inl lt ↦ trim_early x.0 x.1 y.0 y.1 to q (in_ranges xs q) (in_ranges ys q) ends ny.0 is lt (later_only x.1 q xs nx.3 nx.2 (omega arith)) (later_only y.1 q ys ny.3 ny.2 (omega arith))
-  | inr ge ↦ trim_late x.0 x.1 y.0 y.1 to q (in_ranges xs q) (in_ranges ys q) reach ny.0 is ge
+  | inr ge ↦ trim_late x.0 x.1 y.0 y.1 to q (in_ranges xs q) (in_ranges ys q) lookahead ny.0 is ge
 ]
 
 -- a range of the first list that ends first
@@ -49,8 +49,8 @@ gone_early a b c d to q later more bd is lt nl nm = grind (arith, nat_tests)
 gone_late : (a b c d to q : ℕ) (later more : Bool) → to ≡ min b c → b ≤ q → (((nat_le a q && nat_lt q b) || later) && not ((nat_le c q && nat_lt q d) || more)) ≡ ((nat_le a q && nat_lt q to) || (later && not ((nat_le c q && nat_lt q d) || more)))
 gone_late a b c d to q later more is ge = grind (arith, nat_tests)
 
-pub gone : (x y : ℕ × ℕ) (xs ys : List (ℕ × ℕ)) (to q : ℕ) → IsNormal (x ∷ xs) → IsNormal (y ∷ ys) → x.1 ≤ y.1 → to ≡ min x.1 y.0 → (in_ranges (x ∷ xs) q && not (in_ranges (y ∷ ys) q)) ≡ (in_range (x.0, to) q || (in_ranges xs q && not (in_ranges (y ∷ ys) q)))
-gone x y xs ys to q nx ny ends is = elim (cases_lt q x.1) [
+pub removed : (x y : ℕ × ℕ) (xs ys : List (ℕ × ℕ)) (to q : ℕ) → IsNormal (x ∷ xs) → IsNormal (y ∷ ys) → x.1 ≤ y.1 → to ≡ min x.1 y.0 → (in_ranges (x ∷ xs) q && not (in_ranges (y ∷ ys) q)) ≡ (in_range (x.0, to) q || (in_ranges xs q && not (in_ranges (y ∷ ys) q)))
+removed x y xs ys to q nx ny ends is = elim (cases_lt q x.1) [
   | inl lt ↦ gone_early x.0 x.1 y.0 y.1 to q (in_ranges xs q) (in_ranges ys q) ends is lt (later_only x.1 q xs nx.3 nx.2 (omega arith)) (later_only y.1 q ys ny.3 ny.2 (omega arith))
   | inr ge ↦ gone_late x.0 x.1 y.0 y.1 to q (in_ranges xs q) (in_ranges ys q) is ge
 ]
@@ -59,38 +59,38 @@ whole : (a b : Bool) → ((a || b) && true) ≡ (a || (b && true))
 whole true b = refl
 whole false b = refl
 
--- how far a difference has come
-pub record IsLacking (ks xs ys whole_xs whole_ys : List (ℕ × ℕ)) : Type 0 where
+-- the invariant of a difference
+pub record IsDifferenceStep (ks xs ys whole_xs whole_ys : List (ℕ × ℕ)) : Type 0 where
   pub built : IsNormal ks
   pub first_normal : IsNormal xs
   pub second_normal : IsNormal ys
   pub below : EndsBelow (next_of xs) ks
   pub same : (q : ℕ) → (in_ranges ks q || (in_ranges xs q && not (in_ranges ys q))) ≡ (in_ranges whole_xs q && not (in_ranges whole_ys q))
 
-pub lacking_begin : (ks xs ys u : List (ℕ × ℕ)) (s : Option (ℕ × ℕ)) → ks ≡ [] → IsNormal xs → IsNormal ys → Steps ys s u → IsLacking ks xs (begun s u) xs ys
+pub lacking_begin : (ks xs ys u : List (ℕ × ℕ)) (s : Option (ℕ × ℕ)) → ks ≡ [] → IsNormal xs → IsNormal ys → Steps ys s u → IsDifferenceStep ks xs (from_current s u) xs ys
 lacking_begin ks xs ys u s n nx ny su =
     let by = begun_is ys s u su in
-    let start : IsLacking [] xs ys xs ys = record {
+    let start : IsDifferenceStep [] xs ys xs ys = record {
       built = tt;
       first_normal = nx;
       second_normal = ny;
       below = tt;
       same = λ q. refl;
     } in
-    subst (λ (l : List (ℕ × ℕ)). IsLacking ks xs l xs ys) (sym by) (rw n start)
+    subst (λ (l : List (ℕ × ℕ)). IsDifferenceStep ks xs l xs ys) (sym by) (rw n start)
 
-pub lacking_trim : (ks ks' xs ys t whole_xs whole_ys : List (ℕ × ℕ)) (x y : ℕ × ℕ) (to : ℕ) (r : Option (ℕ × ℕ)) → IsLacking ks (x ∷ xs) (y ∷ ys) whole_xs whole_ys → x.0 < y.1 → y.1 < x.1 → to ≡ min x.1 y.0 → IsNormal ks' → ((f : ℕ) → x.0 ≤ f → to < f → EndsBelow f ks') → ((q : ℕ) → in_ranges ks' q ≡ (in_ranges ks q || in_range (x.0, to) q)) → Steps ys r t → IsLacking ks' ((y.1, x.1) ∷ xs) (begun r t) whole_xs whole_ys
-lacking_trim ks ks' xs ys t whole_xs whole_ys x y to r l reach ends is built below same e =
+pub lacking_trim : (ks ks' xs ys t whole_xs whole_ys : List (ℕ × ℕ)) (x y : ℕ × ℕ) (to : ℕ) (r : Option (ℕ × ℕ)) → IsDifferenceStep ks (x ∷ xs) (y ∷ ys) whole_xs whole_ys → x.0 < y.1 → y.1 < x.1 → to ≡ min x.1 y.0 → IsNormal ks' → ((f : ℕ) → x.0 ≤ f → to < f → EndsBelow f ks') → ((q : ℕ) → in_ranges ks' q ≡ (in_ranges ks q || in_range (x.0, to) q)) → Steps ys r t → IsDifferenceStep ks' ((y.1, x.1) ∷ xs) (from_current r t) whole_xs whole_ys
+lacking_trim ks ks' xs ys t whole_xs whole_ys x y to r l lookahead ends is built below same e =
     let b = begun_is ys r t e in
     let filled : y.0 < y.1 = l.second_normal.0 in
-    subst (λ (k : List (ℕ × ℕ)). IsLacking ks' ((y.1, x.1) ∷ xs) k whole_xs whole_ys) (sym b) (record {
+    subst (λ (k : List (ℕ × ℕ)). IsDifferenceStep ks' ((y.1, x.1) ∷ xs) k whole_xs whole_ys) (sym b) (record {
       built = built;
       first_normal = (ends, l.first_normal.1, l.first_normal.2, l.first_normal.3);
       second_normal = l.second_normal.3;
       below = below y.1 (omega arith) (omega (arith, is));
       same = λ q. ap (λ k. k || (in_ranges ((y.1, x.1) ∷ xs) q && not (in_ranges ys q))) (same q)
           ∙ or_assoc (in_ranges ks q) (in_range (x.0, to) q) (in_ranges ((y.1, x.1) ∷ xs) q && not (in_ranges ys q))
-          ∙ ap (λ k. in_ranges ks q || k) (sym (trim x y xs ys to q l.first_normal l.second_normal reach ends is))
+          ∙ ap (λ k. in_ranges ks q || k) (sym (trim x y xs ys to q l.first_normal l.second_normal lookahead ends is))
           ∙ l.same q;
     })
 
@@ -109,96 +109,96 @@ none_before (y ∷ ys) q normal lt =
     let later = later_only y.1 q ys normal.3 normal.2 (omega (arith, normal.0)) in
     before_one y.0 y.1 q (in_ranges ys q) lt later
 
-carried_bool : (r all ys gone xs : Bool) → (all && not ys) ≡ (gone || (xs && not ys)) → (r ≡ true → ys ≡ false) → ((r || all) && not ys) ≡ ((r || gone) || (xs && not ys))
-carried_bool true all ys gone xs rest alone = ap not (alone refl)
-carried_bool false all ys gone xs rest alone = rest
+carried_bool : (r all ys removed xs : Bool) → (all && not ys) ≡ (removed || (xs && not ys)) → (r ≡ true → ys ≡ false) → ((r || all) && not ys) ≡ ((r || removed) || (xs && not ys))
+carried_bool true all ys removed xs rest alone = ap not (alone refl)
+carried_bool false all ys removed xs rest alone = rest
 
 passed_bool : (r xs y ys all : Bool) → (xs && not (y || ys)) ≡ (all && not (y || ys)) → (r ≡ true → y ≡ true) → (xs && not (y || ys)) ≡ ((r || all) && not (y || ys))
 passed_bool false xs y ys all rest inside = rest
 passed_bool true xs true ys all rest inside = and_false xs
 passed_bool true xs false ys all rest inside = absurd (false≢true (inside refl))
 
--- blocks of the first list that end before the second's next range were carried over
-carried_has : (gone xs ys : List (ℕ × ℕ)) (q : ℕ) → IsNormal (gone ++ xs) → IsNormal ys → EndsBelow (next_of ys) gone
-    → (in_ranges (gone ++ xs) q && not (in_ranges ys q)) ≡ (in_ranges gone q || (in_ranges xs q && not (in_ranges ys q)))
+-- blocks of the first list that end before the second's next range were appended whole
+carried_has : (removed xs ys : List (ℕ × ℕ)) (q : ℕ) → IsNormal (removed ++ xs) → IsNormal ys → EndsBelow (next_of ys) removed
+    → (in_ranges (removed ++ xs) q && not (in_ranges ys q)) ≡ (in_ranges removed q || (in_ranges xs q && not (in_ranges ys q)))
 carried_has [] xs ys q normal other below = refl
-carried_has (r ∷ gone) xs ys q normal other below =
-    let rest = carried_has gone xs ys q normal.3 other below.1 in
+carried_has (r ∷ removed) xs ys q normal other below =
+    let rest = carried_has removed xs ys q normal.3 other below.1 in
     let alone : in_range r q ≡ true → in_ranges ys q ≡ false = λ here. none_before ys q other (omega (arith, below.0, (range_from r q here).1)) in
-    carried_bool (in_range r q) (in_ranges (gone ++ xs) q) (in_ranges ys q) (in_ranges gone q) (in_ranges xs q) rest alone
+    carried_bool (in_range r q) (in_ranges (removed ++ xs) q) (in_ranges ys q) (in_ranges removed q) (in_ranges xs q) rest alone
 
-pub lacking_carried : (ks ks' xs xs' ys whole_xs whole_ys : List (ℕ × ℕ)) (limit : ℕ) → IsLacking ks xs ys whole_xs whole_ys → limit ≡ next_of ys → Carries xs xs' limit ks ks' → IsLacking ks' xs' ys whole_xs whole_ys
+pub lacking_carried : (ks ks' xs xs' ys whole_xs whole_ys : List (ℕ × ℕ)) (limit : ℕ) → IsDifferenceStep ks xs ys whole_xs whole_ys → limit ≡ next_of ys → MovesPrefix xs xs' limit ks ks' → IsDifferenceStep ks' xs' ys whole_xs whole_ys
 lacking_carried ks ks' xs xs' ys whole_xs whole_ys limit l is c =
     let normal = subst IsNormal c.parts l.first_normal in
-    let later = next_later c.gone xs' normal in
+    let later = next_later c.removed xs' normal in
     record {
       built = c.built;
-      first_normal = IsNormal-suffix c.gone xs' normal;
+      first_normal = IsNormal-suffix c.removed xs' normal;
       second_normal = l.second_normal;
       below = subst (λ (k : List (ℕ × ℕ)). EndsBelow (next_of xs') k) (sym c.kept)
-          (EndsBelow-append (next_of xs') ks c.gone
-          (EndsBelow-more (next_of xs) (next_of xs') ks l.below (omega (arith, ap next_of c.parts, later))) (ends_next c.gone xs' normal));
-      same = λ q. ap (λ k. k || (in_ranges xs' q && not (in_ranges ys q))) (ap (λ (k : List (ℕ × ℕ)). in_ranges k q) c.kept ∙ in_ranges-append ks c.gone q)
-          ∙ or_assoc (in_ranges ks q) (in_ranges c.gone q) (in_ranges xs' q && not (in_ranges ys q))
+          (EndsBelow-append (next_of xs') ks c.removed
+          (EndsBelow-more (next_of xs) (next_of xs') ks l.below (omega (arith, ap next_of c.parts, later))) (ends_next c.removed xs' normal));
+      same = λ q. ap (λ k. k || (in_ranges xs' q && not (in_ranges ys q))) (ap (λ (k : List (ℕ × ℕ)). in_ranges k q) c.kept ∙ in_ranges-append ks c.removed q)
+          ∙ or_assoc (in_ranges ks q) (in_ranges c.removed q) (in_ranges xs' q && not (in_ranges ys q))
           ∙ ap (λ k. in_ranges ks q || k)
-          (sym (carried_has c.gone xs' ys q normal l.second_normal (subst (λ f. EndsBelow f c.gone) is c.below))
+          (sym (carried_has c.removed xs' ys q normal l.second_normal (subst (λ f. EndsBelow f c.removed) is c.below))
           ∙ ap (λ (k : List (ℕ × ℕ)). in_ranges k q && not (in_ranges ys q)) (sym c.parts))
           ∙ l.same q;
     }
 
--- ranges of the first list that lie in the second's next range were passed
-passed_has : (gone xs : List (ℕ × ℕ)) (y : ℕ × ℕ) (ys : List (ℕ × ℕ)) (q : ℕ) → IsNormal (gone ++ xs) → EndsBy y.1 gone → y.0 ≤ next_of (gone ++ xs)
-    → (in_ranges xs q && not (in_ranges (y ∷ ys) q)) ≡ (in_ranges (gone ++ xs) q && not (in_ranges (y ∷ ys) q))
+-- ranges of the first list that are inside the second's next range were skipped
+passed_has : (removed xs : List (ℕ × ℕ)) (y : ℕ × ℕ) (ys : List (ℕ × ℕ)) (q : ℕ) → IsNormal (removed ++ xs) → EndsBy y.1 removed → y.0 ≤ next_of (removed ++ xs)
+    → (in_ranges xs q && not (in_ranges (y ∷ ys) q)) ≡ (in_ranges (removed ++ xs) q && not (in_ranges (y ∷ ys) q))
 passed_has [] xs y ys q normal ended later = refl
-passed_has (r ∷ gone) xs y ys q normal ended later =
-    let next : r.1 < next_of (gone ++ xs) = (ends_next (r ∷ []) (gone ++ xs) normal).0 in
-    let rest = passed_has gone xs y ys q normal.3 ended.1 (omega (arith, normal.0, later, next)) in
+passed_has (r ∷ removed) xs y ys q normal ended later =
+    let next : r.1 < next_of (removed ++ xs) = (ends_next (r ∷ []) (removed ++ xs) normal).0 in
+    let rest = passed_has removed xs y ys q normal.3 ended.1 (omega (arith, normal.0, later, next)) in
     let inside : in_range r q ≡ true → in_range y q ≡ true = λ here.
     let at = range_from r q here in range_is y q (omega (arith, at.0, later)) (omega (arith, at.1, ended.0)) in
-    passed_bool (in_range r q) (in_ranges xs q) (in_range y q) (in_ranges ys q) (in_ranges (gone ++ xs) q) rest inside
+    passed_bool (in_range r q) (in_ranges xs q) (in_range y q) (in_ranges ys q) (in_ranges (removed ++ xs) q) rest inside
 
-pub lacking_passed : (ks xs ys t whole_xs whole_ys : List (ℕ × ℕ)) (y : ℕ × ℕ) (r : Option (ℕ × ℕ)) (n : ℕ) → IsLacking ks xs (y ∷ ys) whole_xs whole_ys → y.0 ≤ next_of xs → Advances y xs t r n → IsLacking ks (begun r t) (y ∷ ys) whole_xs whole_ys
+pub lacking_passed : (ks xs ys t whole_xs whole_ys : List (ℕ × ℕ)) (y : ℕ × ℕ) (r : Option (ℕ × ℕ)) (n : ℕ) → IsDifferenceStep ks xs (y ∷ ys) whole_xs whole_ys → y.0 ≤ next_of xs → Advances y xs t r n → IsDifferenceStep ks (from_current r t) (y ∷ ys) whole_xs whole_ys
 lacking_passed ks xs ys t whole_xs whole_ys y r n l from a =
     let b = begun_is a.rest r t a.step in
     let parts = a.passed.parts in
     let normal = subst IsNormal parts l.first_normal in
-    let later = next_later a.passed.gone a.rest normal in
-    subst (λ (k : List (ℕ × ℕ)). IsLacking ks k (y ∷ ys) whole_xs whole_ys) (sym b) (record {
+    let later = next_later a.passed.removed a.rest normal in
+    subst (λ (k : List (ℕ × ℕ)). IsDifferenceStep ks k (y ∷ ys) whole_xs whole_ys) (sym b) (record {
       built = l.built;
-      first_normal = IsNormal-suffix a.passed.gone a.rest normal;
+      first_normal = IsNormal-suffix a.passed.removed a.rest normal;
       second_normal = l.second_normal;
       below = EndsBelow-more (next_of xs) (next_of a.rest) ks l.below (omega (arith, ap next_of parts, later));
       same = λ q. ap (λ k. in_ranges ks q || k)
-          (passed_has a.passed.gone a.rest y ys q normal a.passed.ended (omega (arith, from, ap next_of parts))
+          (passed_has a.passed.removed a.rest y ys q normal a.passed.ended (omega (arith, from, ap next_of parts))
           ∙ ap (λ (k : List (ℕ × ℕ)). in_ranges k q && not (in_ranges (y ∷ ys) q)) (sym parts))
           ∙ l.same q;
     })
 
--- ranges of the second list that end before the first's next range were passed
-skipped_has : (gone ys : List (ℕ × ℕ)) (x : ℕ × ℕ) (xs : List (ℕ × ℕ)) (q : ℕ) → IsNormal (x ∷ xs) → EndsBy x.0 gone
-    → (in_ranges (x ∷ xs) q && not (in_ranges (gone ++ ys) q)) ≡ (in_ranges (x ∷ xs) q && not (in_ranges ys q))
+-- ranges of the second list that end before the first's next range were skipped
+skipped_has : (removed ys : List (ℕ × ℕ)) (x : ℕ × ℕ) (xs : List (ℕ × ℕ)) (q : ℕ) → IsNormal (x ∷ xs) → EndsBy x.0 removed
+    → (in_ranges (x ∷ xs) q && not (in_ranges (removed ++ ys) q)) ≡ (in_ranges (x ∷ xs) q && not (in_ranges ys q))
 skipped_has [] ys x xs q normal ended = refl
-skipped_has (y ∷ gone) ys x xs q normal ended = past x y xs (gone ++ ys) q normal ended.0 ∙ skipped_has gone ys x xs q normal ended.1
+skipped_has (y ∷ removed) ys x xs q normal ended = past x y xs (removed ++ ys) q normal ended.0 ∙ skipped_has removed ys x xs q normal ended.1
 
-pub lacking_skipped : (ks xs ys t whole_xs whole_ys : List (ℕ × ℕ)) (x y : ℕ × ℕ) (f r : Option (ℕ × ℕ)) (n : ℕ) → IsLacking ks (x ∷ xs) (y ∷ ys) whole_xs whole_ys → f ≡ Some x → y.1 ≤ x.0 → Advances (x.0, x.0) ys t r n → IsLacking ks (begun f xs) (begun r t) whole_xs whole_ys
+pub lacking_skipped : (ks xs ys t whole_xs whole_ys : List (ℕ × ℕ)) (x y : ℕ × ℕ) (f r : Option (ℕ × ℕ)) (n : ℕ) → IsDifferenceStep ks (x ∷ xs) (y ∷ ys) whole_xs whole_ys → f ≡ Some x → y.1 ≤ x.0 → Advances (x.0, x.0) ys t r n → IsDifferenceStep ks (from_current f xs) (from_current r t) whole_xs whole_ys
 lacking_skipped ks xs ys t whole_xs whole_ys x y f r n l is le a =
     let b = begun_is a.rest r t a.step in
-    let c : begun f xs ≡ x ∷ xs = ap (λ o. begun o xs) is in
+    let c : from_current f xs ≡ x ∷ xs = ap (λ o. from_current o xs) is in
     let parts = a.passed.parts in
-    subst (λ (k : List (ℕ × ℕ)). IsLacking ks k (begun r t) whole_xs whole_ys) (sym c)
-    (subst (λ (k : List (ℕ × ℕ)). IsLacking ks (x ∷ xs) k whole_xs whole_ys) (sym b) (record {
+    subst (λ (k : List (ℕ × ℕ)). IsDifferenceStep ks k (from_current r t) whole_xs whole_ys) (sym c)
+    (subst (λ (k : List (ℕ × ℕ)). IsDifferenceStep ks (x ∷ xs) k whole_xs whole_ys) (sym b) (record {
       built = l.built;
       first_normal = l.first_normal;
-      second_normal = IsNormal-suffix a.passed.gone a.rest (subst IsNormal parts l.second_normal.3);
+      second_normal = IsNormal-suffix a.passed.removed a.rest (subst IsNormal parts l.second_normal.3);
       below = l.below;
       same = λ q. ap (λ k. in_ranges ks q || k)
-          (sym (skipped_has a.passed.gone a.rest x xs q l.first_normal a.passed.ended)
+          (sym (skipped_has a.passed.removed a.rest x xs q l.first_normal a.passed.ended)
           ∙ ap (λ (k : List (ℕ × ℕ)). in_ranges (x ∷ xs) q && not (in_ranges k q)) (sym parts)
           ∙ sym (past x y xs ys q l.first_normal le)) ∙ l.same q;
     }))
 
--- the first list's next range was kept as far as it comes before the second's
-pub lacking_kept : (ks ks' xs ys whole_xs whole_ys : List (ℕ × ℕ)) (x y : ℕ × ℕ) (to : ℕ) → IsLacking ks (x ∷ xs) (y ∷ ys) whole_xs whole_ys → x.1 ≤ y.1 → to ≡ min x.1 y.0 → IsNormal ks' → ((f : ℕ) → x.0 ≤ f → to < f → EndsBelow f ks') → ((q : ℕ) → in_ranges ks' q ≡ (in_ranges ks q || in_range (x.0, to) q)) → IsLacking ks' xs (y ∷ ys) whole_xs whole_ys
+-- the part of the first list's next range before the second's was appended
+pub lacking_kept : (ks ks' xs ys whole_xs whole_ys : List (ℕ × ℕ)) (x y : ℕ × ℕ) (to : ℕ) → IsDifferenceStep ks (x ∷ xs) (y ∷ ys) whole_xs whole_ys → x.1 ≤ y.1 → to ≡ min x.1 y.0 → IsNormal ks' → ((f : ℕ) → x.0 ≤ f → to < f → EndsBelow f ks') → ((q : ℕ) → in_ranges ks' q ≡ (in_ranges ks q || in_range (x.0, to) q)) → IsDifferenceStep ks' xs (y ∷ ys) whole_xs whole_ys
 lacking_kept ks ks' xs ys whole_xs whole_ys x y to l ends is built below same =
     let next : x.1 < next_of xs = (ends_next (x ∷ []) xs l.first_normal).0 in
     let filled : x.0 < x.1 = l.first_normal.0 in
@@ -209,15 +209,15 @@ lacking_kept ks ks' xs ys whole_xs whole_ys x y to l ends is built below same =
       below = below (next_of xs) (omega arith) (omega (arith, is));
       same = λ q. ap (λ k. k || (in_ranges xs q && not (in_ranges (y ∷ ys) q))) (same q)
           ∙ or_assoc (in_ranges ks q) (in_range (x.0, to) q) (in_ranges xs q && not (in_ranges (y ∷ ys) q))
-          ∙ ap (λ k. in_ranges ks q || k) (sym (gone x y xs ys to q l.first_normal l.second_normal ends is))
+          ∙ ap (λ k. in_ranges ks q || k) (sym (removed x y xs ys to q l.first_normal l.second_normal ends is))
           ∙ l.same q;
     }
 
--- the second list has no more
-pub lacking_all : (ks ks' xs ys whole_xs whole_ys : List (ℕ × ℕ)) (x : ℕ × ℕ) (s : Option (ℕ × ℕ)) → IsLacking ks (x ∷ xs) (begun s ys) whole_xs whole_ys → s ≡ None → IsNormal ks' → ((f : ℕ) → x.0 ≤ f → x.1 < f → EndsBelow f ks') → ((q : ℕ) → in_ranges ks' q ≡ (in_ranges ks q || in_range (x.0, x.1) q)) → IsLacking ks' xs [] whole_xs whole_ys
+-- the second list has no more ranges
+pub lacking_all : (ks ks' xs ys whole_xs whole_ys : List (ℕ × ℕ)) (x : ℕ × ℕ) (s : Option (ℕ × ℕ)) → IsDifferenceStep ks (x ∷ xs) (from_current s ys) whole_xs whole_ys → s ≡ None → IsNormal ks' → ((f : ℕ) → x.0 ≤ f → x.1 < f → EndsBelow f ks') → ((q : ℕ) → in_ranges ks' q ≡ (in_ranges ks q || in_range (x.0, x.1) q)) → IsDifferenceStep ks' xs [] whole_xs whole_ys
 lacking_all ks ks' xs ys whole_xs whole_ys x s from none built below same =
-    let empty : begun s ys ≡ [] = ap (λ o. begun o ys) none in
-    let l = subst (λ (k : List (ℕ × ℕ)). IsLacking ks (x ∷ xs) k whole_xs whole_ys) empty from in
+    let empty : from_current s ys ≡ [] = ap (λ o. from_current o ys) none in
+    let l = subst (λ (k : List (ℕ × ℕ)). IsDifferenceStep ks (x ∷ xs) k whole_xs whole_ys) empty from in
     let next : x.1 < next_of xs = (ends_next (x ∷ []) xs l.first_normal).0 in
     let filled : x.0 < x.1 = l.first_normal.0 in
     record {
@@ -231,7 +231,7 @@ lacking_all ks ks' xs ys whole_xs whole_ys x s from none built below same =
           ∙ l.same q;
     }
 
-pub lacked : (ks xs ys whole_xs whole_ys : List (ℕ × ℕ)) (f : Option (ℕ × ℕ)) → IsLacking ks (begun f xs) ys whole_xs whole_ys → f ≡ None → (q : ℕ) → in_ranges ks q ≡ (in_ranges whole_xs q && not (in_ranges whole_ys q))
+pub lacked : (ks xs ys whole_xs whole_ys : List (ℕ × ℕ)) (f : Option (ℕ × ℕ)) → IsDifferenceStep ks (from_current f xs) ys whole_xs whole_ys → f ≡ None → (q : ℕ) → in_ranges ks q ≡ (in_ranges whole_xs q && not (in_ranges whole_ys q))
 lacked ks xs ys whole_xs whole_ys f s none q =
     sym (or_false (in_ranges ks q))
-    ∙ (λ i. in_ranges ks q || (in_ranges (begun (sym none i) xs) q && not (in_ranges ys q))) ∙ s.same q
+    ∙ (λ i. in_ranges ks q || (in_ranges (from_current (sym none i) xs) q && not (in_ranges ys q))) ∙ s.same q

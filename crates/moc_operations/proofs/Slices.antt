@@ -1,4 +1,4 @@
--- Two slices of ranges, while what an operation keeps of them grows.
+-- Operations on two slices of ranges, with a result that grows.
 use Rattle.std.proofs.Common.{◌≡◌, ℕ, ◌<◌, ◌≤◌, Bool, true, false, not, ◌||◌, ◌&&◌, List, [], ◌∷◌, ◌++◌, min, max}
 use Rattle.std.proofs.Common.{refl, sym, ap, subst, ◌∙◌, arith, inl, inr}
 use Rattle.std.specs.Prelude.{nat_le, nat_lt}
@@ -8,18 +8,18 @@ use Rattle.moc_blocks.specs.RangeList.{pixel_count, IsNormal, BeginsAfter}
 use Rattle.moc_blocks.specs.Lemmas.Members.{in_range, in_ranges, in_ranges-append, or_false, or_assoc, and_false}
 use Rattle.moc_blocks.specs.Private.Blocks.{next_of}
 use Rattle.moc_blocks.specs.Private.Built.{EndsBelow}
-use Rattle.moc_operations.specs.Private.Few.{IsSettled}
+use Rattle.moc_operations.specs.Private.Slices.{IsAppendedOrMerged}
 use Rattle.moc_blocks.proofs.Merging.{normal_append, ends_next, EndsBelow-append, EndsBelow-more}
 use Rattle.moc_blocks.proofs.Building.{pushed_normal}
 use Rattle.moc_operations.proofs.Walking.{and_swap}
 use Rattle.moc_operations.proofs.InCommon.{pieces}
-use Rattle.moc_operations.proofs.Lacking.{gone, trim, past}
+use Rattle.moc_operations.proofs.Lacking.{removed, trim, past}
 
--- a range that ends before another was kept
-pub settled_apart : (x y : ℕ × ℕ) (kept kept' : List (ℕ × ℕ)) → IsNormal kept → x.0 < x.1 → y.0 < y.1 → x.1 ≤ pixel_count → EndsBelow (min x.0 y.0) kept → x.1 < y.0 → kept' ≡ kept ++ x ∷ [] → IsSettled x y y kept kept'
+-- a range that ends before another was appended
+pub settled_apart : (x y : ℕ × ℕ) (kept kept' : List (ℕ × ℕ)) → IsNormal kept → x.0 < x.1 → y.0 < y.1 → x.1 ≤ pixel_count → EndsBelow (min x.0 y.0) kept → x.1 < y.0 → kept' ≡ kept ++ x ∷ [] → IsAppendedOrMerged x y y kept kept'
 settled_apart x y kept kept' normal filled other within after apart is =
     let first = EndsBelow-more (min x.0 y.0) x.0 kept after (omega arith) in
-    subst (λ (k : List (ℕ × ℕ)). IsSettled x y y kept k) (sym is) (record {
+    subst (λ (k : List (ℕ × ℕ)). IsAppendedOrMerged x y y kept k) (sym is) (record {
       normal = pushed_normal kept x normal filled within first;
       end = refl;
       filled = other;
@@ -29,29 +29,29 @@ settled_apart x y kept kept' normal filled other within after apart is =
     })
 
 both_in : (a b c d from q : ℕ) (k : Bool) → c ≤ b → b ≤ d → from ≡ min a c → (k || (nat_le from q && nat_lt q d)) ≡ (k || ((nat_le a q && nat_lt q b) || (nat_le c q && nat_lt q d)))
-both_in a b c d from q true reach ends is = refl
-both_in a b c d from q false reach ends is = grind (arith, nat_tests)
+both_in a b c d from q true lookahead ends is = refl
+both_in a b c d from q false lookahead ends is = grind (arith, nat_tests)
 
--- a range was taken into another that it touches
-pub settled_joined : (x y : ℕ × ℕ) (from : ℕ) (kept : List (ℕ × ℕ)) → IsNormal kept → x.0 < x.1 → x.1 ≤ y.1 → EndsBelow (min x.0 y.0) kept → y.0 ≤ x.1 → from ≡ min x.0 y.0 → IsSettled x y (from, y.1) kept kept
-settled_joined x y from kept normal filled ends after reach is = record {
+-- a range was merged into another that it touches
+pub settled_joined : (x y : ℕ × ℕ) (from : ℕ) (kept : List (ℕ × ℕ)) → IsNormal kept → x.0 < x.1 → x.1 ≤ y.1 → EndsBelow (min x.0 y.0) kept → y.0 ≤ x.1 → from ≡ min x.0 y.0 → IsAppendedOrMerged x y (from, y.1) kept kept
+settled_joined x y from kept normal filled ends after lookahead is = record {
   normal = normal;
   end = refl;
   filled = omega arith;
   below = λ f lt. EndsBelow-more (min x.0 y.0) (min f from) kept after (omega arith);
-  same = λ q. both_in x.0 x.1 y.0 y.1 from q (in_ranges kept q) reach ends is;
+  same = λ q. both_in x.0 x.1 y.0 y.1 from q (in_ranges kept q) lookahead ends is;
 }
 
--- how far a union of two slices has come
-pub record IsUnitingFew (kept xs ys whole_xs whole_ys : List (ℕ × ℕ)) : Type 0 where
+-- the invariant of a union of two slices
+pub record IsUnionOfSlices (kept xs ys whole_xs whole_ys : List (ℕ × ℕ)) : Type 0 where
   pub normal : IsNormal kept
   pub first_normal : IsNormal xs
   pub second_normal : IsNormal ys
   pub below : EndsBelow (min (next_of xs) (next_of ys)) kept
   pub same : (q : ℕ) → (in_ranges kept q || (in_ranges xs q || in_ranges ys q)) ≡ (in_ranges whole_xs q || in_ranges whole_ys q)
 
-pub uniting_few_start : (kept xs ys whole_xs whole_ys : List (ℕ × ℕ)) → kept ≡ [] → whole_xs ≡ xs → whole_ys ≡ ys → IsNormal whole_xs → IsNormal whole_ys → IsUnitingFew kept xs ys whole_xs whole_ys
-uniting_few_start kept xs ys whole_xs whole_ys none ex ey nx ny = subst (λ (k : List (ℕ × ℕ)). IsUnitingFew k xs ys whole_xs whole_ys) (sym none) (record {
+pub uniting_few_start : (kept xs ys whole_xs whole_ys : List (ℕ × ℕ)) → kept ≡ [] → whole_xs ≡ xs → whole_ys ≡ ys → IsNormal whole_xs → IsNormal whole_ys → IsUnionOfSlices kept xs ys whole_xs whole_ys
+uniting_few_start kept xs ys whole_xs whole_ys none ex ey nx ny = subst (λ (k : List (ℕ × ℕ)). IsUnionOfSlices k xs ys whole_xs whole_ys) (sym none) (record {
   normal = tt;
   first_normal = subst IsNormal ex nx;
   second_normal = subst IsNormal ey ny;
@@ -65,7 +65,7 @@ or_swap true false = refl
 or_swap false true = refl
 or_swap false false = refl
 
-pub uniting_few_swap : (kept xs ys whole_xs whole_ys : List (ℕ × ℕ)) → IsUnitingFew kept xs ys whole_xs whole_ys → IsUnitingFew kept ys xs whole_ys whole_xs
+pub uniting_few_swap : (kept xs ys whole_xs whole_ys : List (ℕ × ℕ)) → IsUnionOfSlices kept xs ys whole_xs whole_ys → IsUnionOfSlices kept ys xs whole_ys whole_xs
 uniting_few_swap kept xs ys whole_xs whole_ys s = record {
   normal = s.normal;
   first_normal = s.second_normal;
@@ -90,8 +90,8 @@ or_parted false false false y ys = refl
 settled_bool : (k k' x xs y ys z w : Bool) → (k' || z) ≡ (k || (x || y)) → (k || ((x || xs) || (y || ys))) ≡ w → (k' || (xs || (z || ys))) ≡ w
 settled_bool k k' x xs y ys z w e f = or_moved k' xs z ys ∙ ap (λ b. b || (xs || ys)) e ∙ or_parted k x xs y ys ∙ f
 
--- the range that ends first was settled
-pub uniting_few_settled : (kept kept' xs ys whole_xs whole_ys : List (ℕ × ℕ)) (x y z : ℕ × ℕ) → IsUnitingFew kept (x ∷ xs) (y ∷ ys) whole_xs whole_ys → IsSettled x y z kept kept' → IsUnitingFew kept' xs (z ∷ ys) whole_xs whole_ys
+-- the range that ends first was appended or merged
+pub uniting_few_settled : (kept kept' xs ys whole_xs whole_ys : List (ℕ × ℕ)) (x y z : ℕ × ℕ) → IsUnionOfSlices kept (x ∷ xs) (y ∷ ys) whole_xs whole_ys → IsAppendedOrMerged x y z kept kept' → IsUnionOfSlices kept' xs (z ∷ ys) whole_xs whole_ys
 uniting_few_settled kept kept' xs ys whole_xs whole_ys x y z s t =
     let next : x.1 < next_of xs = (ends_next (x ∷ []) xs s.first_normal).0 in
     record {
@@ -102,26 +102,26 @@ uniting_few_settled kept kept' xs ys whole_xs whole_ys x y z s t =
       same = λ q. settled_bool (in_ranges kept q) (in_ranges kept' q) (in_range x q) (in_ranges xs q) (in_range y q) (in_ranges ys q) (in_range z q) (in_ranges whole_xs q || in_ranges whole_ys q) (t.same q) (s.same q);
     }
 
--- the first slice has no more
-pub united_few_normal : (kept xs ys whole_xs whole_ys : List (ℕ × ℕ)) (y : ℕ × ℕ) → IsUnitingFew kept xs (y ∷ ys) whole_xs whole_ys → xs ≡ [] → IsNormal (kept ++ y ∷ ys)
+-- the first slice has no more ranges
+pub united_few_normal : (kept xs ys whole_xs whole_ys : List (ℕ × ℕ)) (y : ℕ × ℕ) → IsUnionOfSlices kept xs (y ∷ ys) whole_xs whole_ys → xs ≡ [] → IsNormal (kept ++ y ∷ ys)
 united_few_normal kept xs ys whole_xs whole_ys y s none =
     let filled = s.second_normal.0 in
     let within = s.second_normal.1 in
     normal_append kept (y ∷ ys) s.normal s.second_normal (EndsBelow-more (min (next_of xs) y.0) y.0 kept s.below (omega arith))
 
-pub united_few : (kept xs ys whole_xs whole_ys : List (ℕ × ℕ)) → IsUnitingFew kept xs ys whole_xs whole_ys → xs ≡ [] → (q : ℕ) → in_ranges (kept ++ ys) q ≡ (in_ranges whole_xs q || in_ranges whole_ys q)
+pub united_few : (kept xs ys whole_xs whole_ys : List (ℕ × ℕ)) → IsUnionOfSlices kept xs ys whole_xs whole_ys → xs ≡ [] → (q : ℕ) → in_ranges (kept ++ ys) q ≡ (in_ranges whole_xs q || in_ranges whole_ys q)
 united_few kept xs ys whole_xs whole_ys s none q =
     in_ranges-append kept ys q ∙ ap (λ (l : List (ℕ × ℕ)). in_ranges kept q || (in_ranges l q || in_ranges ys q)) (sym none) ∙ s.same q
 
--- how far an intersection of two slices has come
-pub record IsMeetingFew (kept xs ys whole_xs whole_ys : List (ℕ × ℕ)) : Type 0 where
+-- the invariant of an intersection of two slices
+pub record IsIntersectionOfSlices (kept xs ys whole_xs whole_ys : List (ℕ × ℕ)) : Type 0 where
   pub normal : IsNormal kept
   pub first_normal : IsNormal xs
   pub second_normal : IsNormal ys
   pub below : EndsBelow (max (next_of xs) (next_of ys)) kept
   pub same : (q : ℕ) → (in_ranges kept q || (in_ranges xs q && in_ranges ys q)) ≡ (in_ranges whole_xs q && in_ranges whole_ys q)
 
-pub meeting_few_swap : (kept xs ys whole_xs whole_ys : List (ℕ × ℕ)) → IsMeetingFew kept xs ys whole_xs whole_ys → IsMeetingFew kept ys xs whole_ys whole_xs
+pub meeting_few_swap : (kept xs ys whole_xs whole_ys : List (ℕ × ℕ)) → IsIntersectionOfSlices kept xs ys whole_xs whole_ys → IsIntersectionOfSlices kept ys xs whole_ys whole_xs
 meeting_few_swap kept xs ys whole_xs whole_ys s = record {
   normal = s.normal;
   first_normal = s.second_normal;
@@ -130,13 +130,13 @@ meeting_few_swap kept xs ys whole_xs whole_ys s = record {
   same = λ q. ap (λ k. in_ranges kept q || k) (and_swap (in_ranges ys q) (in_ranges xs q)) ∙ s.same q ∙ and_swap (in_ranges whole_xs q) (in_ranges whole_ys q);
 }
 
--- both first ranges of two slices, and what they have in common
-pub meeting_few_at : (kept xs ys xs' ys' whole_xs whole_ys : List (ℕ × ℕ)) → IsMeetingFew kept xs ys whole_xs whole_ys → xs ≡ xs' → ys ≡ ys' → IsMeetingFew kept xs' ys' whole_xs whole_ys
+-- the first ranges of both slices, and what they have in common
+pub meeting_few_at : (kept xs ys xs' ys' whole_xs whole_ys : List (ℕ × ℕ)) → IsIntersectionOfSlices kept xs ys whole_xs whole_ys → xs ≡ xs' → ys ≡ ys' → IsIntersectionOfSlices kept xs' ys' whole_xs whole_ys
 meeting_few_at kept xs ys xs' ys' whole_xs whole_ys s ex ey =
-    subst (λ (l : List (ℕ × ℕ)). IsMeetingFew kept l ys' whole_xs whole_ys) ex (subst (λ (l : List (ℕ × ℕ)). IsMeetingFew kept xs l whole_xs whole_ys) ey s)
+    subst (λ (l : List (ℕ × ℕ)). IsIntersectionOfSlices kept l ys' whole_xs whole_ys) ex (subst (λ (l : List (ℕ × ℕ)). IsIntersectionOfSlices kept xs l whole_xs whole_ys) ey s)
 
--- the range that ends first was kept as far as the other reaches
-pub meeting_few_kept : (kept kept' xs ys whole_xs whole_ys : List (ℕ × ℕ)) (x y : ℕ × ℕ) (from to : ℕ) → IsMeetingFew kept (x ∷ xs) (y ∷ ys) whole_xs whole_ys → x.1 ≤ y.1 → from ≡ max x.0 y.0 → to ≡ min x.1 y.1 → IsNormal kept' → ((f : ℕ) → from ≤ f → to < f → EndsBelow f kept') → ((q : ℕ) → in_ranges kept' q ≡ (in_ranges kept q || in_range (from, to) q)) → IsMeetingFew kept' xs (y ∷ ys) whole_xs whole_ys
+-- the common part of the range that ends first and the other range was appended
+pub meeting_few_kept : (kept kept' xs ys whole_xs whole_ys : List (ℕ × ℕ)) (x y : ℕ × ℕ) (from to : ℕ) → IsIntersectionOfSlices kept (x ∷ xs) (y ∷ ys) whole_xs whole_ys → x.1 ≤ y.1 → from ≡ max x.0 y.0 → to ≡ min x.1 y.1 → IsNormal kept' → ((f : ℕ) → from ≤ f → to < f → EndsBelow f kept') → ((q : ℕ) → in_ranges kept' q ≡ (in_ranges kept q || in_range (from, to) q)) → IsIntersectionOfSlices kept' xs (y ∷ ys) whole_xs whole_ys
 meeting_few_kept kept kept' xs ys whole_xs whole_ys x y from to s ends is_from is_to normal below same =
     let next : x.1 < next_of xs = (ends_next (x ∷ []) xs s.first_normal).0 in
     let filled : x.0 < x.1 = s.first_normal.0 in
@@ -151,25 +151,25 @@ meeting_few_kept kept kept' xs ys whole_xs whole_ys x y from to s ends is_from i
           ∙ s.same q;
     }
 
-pub met_few_first : (kept xs ys whole_xs whole_ys : List (ℕ × ℕ)) → IsMeetingFew kept xs ys whole_xs whole_ys → xs ≡ [] → (q : ℕ) → in_ranges kept q ≡ (in_ranges whole_xs q && in_ranges whole_ys q)
+pub met_few_first : (kept xs ys whole_xs whole_ys : List (ℕ × ℕ)) → IsIntersectionOfSlices kept xs ys whole_xs whole_ys → xs ≡ [] → (q : ℕ) → in_ranges kept q ≡ (in_ranges whole_xs q && in_ranges whole_ys q)
 met_few_first kept xs ys whole_xs whole_ys s none q =
     sym (or_false (in_ranges kept q)) ∙ ap (λ (l : List (ℕ × ℕ)). in_ranges kept q || (in_ranges l q && in_ranges ys q)) (sym none) ∙ s.same q
 
-pub met_few_second : (kept xs ys whole_xs whole_ys : List (ℕ × ℕ)) → IsMeetingFew kept xs ys whole_xs whole_ys → ys ≡ [] → (q : ℕ) → in_ranges kept q ≡ (in_ranges whole_xs q && in_ranges whole_ys q)
+pub met_few_second : (kept xs ys whole_xs whole_ys : List (ℕ × ℕ)) → IsIntersectionOfSlices kept xs ys whole_xs whole_ys → ys ≡ [] → (q : ℕ) → in_ranges kept q ≡ (in_ranges whole_xs q && in_ranges whole_ys q)
 met_few_second kept xs ys whole_xs whole_ys s none q =
     sym (or_false (in_ranges kept q)) ∙ ap (λ k. in_ranges kept q || k) (sym (and_false (in_ranges xs q)))
     ∙ ap (λ (l : List (ℕ × ℕ)). in_ranges kept q || (in_ranges xs q && in_ranges l q)) (sym none) ∙ s.same q
 
--- how far a difference of two slices has come
-pub record IsLackingFew (kept xs ys whole_xs whole_ys : List (ℕ × ℕ)) : Type 0 where
+-- the invariant of a difference of two slices
+pub record IsDifferenceOfSlices (kept xs ys whole_xs whole_ys : List (ℕ × ℕ)) : Type 0 where
   pub normal : IsNormal kept
   pub first_normal : IsNormal xs
   pub second_normal : IsNormal ys
   pub below : EndsBelow (next_of xs) kept
   pub same : (q : ℕ) → (in_ranges kept q || (in_ranges xs q && not (in_ranges ys q))) ≡ (in_ranges whole_xs q && not (in_ranges whole_ys q))
 
-pub lacking_few_start : (kept xs ys whole_xs : List (ℕ × ℕ)) → kept ≡ [] → whole_xs ≡ xs → IsNormal whole_xs → IsNormal ys → IsLackingFew kept xs ys whole_xs ys
-lacking_few_start kept xs ys whole_xs none is nx ny = subst (λ (k : List (ℕ × ℕ)). IsLackingFew k xs ys whole_xs ys) (sym none) (record {
+pub lacking_few_start : (kept xs ys whole_xs : List (ℕ × ℕ)) → kept ≡ [] → whole_xs ≡ xs → IsNormal whole_xs → IsNormal ys → IsDifferenceOfSlices kept xs ys whole_xs ys
+lacking_few_start kept xs ys whole_xs none is nx ny = subst (λ (k : List (ℕ × ℕ)). IsDifferenceOfSlices k xs ys whole_xs ys) (sym none) (record {
   normal = tt;
   first_normal = subst IsNormal is nx;
   second_normal = ny;
@@ -182,19 +182,19 @@ nothing_before a b c d to q k le filled is = grind (arith, nat_tests)
 
 cut : (x y : ℕ × ℕ) (xs ys : List (ℕ × ℕ)) (to from q : ℕ) → IsNormal (x ∷ xs) → IsNormal (y ∷ ys) → y.1 < x.1 → to ≡ min x.1 y.0 → from ≡ max x.0 y.1 → (in_ranges (x ∷ xs) q && not (in_ranges (y ∷ ys) q)) ≡ (in_range (x.0, to) q || (in_ranges ((from, x.1) ∷ xs) q && not (in_ranges ys q)))
 cut x y xs ys to from q nx ny ends is_to is_from = elim (cases_lt x.0 y.1) [
-  | inl reach ↦
+  | inl lookahead ↦
       let at : y.1 ≡ from = omega arith in
-      trim x y xs ys to q nx ny reach ends is_to ∙ ap (λ n. in_range (x.0, to) q || (in_ranges ((n, x.1) ∷ xs) q && not (in_ranges ys q))) at
+      trim x y xs ys to q nx ny lookahead ends is_to ∙ ap (λ n. in_range (x.0, to) q || (in_ranges ((n, x.1) ∷ xs) q && not (in_ranges ys q))) at
   | inr le ↦
       let at : x.0 ≡ from = omega arith in
       past x y xs ys q nx le ∙ nothing_before x.0 x.1 y.0 y.1 to q (in_ranges (x ∷ xs) q && not (in_ranges ys q)) le ny.0 is_to
       ∙ ap (λ n. in_range (x.0, to) q || (in_ranges ((n, x.1) ∷ xs) q && not (in_ranges ys q))) at
 ]
 
--- the first slice's next range ends last: what comes before the second's is kept, and what lies behind that is left
-pub lacking_few_cut : (kept kept' xs ys ys' whole_xs whole_ys : List (ℕ × ℕ)) (x y : ℕ × ℕ) (to from : ℕ) → IsLackingFew kept (x ∷ xs) ys whole_xs whole_ys → ys ≡ y ∷ ys' → y.1 < x.1 → to ≡ min x.1 y.0 → from ≡ max x.0 y.1 → IsNormal kept' → ((f : ℕ) → x.0 ≤ f → to < f → EndsBelow f kept') → ((q : ℕ) → in_ranges kept' q ≡ (in_ranges kept q || in_range (x.0, to) q)) → IsLackingFew kept' ((from, x.1) ∷ xs) ys' whole_xs whole_ys
+-- the first slice's next range ends last: the part before the second's was appended, and the part after it remains
+pub lacking_few_cut : (kept kept' xs ys ys' whole_xs whole_ys : List (ℕ × ℕ)) (x y : ℕ × ℕ) (to from : ℕ) → IsDifferenceOfSlices kept (x ∷ xs) ys whole_xs whole_ys → ys ≡ y ∷ ys' → y.1 < x.1 → to ≡ min x.1 y.0 → from ≡ max x.0 y.1 → IsNormal kept' → ((f : ℕ) → x.0 ≤ f → to < f → EndsBelow f kept') → ((q : ℕ) → in_ranges kept' q ≡ (in_ranges kept q || in_range (x.0, to) q)) → IsDifferenceOfSlices kept' ((from, x.1) ∷ xs) ys' whole_xs whole_ys
 lacking_few_cut kept kept' xs ys ys' whole_xs whole_ys x y to from s0 ey ends is_to is_from normal below same =
-    let s = subst (λ (l : List (ℕ × ℕ)). IsLackingFew kept (x ∷ xs) l whole_xs whole_ys) ey s0 in
+    let s = subst (λ (l : List (ℕ × ℕ)). IsDifferenceOfSlices kept (x ∷ xs) l whole_xs whole_ys) ey s0 in
     let filled : y.0 < y.1 = s.second_normal.0 in
     let begun : x.0 < x.1 = s.first_normal.0 in
     record {
@@ -208,24 +208,24 @@ lacking_few_cut kept kept' xs ys ys' whole_xs whole_ys x y to from s0 ey ends is
           ∙ s.same q;
     }
 
--- the first slice's next range ends first: what comes before the second's is kept
-pub lacking_few_kept : (kept kept' xs ys ys' whole_xs whole_ys : List (ℕ × ℕ)) (x y : ℕ × ℕ) (to : ℕ) → IsLackingFew kept (x ∷ xs) ys whole_xs whole_ys → ys ≡ y ∷ ys' → x.1 ≤ y.1 → to ≡ min x.1 y.0 → IsNormal kept' → ((f : ℕ) → x.0 ≤ f → to < f → EndsBelow f kept') → ((q : ℕ) → in_ranges kept' q ≡ (in_ranges kept q || in_range (x.0, to) q)) → IsLackingFew kept' xs ys whole_xs whole_ys
+-- the first slice's next range ends first: the part before the second's was appended
+pub lacking_few_kept : (kept kept' xs ys ys' whole_xs whole_ys : List (ℕ × ℕ)) (x y : ℕ × ℕ) (to : ℕ) → IsDifferenceOfSlices kept (x ∷ xs) ys whole_xs whole_ys → ys ≡ y ∷ ys' → x.1 ≤ y.1 → to ≡ min x.1 y.0 → IsNormal kept' → ((f : ℕ) → x.0 ≤ f → to < f → EndsBelow f kept') → ((q : ℕ) → in_ranges kept' q ≡ (in_ranges kept q || in_range (x.0, to) q)) → IsDifferenceOfSlices kept' xs ys whole_xs whole_ys
 lacking_few_kept kept kept' xs ys ys' whole_xs whole_ys x y to s0 ey ends is normal below same =
-    let s = subst (λ (l : List (ℕ × ℕ)). IsLackingFew kept (x ∷ xs) l whole_xs whole_ys) ey s0 in
+    let s = subst (λ (l : List (ℕ × ℕ)). IsDifferenceOfSlices kept (x ∷ xs) l whole_xs whole_ys) ey s0 in
     let next : x.1 < next_of xs = (ends_next (x ∷ []) xs s.first_normal).0 in
     let filled : x.0 < x.1 = s.first_normal.0 in
-    subst (λ (l : List (ℕ × ℕ)). IsLackingFew kept' xs l whole_xs whole_ys) (sym ey) (record {
+    subst (λ (l : List (ℕ × ℕ)). IsDifferenceOfSlices kept' xs l whole_xs whole_ys) (sym ey) (record {
       normal = normal;
       first_normal = s.first_normal.3;
       second_normal = s.second_normal;
       below = below (next_of xs) (omega arith) (omega arith);
       same = λ q. ap (λ k. k || (in_ranges xs q && not (in_ranges (y ∷ ys') q))) (same q)
           ∙ or_assoc (in_ranges kept q) (in_range (x.0, to) q) (in_ranges xs q && not (in_ranges (y ∷ ys') q))
-          ∙ ap (λ k. in_ranges kept q || k) (sym (gone x y xs ys' to q s.first_normal s.second_normal ends is))
+          ∙ ap (λ k. in_ranges kept q || k) (sym (removed x y xs ys' to q s.first_normal s.second_normal ends is))
           ∙ s.same q;
     })
 
-pub lacked_few : (kept xs ys whole_xs whole_ys : List (ℕ × ℕ)) → IsLackingFew kept xs ys whole_xs whole_ys → xs ≡ [] → (q : ℕ) → in_ranges kept q ≡ (in_ranges whole_xs q && not (in_ranges whole_ys q))
+pub lacked_few : (kept xs ys whole_xs whole_ys : List (ℕ × ℕ)) → IsDifferenceOfSlices kept xs ys whole_xs whole_ys → xs ≡ [] → (q : ℕ) → in_ranges kept q ≡ (in_ranges whole_xs q && not (in_ranges whole_ys q))
 lacked_few kept xs ys whole_xs whole_ys s none q =
     sym (or_false (in_ranges kept q)) ∙ ap (λ (l : List (ℕ × ℕ)). in_ranges kept q || (in_ranges l q && not (in_ranges ys q))) (sym none) ∙ s.same q
 
@@ -233,19 +233,19 @@ and_true : (a : Bool) → a ≡ (a && true)
 and_true true = refl
 and_true false = refl
 
-pub lacked_few_rest : (kept xs ys whole_xs whole_ys : List (ℕ × ℕ)) → IsLackingFew kept xs ys whole_xs whole_ys → ys ≡ [] → (q : ℕ) → in_ranges (kept ++ xs) q ≡ (in_ranges whole_xs q && not (in_ranges whole_ys q))
+pub lacked_few_rest : (kept xs ys whole_xs whole_ys : List (ℕ × ℕ)) → IsDifferenceOfSlices kept xs ys whole_xs whole_ys → ys ≡ [] → (q : ℕ) → in_ranges (kept ++ xs) q ≡ (in_ranges whole_xs q && not (in_ranges whole_ys q))
 lacked_few_rest kept xs ys whole_xs whole_ys s none q =
     in_ranges-append kept xs q ∙ ap (λ b. in_ranges kept q || b) (and_true (in_ranges xs q))
     ∙ ap (λ (l : List (ℕ × ℕ)). in_ranges kept q || (in_ranges xs q && not (in_ranges l q))) (sym none) ∙ s.same q
 
-pub lacked_few_normal : (kept xs ys whole_xs whole_ys : List (ℕ × ℕ)) → IsLackingFew kept xs ys whole_xs whole_ys → IsNormal (kept ++ xs)
+pub lacked_few_normal : (kept xs ys whole_xs whole_ys : List (ℕ × ℕ)) → IsDifferenceOfSlices kept xs ys whole_xs whole_ys → IsNormal (kept ++ xs)
 lacked_few_normal kept xs ys whole_xs whole_ys s = normal_append kept xs s.normal s.first_normal s.below
 
-pub uniting_few_at : (kept xs xs' ys whole_xs whole_ys : List (ℕ × ℕ)) → IsUnitingFew kept xs ys whole_xs whole_ys → xs ≡ xs' → IsUnitingFew kept xs' ys whole_xs whole_ys
-uniting_few_at kept xs xs' ys whole_xs whole_ys s is = subst (λ (l : List (ℕ × ℕ)). IsUnitingFew kept l ys whole_xs whole_ys) is s
+pub uniting_few_at : (kept xs xs' ys whole_xs whole_ys : List (ℕ × ℕ)) → IsUnionOfSlices kept xs ys whole_xs whole_ys → xs ≡ xs' → IsUnionOfSlices kept xs' ys whole_xs whole_ys
+uniting_few_at kept xs xs' ys whole_xs whole_ys s is = subst (λ (l : List (ℕ × ℕ)). IsUnionOfSlices kept l ys whole_xs whole_ys) is s
 
-pub lacking_few_at : (kept xs xs' ys whole_xs whole_ys : List (ℕ × ℕ)) → IsLackingFew kept xs ys whole_xs whole_ys → xs ≡ xs' → IsLackingFew kept xs' ys whole_xs whole_ys
-lacking_few_at kept xs xs' ys whole_xs whole_ys s is = subst (λ (l : List (ℕ × ℕ)). IsLackingFew kept l ys whole_xs whole_ys) is s
+pub lacking_few_at : (kept xs xs' ys whole_xs whole_ys : List (ℕ × ℕ)) → IsDifferenceOfSlices kept xs ys whole_xs whole_ys → xs ≡ xs' → IsDifferenceOfSlices kept xs' ys whole_xs whole_ys
+lacking_few_at kept xs xs' ys whole_xs whole_ys s is = subst (λ (l : List (ℕ × ℕ)). IsDifferenceOfSlices kept l ys whole_xs whole_ys) is s
 
 -- a slice without ranges
 pub none_joined : (xs ys : List (ℕ × ℕ)) → xs ≡ [] → (q : ℕ) → in_ranges ys q ≡ (in_ranges xs q || in_ranges ys q)

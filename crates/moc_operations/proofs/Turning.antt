@@ -1,12 +1,12 @@
--- Joining the ranges of two begun blocks.
+-- Merging the ranges of two blocks.
 use Rattle.std.proofs.Common.{◌≡◌, ℕ, ◌≤◌, Bool, true, false, ◌||◌, List, [], ◌∷◌, ◌++◌, refl, sym, ap, subst}
 use Rattle.std.proofs.Common.{◌∙◌, arith, append_assoc}
 use Rattle.moc_blocks.specs.RangeList.{IsNormal}
 use Rattle.moc_blocks.specs.Lemmas.Members.{in_range, in_ranges, or_assoc}
 use Rattle.moc_blocks.specs.Private.Blocks.{next_of}
-use Rattle.moc_blocks.specs.Private.Built.{Growing, ranges_of, CanJoin, BeginsBy}
-use Rattle.moc_operations.specs.Private.Taking.{IsTurn, IsJoining, TakesBoth}
-use Rattle.moc_operations.proofs.Merging.{next_later, CanJoin-more, IsUniting}
+use Rattle.moc_blocks.specs.Private.Built.{GrowingList, ranges_of, CanMerge, BeginsBy}
+use Rattle.moc_operations.specs.Private.Taking.{TakesFirst, IsMerging, MovesBoth}
+use Rattle.moc_operations.proofs.Merging.{next_later, CanMerge-more, IsUnionStep}
 use Rattle.moc_blocks.proofs.Building.{last_begins, pushed_can}
 
 or_second : (a b c : Bool) → (a || (b || c)) ≡ (b || (a || c))
@@ -14,7 +14,7 @@ or_second true true c = refl
 or_second true false c = refl
 or_second false b c = refl
 
-turn_at : (x : ℕ × ℕ) (xs ys : List (ℕ × ℕ)) → IsNormal (x ∷ xs) → IsNormal ys → x.0 ≤ next_of ys → IsTurn (x ∷ xs) ys x xs ys
+turn_at : (x : ℕ × ℕ) (xs ys : List (ℕ × ℕ)) → IsNormal (x ∷ xs) → IsNormal ys → x.0 ≤ next_of ys → TakesFirst (x ∷ xs) ys x xs ys
 turn_at x xs ys n m le =
     let later : x.0 ≤ next_of xs = next_later (x ∷ []) xs n in
     record {
@@ -29,7 +29,7 @@ turn_at x xs ys n m le =
       onward = omega arith;
     }
 
-turn_other : (y : ℕ × ℕ) (xs ys : List (ℕ × ℕ)) → IsNormal xs → IsNormal (y ∷ ys) → y.0 ≤ next_of xs → IsTurn xs (y ∷ ys) y xs ys
+turn_other : (y : ℕ × ℕ) (xs ys : List (ℕ × ℕ)) → IsNormal xs → IsNormal (y ∷ ys) → y.0 ≤ next_of xs → TakesFirst xs (y ∷ ys) y xs ys
 turn_other y xs ys n m le =
     let later : y.0 ≤ next_of ys = next_later (y ∷ []) ys m in
     record {
@@ -44,19 +44,19 @@ turn_other y xs ys n m le =
       onward = omega arith;
     }
 
-pub turn_first : (xs ys more more' bx by : List (ℕ × ℕ)) (x y : ℕ × ℕ) → xs ≡ x ∷ more → ys ≡ y ∷ more' → x.0 ≤ y.0 → IsNormal (xs ++ bx) → IsNormal (ys ++ by) → IsTurn (xs ++ bx) (ys ++ by) x (more ++ bx) (ys ++ by)
+pub turn_first : (xs ys more more' bx by : List (ℕ × ℕ)) (x y : ℕ × ℕ) → xs ≡ x ∷ more → ys ≡ y ∷ more' → x.0 ≤ y.0 → IsNormal (xs ++ bx) → IsNormal (ys ++ by) → TakesFirst (xs ++ bx) (ys ++ by) x (more ++ bx) (ys ++ by)
 turn_first xs ys more more' bx by x y ex ey le n m =
     let head : next_of (ys ++ by) ≡ y.0 = ap (λ (l : List (ℕ × ℕ)). next_of (l ++ by)) ey in
-    subst (λ (l : List (ℕ × ℕ)). IsTurn (l ++ bx) (ys ++ by) x (more ++ bx) (ys ++ by)) (sym ex)
+    subst (λ (l : List (ℕ × ℕ)). TakesFirst (l ++ bx) (ys ++ by) x (more ++ bx) (ys ++ by)) (sym ex)
     (turn_at x (more ++ bx) (ys ++ by) (subst (λ (l : List (ℕ × ℕ)). IsNormal (l ++ bx)) ex n) m (omega arith))
 
-pub turn_second : (xs ys more more' bx by : List (ℕ × ℕ)) (x y : ℕ × ℕ) → xs ≡ x ∷ more → ys ≡ y ∷ more' → y.0 ≤ x.0 → IsNormal (xs ++ bx) → IsNormal (ys ++ by) → IsTurn (xs ++ bx) (ys ++ by) y (xs ++ bx) (more' ++ by)
+pub turn_second : (xs ys more more' bx by : List (ℕ × ℕ)) (x y : ℕ × ℕ) → xs ≡ x ∷ more → ys ≡ y ∷ more' → y.0 ≤ x.0 → IsNormal (xs ++ bx) → IsNormal (ys ++ by) → TakesFirst (xs ++ bx) (ys ++ by) y (xs ++ bx) (more' ++ by)
 turn_second xs ys more more' bx by x y ex ey le n m =
     let head : next_of (xs ++ bx) ≡ x.0 = ap (λ (l : List (ℕ × ℕ)). next_of (l ++ bx)) ex in
-    subst (λ (l : List (ℕ × ℕ)). IsTurn (xs ++ bx) (l ++ by) y (xs ++ bx) (more' ++ by)) (sym ey)
+    subst (λ (l : List (ℕ × ℕ)). TakesFirst (xs ++ bx) (l ++ by) y (xs ++ bx) (more' ++ by)) (sym ey)
     (turn_other y (xs ++ bx) (more' ++ by) n (subst (λ (l : List (ℕ × ℕ)). IsNormal (l ++ by)) ey m) (omega arith))
 
-pub joining_step : (ks ks' xs xs' ys ys' whole whole_xs whole_ys : List (ℕ × ℕ)) (last last' range : ℕ × ℕ) → IsJoining ks last xs ys whole whole_xs whole_ys → IsTurn xs ys range xs' ys' → IsNormal (ks' ++ last' ∷ []) → last'.0 ≤ range.0 → ((q : ℕ) → in_ranges (ks' ++ last' ∷ []) q ≡ (in_ranges (ks ++ last ∷ []) q || in_range range q)) → IsJoining ks' last' xs' ys' whole whole_xs whole_ys
+pub joining_step : (ks ks' xs xs' ys ys' whole whole_xs whole_ys : List (ℕ × ℕ)) (last last' range : ℕ × ℕ) → IsMerging ks last xs ys whole whole_xs whole_ys → TakesFirst xs ys range xs' ys' → IsNormal (ks' ++ last' ∷ []) → last'.0 ≤ range.0 → ((q : ℕ) → in_ranges (ks' ++ last' ∷ []) q ≡ (in_ranges (ks ++ last ∷ []) q || in_range range q)) → IsMerging ks' last' xs' ys' whole whole_xs whole_ys
 joining_step ks ks' xs xs' ys ys' whole whole_xs whole_ys last last' range s t opened later same = record {
   opened = opened;
   first_normal = t.first_normal;
@@ -70,30 +70,30 @@ joining_step ks ks' xs xs' ys ys' whole whole_xs whole_ys last last' range s t o
   fewer = omega (arith, s.fewer, t.onward);
 }
 
-pub open_popped : (u u' : Growing) (last : ℕ × ℕ) → u'.closed ≡ u.closed → u.loose ≡ u'.loose ++ last ∷ [] → ranges_of u ≡ ranges_of u' ++ last ∷ []
+pub open_popped : (u u' : GrowingList) (last : ℕ × ℕ) → u'.closed ≡ u.closed → u.loose ≡ u'.loose ++ last ∷ [] → ranges_of u ≡ ranges_of u' ++ last ∷ []
 open_popped u u' last closed loose =
     (λ i. sym closed i ++ loose i) ∙ sym (append_assoc u'.closed u'.loose (last ∷ []))
 
-pub popped_open : (u u' : Growing) (last : ℕ × ℕ) → IsNormal (ranges_of u) → u'.closed ≡ u.closed → u.loose ≡ u'.loose ++ last ∷ [] → IsNormal (ranges_of u' ++ last ∷ [])
+pub popped_open : (u u' : GrowingList) (last : ℕ × ℕ) → IsNormal (ranges_of u) → u'.closed ≡ u.closed → u.loose ≡ u'.loose ++ last ∷ [] → IsNormal (ranges_of u' ++ last ∷ [])
 popped_open u u' last built closed loose = subst IsNormal (open_popped u u' last closed loose) built
 
-pub popped_later : (u u' : Growing) (last : ℕ × ℕ) (f : ℕ) → CanJoin u f → u.loose ≡ u'.loose ++ last ∷ [] → last.0 ≤ f
+pub popped_later : (u u' : GrowingList) (last : ℕ × ℕ) (f : ℕ) → CanMerge u f → u.loose ≡ u'.loose ++ last ∷ [] → last.0 ≤ f
 popped_later u u' last f can old = last_begins f u'.loose last (subst (λ (l : List (ℕ × ℕ)). BeginsBy f l) old can.begun)
 
-pub takes_both : (u u'' : Growing) (kept xs xs' ys ys' whole init : List (ℕ × ℕ)) (last : ℕ × ℕ) → IsJoining kept last xs' ys' whole xs ys → ranges_of u ≡ whole → IsNormal (ranges_of u'') → ranges_of u'' ≡ kept ++ last ∷ [] → u''.loose ≡ init ++ last ∷ [] → TakesBoth xs xs' ys ys' u u''
-takes_both u u'' kept xs xs' ys ys' whole init last s is built made end =
+pub takes_both : (u u'' : GrowingList) (kept xs xs' ys ys' whole init : List (ℕ × ℕ)) (last : ℕ × ℕ) → IsMerging kept last xs' ys' whole xs ys → ranges_of u ≡ whole → IsNormal (ranges_of u'') → ranges_of u'' ≡ kept ++ last ∷ [] → u''.loose ≡ init ++ last ∷ [] → MovesBoth xs xs' ys ys' u u''
+takes_both u u'' kept xs xs' ys ys' whole init last s is built written end =
     let can = pushed_can u'' init last built end in
     record {
       built = built;
       first_normal = s.first_normal;
       second_normal = s.second_normal;
-      can_first = CanJoin-more u'' last.0 (next_of xs') can s.first_later;
-      can_second = CanJoin-more u'' last.0 (next_of ys') can s.second_later;
-      same = λ q. ap (λ (l : List (ℕ × ℕ)). in_ranges l q || (in_ranges xs' q || in_ranges ys' q)) made ∙ s.same q ∙ ap (λ (l : List (ℕ × ℕ)). in_ranges l q || (in_ranges xs q || in_ranges ys q)) (sym is);
+      can_first = CanMerge-more u'' last.0 (next_of xs') can s.first_later;
+      can_second = CanMerge-more u'' last.0 (next_of ys') can s.second_later;
+      same = λ q. ap (λ (l : List (ℕ × ℕ)). in_ranges l q || (in_ranges xs' q || in_ranges ys' q)) written ∙ s.same q ∙ ap (λ (l : List (ℕ × ℕ)). in_ranges l q || (in_ranges xs q || in_ranges ys q)) (sym is);
       fewer = s.fewer;
     }
 
-pub uniting_both : (u u' : Growing) (xs xs' ys ys' whole_xs whole_ys : List (ℕ × ℕ)) → IsUniting u xs ys whole_xs whole_ys → TakesBoth xs xs' ys ys' u u' → IsUniting u' xs' ys' whole_xs whole_ys
+pub uniting_both : (u u' : GrowingList) (xs xs' ys ys' whole_xs whole_ys : List (ℕ × ℕ)) → IsUnionStep u xs ys whole_xs whole_ys → MovesBoth xs xs' ys ys' u u' → IsUnionStep u' xs' ys' whole_xs whole_ys
 uniting_both u u' xs xs' ys ys' whole_xs whole_ys s t = record {
   built = t.built;
   first_normal = t.first_normal;
@@ -103,9 +103,9 @@ uniting_both u u' xs xs' ys ys' whole_xs whole_ys s t = record {
   same = λ q. t.same q ∙ s.same q;
 }
 
-pub takes_as : (u u' : Growing) (xs xs' ys ys' us us' vs vs' : List (ℕ × ℕ)) → us ≡ xs → xs' ≡ us' → vs ≡ ys → ys' ≡ vs' → TakesBoth us us' vs vs' u u' → TakesBoth xs xs' ys ys' u u'
+pub takes_as : (u u' : GrowingList) (xs xs' ys ys' us us' vs vs' : List (ℕ × ℕ)) → us ≡ xs → xs' ≡ us' → vs ≡ ys → ys' ≡ vs' → MovesBoth us us' vs vs' u u' → MovesBoth xs xs' ys ys' u u'
 takes_as u u' xs xs' ys ys' us us' vs vs' a b c d t =
-    subst (λ (l : List (ℕ × ℕ)). TakesBoth l xs' ys ys' u u') a
-    (subst (λ (l : List (ℕ × ℕ)). TakesBoth us l ys ys' u u') (sym b)
-    (subst (λ (l : List (ℕ × ℕ)). TakesBoth us us' l ys' u u') c
-    (subst (λ (l : List (ℕ × ℕ)). TakesBoth us us' vs l u u') (sym d) t)))
+    subst (λ (l : List (ℕ × ℕ)). MovesBoth l xs' ys ys' u u') a
+    (subst (λ (l : List (ℕ × ℕ)). MovesBoth us l ys ys' u u') (sym b)
+    (subst (λ (l : List (ℕ × ℕ)). MovesBoth us us' l ys' u u') c
+    (subst (λ (l : List (ℕ × ℕ)). MovesBoth us us' vs l u u') (sym d) t)))

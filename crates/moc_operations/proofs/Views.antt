@@ -1,4 +1,4 @@
--- The set of a list of ranges, as contracts see it.
+-- The set of a list of ranges, as contracts state it.
 use Rattle.std.proofs.Common.{List, [], arith, true, inl, inr, not, sym, ℕ, ◌&&◌, ◌||◌, ◌<◌, ◌∙◌, ◌∷◌, ◌≡◌}
 use Rattle.std.specs.FinSet as set
 use Rattle.std.specs.Cmp.{nat_cmp_total}
@@ -21,7 +21,7 @@ first_only_view xs ys zs each = same_members _ _ (λ q.
     contains-set_of zs q ∙ each q ∙ (λ i. sym (contains-set_of xs q) i && not (sym (contains-set_of ys q) i))
     ∙ sym (set.contains-difference nat_cmp_total (set_of xs) (set_of ys) q))
 
--- nothing of a normal range list passes the last pixel
+-- no number of a normal range list is after the last pixel
 pub normal_below : (rs : List (ℕ × ℕ)) (q : ℕ) → IsNormal rs → in_ranges rs q ≡ true → q < pixel_count
 normal_below [] q normal e = absurd (cc)
 normal_below (r ∷ rs) q normal e = elim (or_cases (in_range r q) (in_ranges rs q) e) [

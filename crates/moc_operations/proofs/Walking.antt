@@ -1,4 +1,4 @@
--- Walks over two lists of ranges: what one step does to what they have in common.
+-- Comparisons of two lists of ranges: the effect of one step on what they have in common.
 use Rattle.std.proofs.Common.{◌≡◌, ℕ, ◌+◌, ◌-◌, ◌<◌, ◌≤◌, Bool, true, false, ◌&&◌, ◌||◌, List, [], ◌∷◌, ◌++◌, min, max}
 use Rattle.std.proofs.Common.{refl, sym, ap, subst, ◌∙◌, arith, inl, inr, Option, None, Some, MatchOption}
 use Rattle.std.specs.Prelude.{nat_le, nat_lt}
@@ -11,7 +11,7 @@ use Rattle.moc_blocks.specs.RangeList.{NumberSet, numbers, pixel_count, IsNormal
 use Rattle.moc_blocks.specs.Lemmas.Members.{contains-numbers, same_members, in_range, in_ranges, contains-set_of}
 use Rattle.moc_blocks.specs.Lemmas.Sizes.{len_parts}
 use Rattle.moc_blocks.specs.Lemmas.Ranges.{len_bounded, later_only, len-more}
-use Rattle.moc_operations.specs.Private.Walks.{common_of, has_all, begun}
+use Rattle.moc_operations.specs.Private.Walks.{common_of, contains_all, from_current}
 use Rattle.moc_operations.specs.Lemmas.Members.{same_truth}
 use Rattle.moc_blocks.specs.Private.Walks.{overlap_of, EndsBy, Advances}
 use Rattle.moc_blocks.proofs.Blocking.{IsNormal-suffix}
@@ -20,7 +20,7 @@ use Rattle.moc_blocks.proofs.Passing.{ends_by_more, overlap_none}
 contains_both : (xs ys : List (ℕ × ℕ)) (q : ℕ) → set.contains (set.intersection (set_of xs) (set_of ys)) q ≡ (in_ranges xs q && in_ranges ys q)
 contains_both xs ys q = set.contains-intersection nat_cmp_total (set_of xs) (set_of ys) q ∙ (λ i. contains-set_of xs q i && contains-set_of ys q i)
 
--- the numbers of the range (a, b) that are in (c, d) or later
+-- the numbers of the range (a, b) that are in (c, d) or in a later range
 inside_piece : (a b c d from n q : ℕ) (later more : Bool) → b ≤ d → from ≡ max a c → n ≡ min b d - max a c → q < b → more ≡ false → (((nat_le a q && nat_lt q b) || later) && ((nat_le c q && nat_lt q d) || more)) ≡ ((nat_le from q && nat_lt q (from + n)) || (later && ((nat_le c q && nat_lt q d) || more)))
 inside_piece a b c d from n q later more ends f w lt none = grind (arith, nat_tests)
 
@@ -30,7 +30,7 @@ outside_piece a b c d from n q later more ends f w ge = grind (arith, nat_tests)
 below_end : (b d from n q : ℕ) → b ≤ d → n ≡ min b d - from → from ≤ q → q < from + n → q < b
 below_end b d from n q ends w low high = omega arith
 
--- the range that ends first shares with the other list just what it shares with the other list's first range
+-- the range that ends first has the same numbers in common with the other list as with the other list's first range
 pub common_step : (x y : ℕ × ℕ) (xs ys : List (ℕ × ℕ)) → IsNormal (x ∷ xs) → IsNormal (y ∷ ys) → x.1 ≤ y.1 → common_of (x ∷ xs) (y ∷ ys) ≡ (min x.1 y.1 - max x.0 y.0) + common_of xs (y ∷ ys)
 common_step x y xs ys nx ny ends =
     let from : ℕ = max x.0 y.0 in
@@ -73,54 +73,54 @@ common_none_back xs ys e = common_swap xs ys ∙ common_none ys xs e
 pub common_bounded : (xs ys : List (ℕ × ℕ)) → IsNormal xs → common_of xs ys ≤ pixel_count
 common_bounded xs ys normal = omega (arith, len_parts (set_of xs) (set_of ys), len_bounded xs normal)
 
--- how far a count has come
+-- the invariant of a count
 pub record IsCounting (total : ℕ) (xs ys whole_xs whole_ys : List (ℕ × ℕ)) : Type 0 where
   pub first_normal : IsNormal xs
   pub second_normal : IsNormal ys
   pub sum : total + common_of xs ys ≡ common_of whole_xs whole_ys
 
--- how far a comparison has come
+-- the invariant of a comparison
 pub record IsHolding (xs ys whole_xs whole_ys : List (ℕ × ℕ)) : Type 0 where
   pub first_normal : IsNormal xs
   pub second_normal : IsNormal ys
-  pub same : has_all xs ys ≡ has_all whole_xs whole_ys
+  pub same : contains_all xs ys ≡ contains_all whole_xs whole_ys
 
--- two lists are one where what is left of them is
+-- two lists are equal if their rests are
 pub record AreSameFrom (xs ys whole_xs whole_ys : List (ℕ × ℕ)) : Type 0 where
   pub there : whole_xs ≡ whole_ys → xs ≡ ys
   pub back : xs ≡ ys → whole_xs ≡ whole_ys
 
--- a call of next gave r and left t of s
+-- a call of `next` returned r, and t is the rest of s
 abbrev pub Steps : List (ℕ × ℕ) → Option (ℕ × ℕ) → List (ℕ × ℕ) → Type 0
 Steps s r t = MatchOption r ((s ≡ []) × (t ≡ [])) (λ x. s ≡ x ∷ t)
 
-pub begun_is : (s : List (ℕ × ℕ)) (r : Option (ℕ × ℕ)) (t : List (ℕ × ℕ)) → Steps s r t → begun r t ≡ s
+pub begun_is : (s : List (ℕ × ℕ)) (r : Option (ℕ × ℕ)) (t : List (ℕ × ℕ)) → Steps s r t → from_current r t ≡ s
 begun_is s None t e = sym e.0
 begun_is s (Some x) t e = sym e
 
-pub at_both : (f s : Option (ℕ × ℕ)) (x y : ℕ × ℕ) (xs ys : List (ℕ × ℕ)) (P : List (ℕ × ℕ) → List (ℕ × ℕ) → Type 0) → f ≡ Some x → s ≡ Some y → P (begun f xs) (begun s ys) → P (x ∷ xs) (y ∷ ys)
+pub at_both : (f s : Option (ℕ × ℕ)) (x y : ℕ × ℕ) (xs ys : List (ℕ × ℕ)) (P : List (ℕ × ℕ) → List (ℕ × ℕ) → Type 0) → f ≡ Some x → s ≡ Some y → P (from_current f xs) (from_current s ys) → P (x ∷ xs) (y ∷ ys)
 at_both f s x y xs ys P e g p =
-    subst (λ (o : Option (ℕ × ℕ)). P (begun o xs) (y ∷ ys)) e (subst (λ (o : Option (ℕ × ℕ)). P (begun f xs) (begun o ys)) g p)
+    subst (λ (o : Option (ℕ × ℕ)). P (from_current o xs) (y ∷ ys)) e (subst (λ (o : Option (ℕ × ℕ)). P (from_current f xs) (from_current o ys)) g p)
 
--- what was passed has in common with the other list just what it has with its first range
-common_passed : (y : ℕ × ℕ) (gone rest ys : List (ℕ × ℕ)) → IsNormal (gone ++ rest) → IsNormal (y ∷ ys) → EndsBy y.1 gone → common_of (gone ++ rest) (y ∷ ys) ≡ overlap_of y gone + common_of rest (y ∷ ys)
+-- the ranges that were passed have the same numbers in common with the other list as with its first range
+common_passed : (y : ℕ × ℕ) (removed rest ys : List (ℕ × ℕ)) → IsNormal (removed ++ rest) → IsNormal (y ∷ ys) → EndsBy y.1 removed → common_of (removed ++ rest) (y ∷ ys) ≡ overlap_of y removed + common_of rest (y ∷ ys)
 common_passed y [] rest ys nx ny e = omega arith
-common_passed y (x ∷ gone) rest ys nx ny e =
-    omega (arith, common_step x y (gone ++ rest) ys nx ny e.0, common_passed y gone rest ys nx.3 ny e.1)
+common_passed y (x ∷ removed) rest ys nx ny e =
+    omega (arith, common_step x y (removed ++ rest) ys nx ny e.0, common_passed y removed rest ys nx.3 ny e.1)
 
--- what is left after an advance is normal
-pub advanced_normal : (range : ℕ × ℕ) (xs t : List (ℕ × ℕ)) (r : Option (ℕ × ℕ)) (c : ℕ) → IsNormal xs → Advances range xs t r c → IsNormal (begun r t)
-advanced_normal range xs t r c normal a = subst IsNormal (sym (begun_is a.rest r t a.step)) (IsNormal-suffix a.passed.gone a.rest (subst IsNormal a.passed.parts normal))
+-- the rest after an advance is normal
+pub advanced_normal : (range : ℕ × ℕ) (xs t : List (ℕ × ℕ)) (r : Option (ℕ × ℕ)) (c : ℕ) → IsNormal xs → Advances range xs t r c → IsNormal (from_current r t)
+advanced_normal range xs t r c normal a = subst IsNormal (sym (begun_is a.rest r t a.step)) (IsNormal-suffix a.passed.removed a.rest (subst IsNormal a.passed.parts normal))
 
-common_advanced : (y : ℕ × ℕ) (xs t ys : List (ℕ × ℕ)) (r : Option (ℕ × ℕ)) (c : ℕ) → IsNormal xs → IsNormal (y ∷ ys) → Advances y xs t r c → common_of xs (y ∷ ys) ≡ c + common_of (begun r t) (y ∷ ys)
+common_advanced : (y : ℕ × ℕ) (xs t ys : List (ℕ × ℕ)) (r : Option (ℕ × ℕ)) (c : ℕ) → IsNormal xs → IsNormal (y ∷ ys) → Advances y xs t r c → common_of xs (y ∷ ys) ≡ c + common_of (from_current r t) (y ∷ ys)
 common_advanced y xs t ys r c nx ny a =
     let n = subst IsNormal a.passed.parts nx in
-    let passed = common_passed y a.passed.gone a.rest ys n ny a.passed.ended in
+    let passed = common_passed y a.passed.removed a.rest ys n ny a.passed.ended in
     let parts = ap (λ (l : List (ℕ × ℕ)). common_of l (y ∷ ys)) a.passed.parts in
     let left = ap (λ (l : List (ℕ × ℕ)). common_of l (y ∷ ys)) (begun_is a.rest r t a.step) in
     omega (arith, passed, parts, left, a.passed.counted)
 
-pub counting_first : (total w c : ℕ) (x y : ℕ × ℕ) (xs ys t whole_xs whole_ys : List (ℕ × ℕ)) (r : Option (ℕ × ℕ)) → IsCounting total (x ∷ xs) (y ∷ ys) whole_xs whole_ys → w ≡ min x.1 y.1 - max x.0 y.0 → x.1 ≤ y.1 → Advances y xs t r c → IsCounting (total + w + c) (begun r t) (y ∷ ys) whole_xs whole_ys
+pub counting_first : (total w c : ℕ) (x y : ℕ × ℕ) (xs ys t whole_xs whole_ys : List (ℕ × ℕ)) (r : Option (ℕ × ℕ)) → IsCounting total (x ∷ xs) (y ∷ ys) whole_xs whole_ys → w ≡ min x.1 y.1 - max x.0 y.0 → x.1 ≤ y.1 → Advances y xs t r c → IsCounting (total + w + c) (from_current r t) (y ∷ ys) whole_xs whole_ys
 counting_first total w c x y xs ys t whole_xs whole_ys r s is le a = record {
   first_normal = advanced_normal y xs t r c s.first_normal.3 a;
   second_normal = s.second_normal;
@@ -134,55 +134,55 @@ counting_swap total xs ys whole_xs whole_ys s = record {
   sum = ap (λ n. total + n) (common_swap ys xs) ∙ s.sum ∙ common_swap whole_xs whole_ys;
 }
 
-pub counting_second : (total w c : ℕ) (x y : ℕ × ℕ) (xs ys t whole_xs whole_ys : List (ℕ × ℕ)) (r : Option (ℕ × ℕ)) → IsCounting total (x ∷ xs) (y ∷ ys) whole_xs whole_ys → w ≡ min x.1 y.1 - max x.0 y.0 → y.1 ≤ x.1 → Advances x ys t r c → IsCounting (total + w + c) (x ∷ xs) (begun r t) whole_xs whole_ys
+pub counting_second : (total w c : ℕ) (x y : ℕ × ℕ) (xs ys t whole_xs whole_ys : List (ℕ × ℕ)) (r : Option (ℕ × ℕ)) → IsCounting total (x ∷ xs) (y ∷ ys) whole_xs whole_ys → w ≡ min x.1 y.1 - max x.0 y.0 → y.1 ≤ x.1 → Advances x ys t r c → IsCounting (total + w + c) (x ∷ xs) (from_current r t) whole_xs whole_ys
 counting_second total w c x y xs ys t whole_xs whole_ys r s is le a =
     counting_swap _ _ _ _ _ (counting_first total w c y x ys xs t whole_ys whole_xs r (counting_swap _ _ _ _ _ s) (omega (arith, is)) le a)
 
 pub counted_within : (total : ℕ) (xs ys whole_xs whole_ys : List (ℕ × ℕ)) → IsCounting total xs ys whole_xs whole_ys → total ≤ common_of whole_xs whole_ys
 counted_within total xs ys whole_xs whole_ys s = omega (arith, s.sum)
 
--- what ends where a range begins has nothing of it
+-- ranges that end at or before the start of a range have no number of it
 pub advances_past : (y : ℕ × ℕ) (xs t : List (ℕ × ℕ)) (r : Option (ℕ × ℕ)) (n : ℕ) → y.0 ≤ y.1 → Advances (y.0, y.0) xs t r n → Advances y xs t r 0
 advances_past y xs t r n le a = record {
   rest = a.rest;
   passed = record {
-    gone = a.passed.gone;
+    removed = a.passed.removed;
     parts = a.passed.parts;
-    ended = ends_by_more y.0 y.1 a.passed.gone le a.passed.ended;
-    counted = overlap_none y a.passed.gone a.passed.ended;
+    ended = ends_by_more y.0 y.1 a.passed.removed le a.passed.ended;
+    counted = overlap_none y a.passed.removed a.passed.ended;
   };
   step = a.step;
 }
 
--- what two first ranges have in common is counted at most once
+-- the numbers that two first ranges have in common are counted at most once
 pub counting_room : (total w : ℕ) (x y : ℕ × ℕ) (xs ys whole_xs whole_ys : List (ℕ × ℕ)) → IsCounting total (x ∷ xs) (y ∷ ys) whole_xs whole_ys → w ≡ min x.1 y.1 - max x.0 y.0 → total + w ≤ common_of whole_xs whole_ys
 counting_room total w x y xs ys whole_xs whole_ys s is = elim (cases_lt y.1 x.1) [
   | inl lt ↦ omega (arith, common_step_back x y xs ys s.first_normal s.second_normal (omega arith), s.sum, is)
   | inr ge ↦ omega (arith, common_step x y xs ys s.first_normal s.second_normal ge, s.sum, is)
 ]
 
-pub counted_first : (total : ℕ) (xs ys whole_xs whole_ys : List (ℕ × ℕ)) (f : Option (ℕ × ℕ)) → IsCounting total (begun f xs) ys whole_xs whole_ys → f ≡ None → total ≡ common_of whole_xs whole_ys
+pub counted_first : (total : ℕ) (xs ys whole_xs whole_ys : List (ℕ × ℕ)) (f : Option (ℕ × ℕ)) → IsCounting total (from_current f xs) ys whole_xs whole_ys → f ≡ None → total ≡ common_of whole_xs whole_ys
 counted_first total xs ys whole_xs whole_ys f s none =
-    let e : begun f xs ≡ [] = ap (λ o. begun o xs) none in
-    omega (arith, common_none (begun f xs) ys e, s.sum)
+    let e : from_current f xs ≡ [] = ap (λ o. from_current o xs) none in
+    omega (arith, common_none (from_current f xs) ys e, s.sum)
 
-pub counted_second : (total : ℕ) (xs ys whole_xs whole_ys : List (ℕ × ℕ)) (f : Option (ℕ × ℕ)) → IsCounting total xs (begun f ys) whole_xs whole_ys → f ≡ None → total ≡ common_of whole_xs whole_ys
+pub counted_second : (total : ℕ) (xs ys whole_xs whole_ys : List (ℕ × ℕ)) (f : Option (ℕ × ℕ)) → IsCounting total xs (from_current f ys) whole_xs whole_ys → f ≡ None → total ≡ common_of whole_xs whole_ys
 counted_second total xs ys whole_xs whole_ys f s none =
-    let e : begun f ys ≡ [] = ap (λ o. begun o ys) none in
-    omega (arith, common_none_back xs (begun f ys) e, s.sum)
+    let e : from_current f ys ≡ [] = ap (λ o. from_current o ys) none in
+    omega (arith, common_none_back xs (from_current f ys) e, s.sum)
 
--- ---- one list has all of another
+-- ---- one list contains another
 
-all_in : (xs ys : List (ℕ × ℕ)) → has_all xs ys ≡ true → (q : ℕ) → in_ranges ys q ≡ true → in_ranges xs q ≡ true
+all_in : (xs ys : List (ℕ × ℕ)) → contains_all xs ys ≡ true → (q : ℕ) → in_ranges ys q ≡ true → in_ranges xs q ≡ true
 all_in xs ys all q has = sym (contains-set_of xs q) ∙ set.is_subset-contains nat_cmp_total (set_of ys) (set_of xs) all q (contains-set_of ys q ∙ has)
 
-all_from : (xs ys : List (ℕ × ℕ)) → ((q : ℕ) → in_ranges ys q ≡ true → in_ranges xs q ≡ true) → has_all xs ys ≡ true
+all_from : (xs ys : List (ℕ × ℕ)) → ((q : ℕ) → in_ranges ys q ≡ true → in_ranges xs q ≡ true) → contains_all xs ys ≡ true
 all_from xs ys each = set.contains-is_subset nat_cmp_total (set_of ys) (set_of xs) (λ q has. contains-set_of xs q ∙ each q (sym (contains-set_of ys q) ∙ has))
 
 later : (x : ℕ × ℕ) (xs : List (ℕ × ℕ)) (q : ℕ) → in_ranges xs q ≡ true → in_ranges (x ∷ xs) q ≡ true
 later x xs q has = or_right (in_range x q) (in_ranges xs q) has
 
--- a range that ends before the other list's first holds none of that
+-- a range that ends before the other list's first contains none of its numbers
 hold_past : (x y : ℕ × ℕ) (xs ys : List (ℕ × ℕ)) → IsNormal (x ∷ xs) → IsNormal (y ∷ ys) → x.1 < y.1 → ((q : ℕ) → in_ranges (y ∷ ys) q ≡ true → in_ranges (x ∷ xs) q ≡ true) → (q : ℕ) → in_ranges (y ∷ ys) q ≡ true → in_ranges xs q ≡ true
 hold_past x y xs ys nx ny lt all q has = elim (cases_lt q x.1) [
   | inl early ↦
@@ -196,7 +196,7 @@ hold_past x y xs ys nx ny lt all q has = elim (cases_lt q x.1) [
   | inr ge ↦ let here = all q has in grind (arith, nat_tests)
 ]
 
-hold_skip : (x y : ℕ × ℕ) (xs ys : List (ℕ × ℕ)) → IsNormal (x ∷ xs) → IsNormal (y ∷ ys) → x.1 < y.1 → has_all (x ∷ xs) (y ∷ ys) ≡ has_all xs (y ∷ ys)
+hold_skip : (x y : ℕ × ℕ) (xs ys : List (ℕ × ℕ)) → IsNormal (x ∷ xs) → IsNormal (y ∷ ys) → x.1 < y.1 → contains_all (x ∷ xs) (y ∷ ys) ≡ contains_all xs (y ∷ ys)
 hold_skip x y xs ys nx ny lt = same_truth _ _
     (λ all. all_from xs (y ∷ ys) (hold_past x y xs ys nx ny lt (all_in (x ∷ xs) (y ∷ ys) all)))
     (λ all. all_from (x ∷ xs) (y ∷ ys) (λ q has. later x xs q (all_in xs (y ∷ ys) all q has)))
@@ -207,7 +207,7 @@ in_both x y xs ys q ends begins rest has = elim (or_cases (in_range y q) (in_ran
   | inr more ↦ rest more
 ]
 
-hold_take : (x y : ℕ × ℕ) (xs ys : List (ℕ × ℕ)) → y.1 ≤ x.1 → x.0 ≤ y.0 → has_all (x ∷ xs) (y ∷ ys) ≡ has_all (x ∷ xs) ys
+hold_take : (x y : ℕ × ℕ) (xs ys : List (ℕ × ℕ)) → y.1 ≤ x.1 → x.0 ≤ y.0 → contains_all (x ∷ xs) (y ∷ ys) ≡ contains_all (x ∷ xs) ys
 hold_take x y xs ys ends begins = same_truth _ _
     (λ all. all_from (x ∷ xs) ys (λ q has. all_in (x ∷ xs) (y ∷ ys) all q (later y ys q has)))
     (λ all. all_from (x ∷ xs) (y ∷ ys) (λ q has. in_both x y xs ys q ends begins (all_in (x ∷ xs) ys all q) has))
@@ -218,62 +218,62 @@ first_in y ys lt = grind (arith, nat_tests)
 not_yet : (x : ℕ × ℕ) (xs : List (ℕ × ℕ)) (q : ℕ) → IsNormal (x ∷ xs) → q < x.0 → in_ranges (x ∷ xs) q ≡ false
 not_yet x xs q normal lt = let none = later_only x.1 q xs normal.3 normal.2 (omega arith) in grind (arith, nat_tests)
 
-hold_fail : (x y : ℕ × ℕ) (xs ys : List (ℕ × ℕ)) → IsNormal (x ∷ xs) → IsNormal (y ∷ ys) → y.0 < x.0 → has_all (x ∷ xs) (y ∷ ys) ≡ false
-hold_fail x y xs ys nx ny lt = false_from_ne_true (has_all (x ∷ xs) (y ∷ ys)) (λ all.
+hold_fail : (x y : ℕ × ℕ) (xs ys : List (ℕ × ℕ)) → IsNormal (x ∷ xs) → IsNormal (y ∷ ys) → y.0 < x.0 → contains_all (x ∷ xs) (y ∷ ys) ≡ false
+hold_fail x y xs ys nx ny lt = false_from_ne_true (contains_all (x ∷ xs) (y ∷ ys)) (λ all.
     let yes = all_in (x ∷ xs) (y ∷ ys) all y.0 (first_in y ys ny.0) in
     let no = not_yet x xs y.0 nx lt in
     false≢true (sym no ∙ yes))
 
-hold_none : (y : ℕ × ℕ) (ys : List (ℕ × ℕ)) → IsNormal (y ∷ ys) → has_all [] (y ∷ ys) ≡ false
-hold_none y ys ny = false_from_ne_true (has_all [] (y ∷ ys)) (λ all. false≢true (all_in [] (y ∷ ys) all y.0 (first_in y ys ny.0)))
+hold_none : (y : ℕ × ℕ) (ys : List (ℕ × ℕ)) → IsNormal (y ∷ ys) → contains_all [] (y ∷ ys) ≡ false
+hold_none y ys ny = false_from_ne_true (contains_all [] (y ∷ ys)) (λ all. false≢true (all_in [] (y ∷ ys) all y.0 (first_in y ys ny.0)))
 
-hold_skip_all : (y : ℕ × ℕ) (gone rest ys : List (ℕ × ℕ)) → IsNormal (gone ++ rest) → IsNormal (y ∷ ys) → EndsBy y.0 gone → has_all (gone ++ rest) (y ∷ ys) ≡ has_all rest (y ∷ ys)
+hold_skip_all : (y : ℕ × ℕ) (removed rest ys : List (ℕ × ℕ)) → IsNormal (removed ++ rest) → IsNormal (y ∷ ys) → EndsBy y.0 removed → contains_all (removed ++ rest) (y ∷ ys) ≡ contains_all rest (y ∷ ys)
 hold_skip_all y [] rest ys nx ny e = refl
-hold_skip_all y (x ∷ gone) rest ys nx ny e =
-    hold_skip x y (gone ++ rest) ys nx ny (omega (arith, e.0, ny.0)) ∙ hold_skip_all y gone rest ys nx.3 ny e.1
+hold_skip_all y (x ∷ removed) rest ys nx ny e =
+    hold_skip x y (removed ++ rest) ys nx ny (omega (arith, e.0, ny.0)) ∙ hold_skip_all y removed rest ys nx.3 ny e.1
 
-hold_take_all : (x : ℕ × ℕ) (b : ℕ) (xs gone rest : List (ℕ × ℕ)) → IsNormal (gone ++ rest) → BeginsAfter b (gone ++ rest) → x.0 ≤ b → EndsBy x.1 gone → has_all (x ∷ xs) (gone ++ rest) ≡ has_all (x ∷ xs) rest
+hold_take_all : (x : ℕ × ℕ) (b : ℕ) (xs removed rest : List (ℕ × ℕ)) → IsNormal (removed ++ rest) → BeginsAfter b (removed ++ rest) → x.0 ≤ b → EndsBy x.1 removed → contains_all (x ∷ xs) (removed ++ rest) ≡ contains_all (x ∷ xs) rest
 hold_take_all x b xs [] rest normal after le e = refl
-hold_take_all x b xs (y ∷ gone) rest normal after le e =
-    hold_take x y xs (gone ++ rest) e.0 (omega arith)
-    ∙ hold_take_all x y.1 xs gone rest normal.3 normal.2 (omega (arith, normal.0)) e.1
+hold_take_all x b xs (y ∷ removed) rest normal after le e =
+    hold_take x y xs (removed ++ rest) e.0 (omega arith)
+    ∙ hold_take_all x y.1 xs removed rest normal.3 normal.2 (omega (arith, normal.0)) e.1
 
-pub holding_skips : (n : ℕ) (x y : ℕ × ℕ) (xs ys t whole_xs whole_ys : List (ℕ × ℕ)) (r : Option (ℕ × ℕ)) → IsHolding (x ∷ xs) (y ∷ ys) whole_xs whole_ys → x.1 < y.1 → Advances (y.0, y.0) xs t r n → IsHolding (begun r t) (y ∷ ys) whole_xs whole_ys
+pub holding_skips : (n : ℕ) (x y : ℕ × ℕ) (xs ys t whole_xs whole_ys : List (ℕ × ℕ)) (r : Option (ℕ × ℕ)) → IsHolding (x ∷ xs) (y ∷ ys) whole_xs whole_ys → x.1 < y.1 → Advances (y.0, y.0) xs t r n → IsHolding (from_current r t) (y ∷ ys) whole_xs whole_ys
 holding_skips n x y xs ys t whole_xs whole_ys r s lt a =
     let nx = s.first_normal.3 in
     record {
       first_normal = advanced_normal (y.0, y.0) xs t r n nx a;
       second_normal = s.second_normal;
-      same = ap (λ (l : List (ℕ × ℕ)). has_all l (y ∷ ys)) (begun_is a.rest r t a.step)
-          ∙ sym (hold_skip_all y a.passed.gone a.rest ys (subst IsNormal a.passed.parts nx) s.second_normal a.passed.ended)
-          ∙ ap (λ (l : List (ℕ × ℕ)). has_all l (y ∷ ys)) (sym a.passed.parts)
+      same = ap (λ (l : List (ℕ × ℕ)). contains_all l (y ∷ ys)) (begun_is a.rest r t a.step)
+          ∙ sym (hold_skip_all y a.passed.removed a.rest ys (subst IsNormal a.passed.parts nx) s.second_normal a.passed.ended)
+          ∙ ap (λ (l : List (ℕ × ℕ)). contains_all l (y ∷ ys)) (sym a.passed.parts)
           ∙ sym (hold_skip x y xs ys s.first_normal s.second_normal lt) ∙ s.same;
     }
 
-pub holding_takes : (n : ℕ) (x y : ℕ × ℕ) (xs ys t whole_xs whole_ys : List (ℕ × ℕ)) (r : Option (ℕ × ℕ)) → IsHolding (x ∷ xs) (y ∷ ys) whole_xs whole_ys → y.1 ≤ x.1 → x.0 ≤ y.0 → Advances (x.1, x.1) ys t r n → IsHolding (x ∷ xs) (begun r t) whole_xs whole_ys
+pub holding_takes : (n : ℕ) (x y : ℕ × ℕ) (xs ys t whole_xs whole_ys : List (ℕ × ℕ)) (r : Option (ℕ × ℕ)) → IsHolding (x ∷ xs) (y ∷ ys) whole_xs whole_ys → y.1 ≤ x.1 → x.0 ≤ y.0 → Advances (x.1, x.1) ys t r n → IsHolding (x ∷ xs) (from_current r t) whole_xs whole_ys
 holding_takes n x y xs ys t whole_xs whole_ys r s ends begins a =
     let ny = s.second_normal.3 in
-    let after : BeginsAfter y.1 (a.passed.gone ++ a.rest) = subst (BeginsAfter y.1) a.passed.parts s.second_normal.2 in
+    let after : BeginsAfter y.1 (a.passed.removed ++ a.rest) = subst (BeginsAfter y.1) a.passed.parts s.second_normal.2 in
     record {
       first_normal = s.first_normal;
       second_normal = advanced_normal (x.1, x.1) ys t r n ny a;
-      same = ap (λ (l : List (ℕ × ℕ)). has_all (x ∷ xs) l) (begun_is a.rest r t a.step)
-          ∙ sym (hold_take_all x y.1 xs a.passed.gone a.rest (subst IsNormal a.passed.parts ny) after (omega (arith, begins, s.second_normal.0)) a.passed.ended)
-          ∙ ap (λ (l : List (ℕ × ℕ)). has_all (x ∷ xs) l) (sym a.passed.parts)
+      same = ap (λ (l : List (ℕ × ℕ)). contains_all (x ∷ xs) l) (begun_is a.rest r t a.step)
+          ∙ sym (hold_take_all x y.1 xs a.passed.removed a.rest (subst IsNormal a.passed.parts ny) after (omega (arith, begins, s.second_normal.0)) a.passed.ended)
+          ∙ ap (λ (l : List (ℕ × ℕ)). contains_all (x ∷ xs) l) (sym a.passed.parts)
           ∙ sym (hold_take x y xs ys ends begins) ∙ s.same;
     }
 
-pub holding_fails : (x y : ℕ × ℕ) (xs ys whole_xs whole_ys : List (ℕ × ℕ)) → IsHolding (x ∷ xs) (y ∷ ys) whole_xs whole_ys → y.0 < x.0 → false ≡ has_all whole_xs whole_ys
+pub holding_fails : (x y : ℕ × ℕ) (xs ys whole_xs whole_ys : List (ℕ × ℕ)) → IsHolding (x ∷ xs) (y ∷ ys) whole_xs whole_ys → y.0 < x.0 → false ≡ contains_all whole_xs whole_ys
 holding_fails x y xs ys whole_xs whole_ys s lt = sym (hold_fail x y xs ys s.first_normal s.second_normal lt) ∙ s.same
 
-pub holding_lacks : (f s : Option (ℕ × ℕ)) (y : ℕ × ℕ) (xs ys whole_xs whole_ys : List (ℕ × ℕ)) → IsHolding (begun f xs) (begun s ys) whole_xs whole_ys → f ≡ None → s ≡ Some y → false ≡ has_all whole_xs whole_ys
+pub holding_lacks : (f s : Option (ℕ × ℕ)) (y : ℕ × ℕ) (xs ys whole_xs whole_ys : List (ℕ × ℕ)) → IsHolding (from_current f xs) (from_current s ys) whole_xs whole_ys → f ≡ None → s ≡ Some y → false ≡ contains_all whole_xs whole_ys
 holding_lacks f s y xs ys whole_xs whole_ys h none is =
-    let normal : IsNormal (y ∷ ys) = subst (λ (o : Option (ℕ × ℕ)). IsNormal (begun o ys)) is h.second_normal in
-    sym (hold_none y ys normal) ∙ (λ i. has_all (begun (sym none i) xs) (begun (sym is i) ys)) ∙ h.same
+    let normal : IsNormal (y ∷ ys) = subst (λ (o : Option (ℕ × ℕ)). IsNormal (from_current o ys)) is h.second_normal in
+    sym (hold_none y ys normal) ∙ (λ i. contains_all (from_current (sym none i) xs) (from_current (sym is i) ys)) ∙ h.same
 
-pub holding_ends : (f s : Option (ℕ × ℕ)) (xs ys whole_xs whole_ys : List (ℕ × ℕ)) → IsHolding (begun f xs) (begun s ys) whole_xs whole_ys → s ≡ None → true ≡ has_all whole_xs whole_ys
+pub holding_ends : (f s : Option (ℕ × ℕ)) (xs ys whole_xs whole_ys : List (ℕ × ℕ)) → IsHolding (from_current f xs) (from_current s ys) whole_xs whole_ys → s ≡ None → true ≡ contains_all whole_xs whole_ys
 holding_ends f s xs ys whole_xs whole_ys h none =
-    sym (all_from (begun f xs) [] (λ q has. absurd (false≢true has))) ∙ (λ i. has_all (begun f xs) (begun (sym none i) ys)) ∙ h.same
+    sym (all_from (from_current f xs) [] (λ q has. absurd (false≢true has))) ∙ (λ i. contains_all (from_current f xs) (from_current (sym none i) ys)) ∙ h.same
 
 -- ---- the same ranges
 
@@ -283,13 +283,13 @@ shares_some w x y xs ys whole_xs whole_ys s is some = sym (lt-ltb 0 (common_of w
 pub shares_none : (n : ℕ) → 0 ≡ n → false ≡ nat_lt 0 n
 shares_none n e = ap (λ m. nat_lt 0 m) e
 
--- a range that ends by where the other begins shares nothing
-pub sharing_first : (n : ℕ) (x y : ℕ × ℕ) (xs ys t whole_xs whole_ys : List (ℕ × ℕ)) (r : Option (ℕ × ℕ)) → IsCounting 0 (x ∷ xs) (y ∷ ys) whole_xs whole_ys → x.1 ≤ y.0 → Advances (y.0, y.0) xs t r n → IsCounting 0 (begun r t) (y ∷ ys) whole_xs whole_ys
+-- a range that ends at or before the start of the other has nothing in common with it
+pub sharing_first : (n : ℕ) (x y : ℕ × ℕ) (xs ys t whole_xs whole_ys : List (ℕ × ℕ)) (r : Option (ℕ × ℕ)) → IsCounting 0 (x ∷ xs) (y ∷ ys) whole_xs whole_ys → x.1 ≤ y.0 → Advances (y.0, y.0) xs t r n → IsCounting 0 (from_current r t) (y ∷ ys) whole_xs whole_ys
 sharing_first n x y xs ys t whole_xs whole_ys r s le a =
     let filled = s.second_normal.0 in
     counting_first 0 0 0 x y xs ys t whole_xs whole_ys r s (omega arith) (omega arith) (advances_past y xs t r n (omega arith) a)
 
-pub sharing_second : (n : ℕ) (x y : ℕ × ℕ) (xs ys t whole_xs whole_ys : List (ℕ × ℕ)) (r : Option (ℕ × ℕ)) → IsCounting 0 (x ∷ xs) (y ∷ ys) whole_xs whole_ys → y.1 ≤ x.0 → Advances (x.0, x.0) ys t r n → IsCounting 0 (x ∷ xs) (begun r t) whole_xs whole_ys
+pub sharing_second : (n : ℕ) (x y : ℕ × ℕ) (xs ys t whole_xs whole_ys : List (ℕ × ℕ)) (r : Option (ℕ × ℕ)) → IsCounting 0 (x ∷ xs) (y ∷ ys) whole_xs whole_ys → y.1 ≤ x.0 → Advances (x.0, x.0) ys t r n → IsCounting 0 (x ∷ xs) (from_current r t) whole_xs whole_ys
 sharing_second n x y xs ys t whole_xs whole_ys r s le a =
     let filled = s.first_normal.0 in
     counting_second 0 0 0 x y xs ys t whole_xs whole_ys r s (omega arith) (omega arith) (advances_past x ys t r n (omega arith) a)

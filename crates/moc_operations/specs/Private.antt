@@ -1,7 +1,7 @@
--- What serves this crate and `moc_ranges` alone, which was one with it.
+-- Definitions that only this crate and `moc_ranges` use.
 pub mod Walks
-pub mod Few
+pub mod Slices
 pub mod Differing
-pub mod Crossing
+pub mod SymmetricBounds
 pub mod Meeting
 pub mod Taking

@@ -2,9 +2,9 @@
 ghost use Rattle.std.specs.Prelude.{◌≡◌, ◌≤◌, length, take};
 ghost use Rattle.moc_operations.specs.Private.Meeting.{gaps_before, end_of};
 
-use crate::meeting::Places;
+use crate::meeting::RangesByPosition;
 
-/// The gaps before the ranges of a block, where what comes before them ends at `low`.
+/// The gaps before the ranges of a block, if what precedes them ends at `low`.
 #[derive(Clone, Copy)]
 pub struct Gaps<'a> {
     pub low: u64,
@@ -12,8 +12,8 @@ pub struct Gaps<'a> {
 }
 
 impl Gaps<'_> {
-    /// Where what comes before a place ends. Read at each place, and not kept from one to the next: that would be a
-    /// branch.
+    /// Returns the end of what precedes a position. Read at each position instead of kept from one to the next, because
+    /// that would need a branch.
     #[inline(always)]
     pub fn low_at(&self, place: usize) -> u64
         requires { place ≤ length self.now.ranges.now }
@@ -27,7 +27,7 @@ impl Gaps<'_> {
 }
 
 #[tactic(auto, using(crate::proofs::GapsOf::length_gaps))]
-impl Places for Gaps<'_> {
+impl RangesByPosition for Gaps<'_> {
     ghost ranges = { λ gaps. gaps_before gaps.low gaps.ranges.now };
 
     #[inline(always)]

@@ -1,21 +1,21 @@
-//! Operations on two normal lists of ranges: what `moc_ranges` makes and asks of two sets. It serves that crate alone.
+//! Set operations on two normal lists of ranges, and comparisons of two. Only `moc_ranges` uses this crate.
 #![tactic(auto)]
 
-mod carrying;
-mod crossing;
-mod difference;
-mod few;
+mod differences;
 mod gaps;
-mod intersection;
+mod intersections;
+mod lookahead;
 mod meeting;
-mod reach;
-mod symmetric;
-mod union;
+mod sharing;
+mod slice;
+mod symmetric_bounds;
+mod symmetric_differences;
+mod unions;
 mod walks;
 
-pub use difference::subtract;
-pub use intersection::intersect;
-pub use meeting::keep_at;
-pub use symmetric::differ;
-pub use union::unite;
-pub use walks::{are_same, count_both, holds_all, share_some};
+pub use differences::difference;
+pub use intersections::intersection;
+pub use meeting::write_if_nonempty;
+pub use symmetric_differences::symmetric;
+pub use unions::union;
+pub use walks::{are_same, count_common, covers, meets};

@@ -1,26 +1,26 @@
-//! What the ranges of a block have in common with others, without a branch on where a range lies: that is hard to
-//! foretell.
+//! The intersection of the ranges of a block with other ranges. No branch depends on the positions of ranges, because
+//! it could not be predicted.
 ghost use Rattle.std.specs.Prelude.{◌≡◌, ◌+◌, ◌<◌, ◌≤◌, ◌++◌, List, ℕ, take, drop, get_or, length, nat_lt};
-ghost use Rattle.moc_operations.specs.Private.Meeting.{kept_if, CanMeet, MeetsOn};
+ghost use Rattle.moc_operations.specs.Private.Meeting.{list_if, CanIntersect, Intersects};
 
-/// How many ranges a kernel makes at most in one go: as many as two blocks have.
-pub const ROOM: usize = 256;
+/// The maximum number of ranges in the output of one call: those of two blocks.
+pub const MAX_OUTPUT: usize = 256;
 
-/// Ranges by their places.
-pub trait Places {
+/// A list of ranges that is read by position.
+pub trait RangesByPosition {
     ghost ranges: { Self → List (ℕ × ℕ) };
 
-    /// How many they are.
+    /// Returns the number of ranges.
     fn count(&self) -> usize
         ensures { result ≡ length (ranges self.now) };
 
-    /// The range at a place.
+    /// Returns the range at a position.
     fn at(&self, place: usize) -> (u64, u64)
         requires { place < length (ranges self.now) }
         ensures { result ≡ get_or (ranges self.now) place (0, 0) };
 }
 
-impl Places for &[(u64, u64)] {
+impl RangesByPosition for &[(u64, u64)] {
     ghost ranges = { λ ranges. ranges.now };
 
     #[inline(always)]
@@ -34,57 +34,62 @@ impl Places for &[(u64, u64)] {
     }
 }
 
-/// Puts a range behind those that are made, and answers how many they are: it does not count where it is empty.
+/// Writes a range after the first `written` ranges of the output, and returns the number of ranges there. An empty
+/// range is not counted.
 #[inline(always)]
-pub fn keep_at(out: &mut [(u64, u64)], made: usize, from: u64, to: u64) -> usize
-    requires { made < length out.old }
-    ensures room { length out.new ≡ length out.old }
-    ensures more { result ≤ made + 1 }
-    ensures kept { take result out.new ≡ take made out.old ++ kept_if (nat_lt from to) (from, to) }
+pub fn write_if_nonempty(out: &mut [(u64, u64)], written: usize, from: u64, to: u64) -> usize
+    requires { written < length out.old }
+    ensures capacity { length out.new ≡ length out.old }
+    ensures more { result ≤ written + 1 }
+    ensures appended { take result out.new ≡ take written out.old ++ list_if (nat_lt from to) (from, to) }
 {
-    out[made] = (from, to);
-    made + usize::from(from < to)
+    out[written] = (from, to);
+    written + usize::from(from < to)
 }
 
-/// How many ranges of either side were passed, and how many were made.
+/// The number of ranges of each side that were passed, and the number of ranges in the output.
 #[derive(Clone, Copy)]
-pub struct Met {
+pub struct IntersectionCounts {
     pub first: usize,
     pub second: usize,
-    pub made: usize,
+    pub written: usize,
 }
 
-/// Makes what ranges have in common with others, until one side has no more or there is no more room. The range
-/// that ends first is passed.
+/// Computes the intersection of ranges with others until one side has no more or the output is full. The range that
+/// ends first is passed.
 #[inline(always)]
-pub fn meet_begun<T: Places>(xs: &[(u64, u64)], others: &T, out: &mut [(u64, u64)]) -> Met
-    ensures room { length out.new ≡ length out.old }
+pub fn intersect_ranges<T: RangesByPosition>(
+    xs: &[(u64, u64)],
+    others: &T,
+    out: &mut [(u64, u64)],
+) -> IntersectionCounts
+    ensures capacity { length out.new ≡ length out.old }
     ensures first { result.first ≤ length xs.now }
     ensures second { result.second ≤ length (T.ranges others.now) }
-    ensures made { result.made ≤ length out.new }
+    ensures written { result.written ≤ length out.new }
     ensures some { 0 < length xs.now → 0 < length (T.ranges others.now) → 0 < length out.old →
         0 < result.first + result.second }
-    ensures met { (before behind_xs behind_ys : List (ℕ × ℕ)) →
-        CanMeet (xs.now ++ behind_xs) (T.ranges others.now ++ behind_ys) before →
-        MeetsOn (xs.now ++ behind_xs) (drop result.first xs.now ++ behind_xs)
-        (T.ranges others.now ++ behind_ys) (drop result.second (T.ranges others.now) ++ behind_ys)
-        before (before ++ take result.made out.new) }
+    ensures met { (before tail_xs tail_ys : List (ℕ × ℕ)) →
+        CanIntersect (xs.now ++ tail_xs) (T.ranges others.now ++ tail_ys) before →
+        Intersects (xs.now ++ tail_xs) (drop result.first xs.now ++ tail_xs)
+        (T.ranges others.now ++ tail_ys) (drop result.second (T.ranges others.now) ++ tail_ys)
+        before (before ++ take result.written out.new) }
 {
     let mut first = 0;
     let mut second = 0;
-    let mut made = 0;
+    let mut written = 0;
     let count = others.count();
-    while first < xs.len() && second < count && made < out.len() {
+    while first < xs.len() && second < count && written < out.len() {
         let x = xs[first];
         let y = others.at(second);
-        made = keep_at(out, made, x.0.max(y.0), x.1.min(y.1));
+        written = write_if_nonempty(out, written, x.0.max(y.0), x.1.min(y.1));
         let step = usize::from(x.1 <= y.1);
         first += step;
         second += 1 - step;
     }
-    Met {
+    IntersectionCounts {
         first,
         second,
-        made,
+        written,
     }
 }

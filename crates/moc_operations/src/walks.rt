@@ -1,12 +1,12 @@
-//! Walks over the ranges of two sets, which take no memory.
+//! Comparisons of two lists of ranges, which do not allocate.
 ghost use Rattle.std.specs.Prelude.{◌≡◌, ◌-◌, ◌<◌, ◌↔◌, IsTrue, nat_lt, min, max};
 ghost use Rattle.moc_blocks.specs.RangeList.{IsNormal};
-ghost use Rattle.moc_operations.specs.Private.Walks.{common_of, has_all};
+ghost use Rattle.moc_operations.specs.Private.Walks.{common_of, contains_all};
 
-use crate::reach::NEAR;
+use crate::lookahead::NEAR;
 use moc_lists::Ranges;
 
-/// How many pixels two ranges have in common.
+/// Returns the number of pixels that two ranges have in common.
 #[inline]
 fn overlap(x: (u64, u64), y: (u64, u64)) -> u64
     ensures { result ≡ min x.1 y.1 - max x.0 y.0 }
@@ -14,8 +14,8 @@ fn overlap(x: (u64, u64), y: (u64, u64)) -> u64
     x.1.min(y.1).saturating_sub(x.0.max(y.0))
 }
 
-/// How many pixels two lists of ranges have in common.
-pub fn count_both(mut xs: Ranges<'_>, mut ys: Ranges<'_>) -> u64
+/// Returns the number of pixels that two lists have in common.
+pub fn count_common(mut xs: Ranges<'_>, mut ys: Ranges<'_>) -> u64
     requires xs { IsNormal xs }
     requires ys { IsNormal ys }
     ensures { result ≡ common_of xs.entry ys.entry }
@@ -41,8 +41,8 @@ pub fn count_both(mut xs: Ranges<'_>, mut ys: Ranges<'_>) -> u64
     total
 }
 
-/// Whether two lists of ranges have a pixel in common.
-pub fn share_some(mut xs: Ranges<'_>, mut ys: Ranges<'_>) -> bool
+/// Returns whether two lists have a pixel in common.
+pub fn meets(mut xs: Ranges<'_>, mut ys: Ranges<'_>) -> bool
     requires xs { IsNormal xs }
     requires ys { IsNormal ys }
     ensures { result ≡ nat_lt 0 (common_of xs.entry ys.entry) }
@@ -54,9 +54,9 @@ pub fn share_some(mut xs: Ranges<'_>, mut ys: Ranges<'_>) -> bool
             return false;
         };
         if x.1 <= y.0 {
-            first = xs.next_past(y.0, NEAR);
+            first = xs.next_ending_after(y.0, NEAR);
         } else if y.1 <= x.0 {
-            second = ys.next_past(x.0, NEAR);
+            second = ys.next_ending_after(x.0, NEAR);
         } else {
             return true;
         }
@@ -64,11 +64,11 @@ pub fn share_some(mut xs: Ranges<'_>, mut ys: Ranges<'_>) -> bool
     false
 }
 
-/// Whether the first list of ranges has every pixel of the second.
-pub fn holds_all(mut xs: Ranges<'_>, mut ys: Ranges<'_>) -> bool
+/// Returns whether the first list contains every pixel of the second.
+pub fn covers(mut xs: Ranges<'_>, mut ys: Ranges<'_>) -> bool
     requires xs { IsNormal xs }
     requires ys { IsNormal ys }
-    ensures { result ≡ has_all xs.entry ys.entry }
+    ensures { result ≡ contains_all xs.entry ys.entry }
 {
     let mut first = xs.next();
     let mut second = ys.next();
@@ -80,15 +80,15 @@ pub fn holds_all(mut xs: Ranges<'_>, mut ys: Ranges<'_>) -> bool
             return false;
         }
         if x.1 < y.1 {
-            first = xs.next_past(y.0, NEAR);
+            first = xs.next_ending_after(y.0, NEAR);
         } else {
-            second = ys.next_past(x.1, NEAR);
+            second = ys.next_ending_after(x.1, NEAR);
         }
     }
     true
 }
 
-/// Whether two lists have the same ranges.
+/// Returns whether two lists have the same ranges.
 pub fn are_same(mut xs: Ranges<'_>, mut ys: Ranges<'_>) -> bool
     ensures { IsTrue result ↔ (xs.entry ≡ ys.entry) }
 {

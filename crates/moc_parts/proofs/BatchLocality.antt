@@ -1,6 +1,6 @@
--- A batch is local.
+-- Batches are local.
 use Rattle.std.proofs.Common.{◌≡◌, ℕ, ◌/◌, ◌<◌, true, false, inl, inr, List, [], ◌∷◌, refl, sym, ap, subst, ◌∙◌, length, arith}
-use Rattle.moc_parts.specs.Prepared.{AreRepliesTo, IsToldBy}
+use Rattle.moc_parts.specs.Prepared.{AreRepliesTo, IsDeterminedBy}
 use Rattle.std.specs.FinSet as set
 use Rattle.std.proofs.lemmas.Bool.{cases_Bool}
 use Rattle.moc_lists.specs.RangeList.{NumberSet}
@@ -14,7 +14,7 @@ use Rattle.moc_parts.specs.Batches.{batches, footprint_of_all, set_after_all, re
 use Rattle.moc_parts.proofs.Members.{or_left, or_right, clash, not_true_false, same_test, in_part, of_part}
 use Rattle.moc_parts.proofs.Locality.{command_local}
 
--- after one command two sets agree where they did
+-- after one command, two sets still agree in the footprint of the batch
 agree_after : (c : Command) (cs : List Command) (a b : NumberSet) → IsLocal commands c → IsWithin a pixels → IsWithin b pixels
     → AgreeOn (footprint_of_all (c ∷ cs)) a b → AgreeOn (footprint_of_all (c ∷ cs)) (set_after a c) (set_after b c)
 agree_after c cs a b local v w same p f = elim (cases_Bool (footprint c (base_pixel p))) [
@@ -64,36 +64,36 @@ batch_local c cs each =
       stays = λ a v. stays_within (c ∷ cs) a each v;
     }
 
--- what was found in the footprint tells the replies
-pub found_replies : (cs : List Command) (a b : NumberSet) → AreCommands cs → IsWithin a pixels → IsWithin b pixels → AgreeOn (footprint_of_all cs) a b → replies_on a cs ≡ replies_on b cs
-found_replies = replies_alike
+-- the content of the footprint determines the replies
+pub previous_replies : (cs : List Command) (a b : NumberSet) → AreCommands cs → IsWithin a pixels → IsWithin b pixels → AgreeOn (footprint_of_all cs) a b → replies_on a cs ≡ replies_on b cs
+previous_replies = replies_alike
 
--- and the new parts of the footprint
-pub found_parts : (cs : List Command) (a b : NumberSet) → AreCommands cs → IsWithin a pixels → IsWithin b pixels → AgreeOn (footprint_of_all cs) a b
+-- the content of the footprint determines its new content
+pub previous_parts : (cs : List Command) (a b : NumberSet) → AreCommands cs → IsWithin a pixels → IsWithin b pixels → AgreeOn (footprint_of_all cs) a b
     → (n : ℕ) → footprint_of_all cs n ≡ true → part_of (set_after_all a cs) n ≡ part_of (set_after_all b cs) n
 unfolding base_pixel
-found_parts cs a b each v w same n f = same_members _ _ (λ p. same_test _ _
+previous_parts cs a b each v w same n f = same_members _ _ (λ p. same_test _ _
     (λ h. let k = of_part (set_after_all a cs) n p h in in_part (set_after_all b cs) n p (sym (alike p k.1) ∙ k.0) k.1)
     (λ h. let k = of_part (set_after_all b cs) n p h in in_part (set_after_all a cs) n p (alike p k.1 ∙ k.0) k.1))
   where
     alike : (p : ℕ) → p / base_pixel_size ≡ n → set.contains (set_after_all a cs) p ≡ set.contains (set_after_all b cs) p
     alike p e = let g : footprint_of_all cs (base_pixel p) ≡ true = ap (footprint_of_all cs) e ∙ f in sets_alike cs a b each v w p (same p g) same
 
--- the replies to what was found are those to every set that agrees with it
-pub replied : (cs : List Command) (found made : NumberSet) (replies : List Reply) → AreCommands cs → IsWithin made pixels → made ≡ found → replies ≡ replies_on made cs → AreRepliesTo cs found replies
-replied cs found made replies each w e r a v same =
-    r ∙ ap (λ t. replies_on t cs) e ∙ found_replies cs found a each (subst (λ t. IsWithin t pixels) e w) v same
+-- the replies computed from the given content are those on every set that agrees with it
+pub replied : (cs : List Command) (previous made : NumberSet) (replies : List Reply) → AreCommands cs → IsWithin made pixels → made ≡ previous → replies ≡ replies_on made cs → AreRepliesTo cs previous replies
+replied cs previous made replies each w e r a v same =
+    r ∙ ap (λ t. replies_on t cs) e ∙ previous_replies cs previous a each (subst (λ t. IsWithin t pixels) e w) v same
 
--- what was found tells all of the batch
-pub told : (cs : List Command) (found made : NumberSet) (replies : List Reply) → AreCommands cs → IsWithin made pixels → made ≡ found → replies ≡ replies_on made cs → IsToldBy cs found replies
-told cs found made replies each w e r = record {
-  replied = replied cs found made replies each w e r;
-  inside = λ a v same b f. found_parts cs found a each (subst (λ t. IsWithin t pixels) e w) v same b f;
+-- the given content determines the whole batch
+pub determined : (cs : List Command) (previous made : NumberSet) (replies : List Reply) → AreCommands cs → IsWithin made pixels → made ≡ previous → replies ≡ replies_on made cs → IsDeterminedBy cs previous replies
+determined cs previous made replies each w e r = record {
+  replied = replied cs previous made replies each w e r;
+  inside = λ a v same b f. previous_parts cs previous a each (subst (λ t. IsWithin t pixels) e w) v same b f;
   outside = λ a v q f. untouched cs a each v q f;
   stays = λ a v. stays_within cs a each v;
 }
 
--- a batch takes a part
+-- the footprint of a batch is not empty
 pub some_part : (cs : List Command) → 0 < length cs → AreCommands cs → (b : ℕ) × (b < 12) × (footprint_of_all cs b ≡ true)
 some_part [] some each = absurd (omega arith)
 some_part (c ∷ cs) some each = (batch_local c cs each).some

@@ -1,4 +1,4 @@
--- What the replies count.
+-- The counts in the replies.
 use Rattle.std.proofs.Common.{◌≡◌, ℕ, ◌-◌, ◌<◌, ◌≤◌, ◌/◌, ◌&&◌, true, false, nat_lt, nat_eq, cond, inl, inr, refl, sym, ap, ◌∙◌, arith, lt-ltb, eqb-true}
 use Rattle.std.specs.Ordering.{nat_cmp}
 use Rattle.std.proofs.lemmas.Bool.{cases_Bool}
@@ -11,9 +11,9 @@ use Rattle.moc_ranges.specs.Operations.{pixels, base_pixel_size, IsWithin, meets
 use Rattle.moc_ranges.specs.Cells.{degrade}
 use Rattle.moc_lists.specs.Lemmas.Sizes.{len_parts}
 use Rattle.moc_parts.proofs.Members.{has-intersection, and_true, both, same_test}
-use Rattle.moc_parts.proofs.Coarse.{to_degrade}
+use Rattle.moc_parts.proofs.DegradingParts.{to_degrade}
 
--- a set is in its degraded set
+-- a set is a subset of its degraded set
 pub in_degrade : (a : NumberSet) (order : ℕ) → IsWithin a pixels → (q : ℕ) → set.contains a q ≡ true → set.contains (degrade a order) q ≡ true
 in_degrade a order w q h = let in_q = sym (contains-pixels q) ∙ w.each q h in to_degrade a order q q in_q in_q h refl
 
@@ -38,7 +38,7 @@ pub meets_no_common : (a s : NumberSet) (n : ℕ) → n ≡ set.len (set.interse
 unfolding meets
 meets_no_common a s n e l = let z : n ≡ 0 = omega arith in ap (λ m. nat_lt 0 m) (sym e ∙ z)
 
--- the parts that a set meets, by the tests that the program makes
+-- the parts in which a set has pixels, by the tests of the program
 pub parts_met_empty : (a : NumberSet) (b : ℕ) → a ≡ set.empty → parts_met a b ≡ nat_eq b 0
 parts_met_empty a b e = ap (λ (n : ℕ). cond (nat_eq n 0) (nat_eq b 0) (nat_lt 0 (set.len (part_of a b)))) (ap set.len e ∙ set.len-empty nat_cmp)
 
@@ -48,7 +48,7 @@ parts_met_some a b not_empty = elim (cases_Bool (nat_eq (set.len a) 0)) [
   | inr f ↦ ap (λ t. cond t (nat_eq b 0) (nat_lt 0 (set.len (part_of a b)))) f
 ]
 
--- a part that is not met has nothing of the set
+-- a set has no pixel in a part outside `parts_met`
 pub not_met : (a : NumberSet) (b : ℕ) → parts_met a b ≡ false → nat_lt 0 (set.len (part_of a b)) ≡ false
 not_met a b none = elim (cases_Bool (nat_eq (set.len a) 0)) [
   | inl t ↦

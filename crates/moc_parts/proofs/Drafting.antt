@@ -1,4 +1,4 @@
--- The lists of a draft, one of them made anew.
+-- The lists of a draft after one of them is replaced.
 use Rattle.std.proofs.Common.{◌≡◌, ℕ, zero, suc, ◌+◌, ◌/◌, ◌<◌, ◌≤◌, Bool, true, false, not, ◌&&◌, ◌||◌, List, [], ◌∷◌, Option, None, Some, is_some, length, map, get_or, replicate, take, nat_lt, nat_eq, inl, inr, refl, sym, ap, subst, ◌∙◌, arith}
 use Rattle.std.specs.Prelude.{set as set_at}
 use Rattle.std.specs.Borrow.{Bor}
@@ -13,64 +13,64 @@ use Rattle.moc_ranges.specs.Lemmas.Members.{contains-part_of, contains-pixels}
 use Rattle.moc_ranges.specs.Lemmas.{is_pixel}
 use Rattle.moc_ranges.specs.Operations.{pixels, base_pixel_size, part_of, IsWithin}
 use Rattle.moc_parts.specs.declared.change.Change.{Change}
-use Rattle.moc_parts.specs.Private.Changes.{changed, changed_part, IsChange}
+use Rattle.moc_parts.specs.Private.Changes.{set_after_change, changed_part, IsChange}
 use Rattle.moc_parts.specs.Parts.{union_of, parts_below}
 use Rattle.moc_parts.specs.Private.Drafts.{current_lists, sets_of, with_part, AreParts}
-use Rattle.moc_parts.specs.Prepared.{found_in}
+use Rattle.moc_parts.specs.Prepared.{content_or_empty}
 use Rattle.moc_parts.proofs.Members.{has-union, has-difference, and_true, or_true}
-use Rattle.moc_parts.proofs.PartLaw.{part_law}
+use Rattle.moc_parts.proofs.PartTheorem.{part_theorem}
 use Rattle.moc_parts.proofs.Twelve.{first_parts, has-first_parts, length-parts_below, get-parts_below, parts_length, get-parts, within_base}
 
 -- ---- lists
 
-pub length-current_lists : (found : List NumberSet) (made : List (Option NumberSet)) → length (current_lists found made) ≡ length found
+pub length-current_lists : (previous : List NumberSet) (made : List (Option NumberSet)) → length (current_lists previous made) ≡ length previous
 length-current_lists [] made = refl
-length-current_lists (part ∷ found) [] = ap suc (length-current_lists found [])
-length-current_lists (part ∷ found) (new ∷ made) = ap suc (length-current_lists found made)
+length-current_lists (part ∷ previous) [] = ap suc (length-current_lists previous [])
+length-current_lists (part ∷ previous) (new ∷ made) = ap suc (length-current_lists previous made)
 
-pub current_lists-no : (found : List NumberSet) → current_lists found [] ≡ found
+pub current_lists-no : (previous : List NumberSet) → current_lists previous [] ≡ previous
 current_lists-no [] = refl
-current_lists-no (part ∷ found) = ap (λ parts. part ∷ parts) (current_lists-no found)
+current_lists-no (part ∷ previous) = ap (λ parts. part ∷ parts) (current_lists-no previous)
 
--- where nothing was made, the lists are those found
-pub current_lists-none : (found : List NumberSet) (n : ℕ) → current_lists found (replicate n None) ≡ found
+-- if no list was replaced, the current lists are the original ones
+pub current_lists-none : (previous : List NumberSet) (n : ℕ) → current_lists previous (replicate n None) ≡ previous
 current_lists-none [] n = refl
-current_lists-none (part ∷ found) zero = current_lists-no (part ∷ found)
-current_lists-none (part ∷ found) (suc n) = ap (λ parts. part ∷ parts) (current_lists-none found n)
+current_lists-none (part ∷ previous) zero = current_lists-no (part ∷ previous)
+current_lists-none (part ∷ previous) (suc n) = ap (λ parts. part ∷ parts) (current_lists-none previous n)
 
-pub get-current_lists : (found : List NumberSet) (made : List (Option NumberSet)) (b : ℕ) (d : NumberSet) (e : Option NumberSet) → b < length found → b < length made → get_or (current_lists found made) b d ≡ unwrap_or (get_or made b e) (get_or found b d)
+pub get-current_lists : (previous : List NumberSet) (made : List (Option NumberSet)) (b : ℕ) (d : NumberSet) (e : Option NumberSet) → b < length previous → b < length made → get_or (current_lists previous made) b d ≡ unwrap_or (get_or made b e) (get_or previous b d)
 get-current_lists [] made b d e l m = absurd (omega arith)
-get-current_lists (part ∷ found) [] b d e l m = absurd (omega arith)
-get-current_lists (part ∷ found) (new ∷ made) zero d e l m = refl
-get-current_lists (part ∷ found) (new ∷ made) (suc b) d e l m = get-current_lists found made b d e (omega arith) (omega arith)
+get-current_lists (part ∷ previous) [] b d e l m = absurd (omega arith)
+get-current_lists (part ∷ previous) (new ∷ made) zero d e l m = refl
+get-current_lists (part ∷ previous) (new ∷ made) (suc b) d e l m = get-current_lists previous made b d e (omega arith) (omega arith)
 
-pub set-current_lists : (found : List NumberSet) (made : List (Option NumberSet)) (b : ℕ) (part : NumberSet) → b < length found → b < length made → current_lists found (set_at made b (Some part)) ≡ set_at (current_lists found made) b part
+pub set-current_lists : (previous : List NumberSet) (made : List (Option NumberSet)) (b : ℕ) (part : NumberSet) → b < length previous → b < length made → current_lists previous (set_at made b (Some part)) ≡ set_at (current_lists previous made) b part
 set-current_lists [] made b part l m = absurd (omega arith)
-set-current_lists (one ∷ found) [] b part l m = absurd (omega arith)
-set-current_lists (one ∷ found) (new ∷ made) zero part l m = refl
-set-current_lists (one ∷ found) (new ∷ made) (suc b) part l m = ap (λ parts. unwrap_or new one ∷ parts) (set-current_lists found made b part (omega arith) (omega arith))
+set-current_lists (one ∷ previous) [] b part l m = absurd (omega arith)
+set-current_lists (one ∷ previous) (new ∷ made) zero part l m = refl
+set-current_lists (one ∷ previous) (new ∷ made) (suc b) part l m = ap (λ parts. unwrap_or new one ∷ parts) (set-current_lists previous made b part (omega arith) (omega arith))
 
--- the next list is put into its place, or passed over
-pub current_lists-put : (found : List NumberSet) (made : List (Option NumberSet)) (b : ℕ) (part : NumberSet) → b < length found → b < length made → get_or made b None ≡ Some part → current_lists found (take (suc b) made) ≡ set_at (current_lists found (take b made)) b part
+-- one more list is replaced or left
+pub current_lists-put : (previous : List NumberSet) (made : List (Option NumberSet)) (b : ℕ) (part : NumberSet) → b < length previous → b < length made → get_or made b None ≡ Some part → current_lists previous (take (suc b) made) ≡ set_at (current_lists previous (take b made)) b part
 current_lists-put [] made b part l m e = absurd (omega arith)
-current_lists-put (one ∷ found) [] b part l m e = absurd (omega arith)
-current_lists-put (one ∷ found) (new ∷ made) zero part l m e = ap (λ o. unwrap_or o one ∷ current_lists found []) e
-current_lists-put (one ∷ found) (new ∷ made) (suc b) part l m e = ap (λ parts. unwrap_or new one ∷ parts) (current_lists-put found made b part (omega arith) (omega arith) e)
+current_lists-put (one ∷ previous) [] b part l m e = absurd (omega arith)
+current_lists-put (one ∷ previous) (new ∷ made) zero part l m e = ap (λ o. unwrap_or o one ∷ current_lists previous []) e
+current_lists-put (one ∷ previous) (new ∷ made) (suc b) part l m e = ap (λ parts. unwrap_or new one ∷ parts) (current_lists-put previous made b part (omega arith) (omega arith) e)
 
-pub current_lists-pass : (found : List NumberSet) (made : List (Option NumberSet)) (b : ℕ) → b < length found → b < length made → get_or made b None ≡ None → current_lists found (take (suc b) made) ≡ current_lists found (take b made)
+pub current_lists-pass : (previous : List NumberSet) (made : List (Option NumberSet)) (b : ℕ) → b < length previous → b < length made → get_or made b None ≡ None → current_lists previous (take (suc b) made) ≡ current_lists previous (take b made)
 current_lists-pass [] made b l m e = absurd (omega arith)
-current_lists-pass (one ∷ found) [] b l m e = absurd (omega arith)
-current_lists-pass (one ∷ found) (new ∷ made) zero l m e = ap (λ o. unwrap_or o one ∷ current_lists found []) e
-current_lists-pass (one ∷ found) (new ∷ made) (suc b) l m e = ap (λ parts. unwrap_or new one ∷ parts) (current_lists-pass found made b (omega arith) (omega arith) e)
+current_lists-pass (one ∷ previous) [] b l m e = absurd (omega arith)
+current_lists-pass (one ∷ previous) (new ∷ made) zero l m e = ap (λ o. unwrap_or o one ∷ current_lists previous []) e
+current_lists-pass (one ∷ previous) (new ∷ made) (suc b) l m e = ap (λ parts. unwrap_or new one ∷ parts) (current_lists-pass previous made b (omega arith) (omega arith) e)
 
--- ---- a set whose part b is another
+-- ---- a set whose part b is replaced
 
 has-with_part : (a : NumberSet) (b : ℕ) (part : NumberSet) (q : ℕ) → set.contains (with_part a b part) q ≡ ((set.contains a q && not (nat_eq (q / base_pixel_size) b)) || set.contains part q)
 unfolding with_part
 has-with_part a b part q = has-union (set.retain a (λ p. not (nat_eq (p / base_pixel_size) b))) part q
     ∙ ap (λ t. t || set.contains part q) (contains-kept a (λ p. not (nat_eq (p / base_pixel_size) b)) q)
 
--- the pixels of a set that lies in part b are there
+-- the pixels of a set that is within part b are in base pixel b
 has-lying : (part : NumberSet) (b q : ℕ) → part_of part b ≡ part → set.contains part q ≡ (set.contains part q && nat_eq (q / base_pixel_size) b)
 has-lying part b q lies = ap (λ c. set.contains c q) (sym lies) ∙ contains-part_of part b q
 
@@ -115,65 +115,65 @@ set-parts a b part l lies =
           ∙ sym (part-with_other a b part k other lies) ∙ sym (get-parts_below (with_part a b part) 12 k set.empty small)
     ])
 
--- ---- what was found
+-- ---- original lists
 
--- the first places have their lists, as f sees them
+-- the first n elements are the given sets, seen through f
 abbrev pub IsFilled : {X : Type 0} → (X → NumberSet) → List NumberSet → List X → ℕ → Type 0
-IsFilled f lists found b = (length found ≡ 12) × ((k : ℕ) → k < b → get_or (map f found) k set.empty ≡ get_or lists k set.empty)
+IsFilled f lists previous b = (length previous ≡ 12) × ((k : ℕ) → k < b → get_or (map f previous) k set.empty ≡ get_or lists k set.empty)
 
-pub filled_next : {X : Type 0} (f : X → NumberSet) (lists : List NumberSet) (found : List X) (b : ℕ) (list : X) → b < 12 → f list ≡ get_or lists b set.empty
-    → IsFilled f lists found b → IsFilled f lists (set_at found b list) (b + 1)
-filled_next f lists found b list l is below =
-    let many : length (set_at found b list) ≡ 12 = length-set found b list ∙ below.0 in
-    let here : (k : ℕ) → k < 12 → get_or (map f (set_at found b list)) k set.empty ≡ f (get_or (set_at found b list) k list) =
-    λ k lt. get_or-map f (set_at found b list) k list set.empty (subst (λ n. k < n) (sym many) lt) in (
+pub filled_next : {X : Type 0} (f : X → NumberSet) (lists : List NumberSet) (previous : List X) (b : ℕ) (list : X) → b < 12 → f list ≡ get_or lists b set.empty
+    → IsFilled f lists previous b → IsFilled f lists (set_at previous b list) (b + 1)
+filled_next f lists previous b list l is below =
+    let many : length (set_at previous b list) ≡ 12 = length-set previous b list ∙ below.0 in
+    let here : (k : ℕ) → k < 12 → get_or (map f (set_at previous b list)) k set.empty ≡ f (get_or (set_at previous b list) k list) =
+    λ k lt. get_or-map f (set_at previous b list) k list set.empty (subst (λ n. k < n) (sym many) lt) in (
       many,
       λ k lt. elim (cases_lt k b) [
         | inl before ↦
-            here k (omega arith) ∙ ap f (get_or-set_other found b k list list (λ e. omega arith))
-            ∙ sym (get_or-map f found k list set.empty (subst (λ n. k < n) (sym below.0) (omega arith))) ∙ below.1 k before
+            here k (omega arith) ∙ ap f (get_or-set_other previous b k list list (λ e. omega arith))
+            ∙ sym (get_or-map f previous k list set.empty (subst (λ n. k < n) (sym below.0) (omega arith))) ∙ below.1 k before
         | inr past ↦
             let at : k ≡ b = omega arith in
-            here k (omega arith) ∙ ap (λ n. f (get_or (set_at found b list) n list)) at
-            ∙ ap f (get_or-set_same found b list list (subst (λ n. b < n) (sym below.0) l)) ∙ is ∙ ap (λ n. get_or lists n set.empty) (sym at)
+            here k (omega arith) ∙ ap (λ n. f (get_or (set_at previous b list) n list)) at
+            ∙ ap f (get_or-set_same previous b list list (subst (λ n. b < n) (sym below.0) l)) ∙ is ∙ ap (λ n. get_or lists n set.empty) (sym at)
       ],
     )
 
-pub filled_all : {X : Type 0} (f : X → NumberSet) (lists : List NumberSet) (found : List X) (b : ℕ) → length lists ≡ 12 → 12 ≤ b → IsFilled f lists found b → map f found ≡ lists
-filled_all f lists found b twelve all filled =
-    let many : length (map f found) ≡ 12 = length-map found f ∙ filled.0 in
-    ext_get_or set.empty (map f found) lists (many ∙ sym twelve) (λ k lt. let small : k < 12 = subst (λ n. k < n) many lt in filled.1 k (omega arith))
+pub filled_all : {X : Type 0} (f : X → NumberSet) (lists : List NumberSet) (previous : List X) (b : ℕ) → length lists ≡ 12 → 12 ≤ b → IsFilled f lists previous b → map f previous ≡ lists
+filled_all f lists previous b twelve all filled =
+    let many : length (map f previous) ≡ 12 = length-map previous f ∙ filled.0 in
+    ext_get_or set.empty (map f previous) lists (many ∙ sym twelve) (λ k lt. let small : k < 12 = subst (λ n. k < n) many lt in filled.1 k (omega arith))
 
--- what was found in a part, or else nothing
-pub found_of : (part : Option (Bor NumberSet)) (nothing : Bor NumberSet) → nothing.now ≡ set.empty → (unwrap_or part nothing).now ≡ found_in (option_copied part)
-found_of None nothing e = e
-found_of (Some list) nothing e = refl
+-- the content of a part, or the empty set
+pub content_of : (part : Option (Bor NumberSet)) (no_pixels : Bor NumberSet) → no_pixels.now ≡ set.empty → (unwrap_or part no_pixels).now ≡ content_or_empty (option_copied part)
+content_of None no_pixels e = e
+content_of (Some list) no_pixels e = refl
 
--- the list that was made, or else the one that was found
-pub copied_or : (list : Option (Bor NumberSet)) (found : Bor NumberSet) → (unwrap_or list found).now ≡ unwrap_or (option_copied list) found.now
-copied_or None found = refl
-copied_or (Some list) found = refl
+-- the replaced list, or otherwise the original list
+pub copied_or : (list : Option (Bor NumberSet)) (previous : Bor NumberSet) → (unwrap_or list previous).now ≡ unwrap_or (option_copied list) previous.now
+copied_or None previous = refl
+copied_or (Some list) previous = refl
 
 -- ---- a draft
 
-pub found_twelve : (found : List NumberSet) (made : List (Option NumberSet)) → AreParts (current_lists found made) → length found ≡ 12
-found_twelve found made e = sym (length-current_lists found made) ∙ parts_length (current_lists found made) e
+pub previous_twelve : (previous : List NumberSet) (made : List (Option NumberSet)) → AreParts (current_lists previous made) → length previous ≡ 12
+previous_twelve previous made e = sym (length-current_lists previous made) ∙ parts_length (current_lists previous made) e
 
 -- the list of one part
-pub current_part : (found : List NumberSet) (made : List (Option NumberSet)) (b : ℕ) (d : NumberSet) (e : Option NumberSet) → AreParts (current_lists found made) → length made ≡ 12 → b < 12 → unwrap_or (get_or made b e) (get_or found b d) ≡ part_of (union_of (current_lists found made)) b
-current_part found made b d e are twelve l =
-    sym (get-current_lists found made b d e (subst (λ n. b < n) (sym (found_twelve found made are)) l) (subst (λ n. b < n) (sym twelve) l)) ∙ get-parts (current_lists found made) b d are l
+pub current_part : (previous : List NumberSet) (made : List (Option NumberSet)) (b : ℕ) (d : NumberSet) (e : Option NumberSet) → AreParts (current_lists previous made) → length made ≡ 12 → b < 12 → unwrap_or (get_or made b e) (get_or previous b d) ≡ part_of (union_of (current_lists previous made)) b
+current_part previous made b d e are twelve l =
+    sym (get-current_lists previous made b d e (subst (λ n. b < n) (sym (previous_twelve previous made are)) l) (subst (λ n. b < n) (sym twelve) l)) ∙ get-parts (current_lists previous made) b d are l
 
--- of each part the list that was made, or else what was found, is that part of the set
+-- for each part, the replacement or otherwise the original is that part of the set
 pub changed_part_is : (sets : List NumberSet) (made : List (Option NumberSet)) (after : NumberSet) (b : ℕ) → AreParts sets → length made ≡ 12 → current_lists sets made ≡ parts_below after 12 → b < 12
     → unwrap_or (get_or made b None) (part_of (union_of sets) b) ≡ part_of after b
 changed_part_is sets made after b are twelve lists l =
-    let found : get_or sets b set.empty ≡ part_of (union_of sets) b = ap (λ s. get_or s b set.empty) are ∙ get-parts_below (union_of sets) 12 b set.empty l in
-    ap (λ d. unwrap_or (get_or made b None) d) (sym found)
+    let previous : get_or sets b set.empty ≡ part_of (union_of sets) b = ap (λ s. get_or s b set.empty) are ∙ get-parts_below (union_of sets) 12 b set.empty l in
+    ap (λ d. unwrap_or (get_or made b None) d) (sym previous)
     ∙ sym (get-current_lists sets made b set.empty None (subst (λ n. b < n) (sym (parts_length sets are)) l) (subst (λ n. b < n) (sym twelve) l))
     ∙ ap (λ s. get_or s b set.empty) lists ∙ get-parts_below after 12 b set.empty l
 
--- the lists below b are what they should be, and the others as they were
+-- the lists below b have their final values, and the others are unchanged
 abbrev pub AreDoneBelow : List (Option NumberSet) → List (Option NumberSet) → (ℕ → Option NumberSet) → ℕ → Type 0
 AreDoneBelow made lists is b =
     (length lists ≡ 12) × ((k : ℕ) → k < b → get_or lists k None ≡ is k) × ((k : ℕ) → b ≤ k → get_or lists k None ≡ get_or made k None)
@@ -205,34 +205,34 @@ none_done made lists after is b same right below = (
   λ k le. ap (λ xs. get_or xs k None) same ∙ below.2 k (omega arith),
 )
 
--- where no list was made, the one that was found is that part
-pub found_part : (found : List (Bor NumberSet)) (made : List (Option NumberSet)) (b : ℕ) (item : Option NumberSet) (list : Bor NumberSet)
-    → AreParts (current_lists (sets_of found) made) → length made ≡ 12 → b < 12 → item ≡ get_or made b None → is_some item ≡ false
-    → list ≡ get_or found b list → list.now ≡ part_of (union_of (current_lists (sets_of found) made)) b
-found_part found made b None list are twelve l item_is none list_is =
-    let many : length found ≡ 12 = sym (length-map found (λ x. x.now)) ∙ found_twelve (sets_of found) made are in
-    let found_is : list.now ≡ get_or (sets_of found) b list.now =
-    ap (λ x. x.now) list_is ∙ sym (get_or-map (λ x. x.now) found b list list.now (subst (λ n. b < n) (sym many) l)) in
-    (λ i. unwrap_or (item_is i) (found_is i)) ∙ current_part (sets_of found) made b list.now None are twelve l
-found_part found made b (Some x) list are twelve l item_is none list_is = absurd (cc)
+-- if a part has no replacement, its original list is that part of the set
+pub previous_part : (previous : List (Bor NumberSet)) (made : List (Option NumberSet)) (b : ℕ) (item : Option NumberSet) (list : Bor NumberSet)
+    → AreParts (current_lists (sets_of previous) made) → length made ≡ 12 → b < 12 → item ≡ get_or made b None → is_some item ≡ false
+    → list ≡ get_or previous b list → list.now ≡ part_of (union_of (current_lists (sets_of previous) made)) b
+previous_part previous made b None list are twelve l item_is none list_is =
+    let many : length previous ≡ 12 = sym (length-map previous (λ x. x.now)) ∙ previous_twelve (sets_of previous) made are in
+    let found_is : list.now ≡ get_or (sets_of previous) b list.now =
+    ap (λ x. x.now) list_is ∙ sym (get_or-map (λ x. x.now) previous b list list.now (subst (λ n. b < n) (sym many) l)) in
+    (λ i. unwrap_or (item_is i) (found_is i)) ∙ current_part (sets_of previous) made b list.now None are twelve l
+previous_part previous made b (Some x) list are twelve l item_is none list_is = absurd (cc)
 
--- a list that was made is that part
-pub own_part : (found : List NumberSet) (made : List (Option NumberSet)) (b : ℕ) (item : Option NumberSet) → AreParts (current_lists found made) → length made ≡ 12
-    → b < 12 → item ≡ get_or made b None → is_some item ≡ true → item ≡ Some (part_of (union_of (current_lists found made)) b)
-own_part found made b None are twelve l item_is some = absurd (cc)
-own_part found made b (Some x) are twelve l item_is some =
-    ap Some (ap (λ o. unwrap_or o (get_or found b set.empty)) item_is ∙ current_part found made b set.empty None are twelve l)
+-- a replacement is that part of the set
+pub single_part : (previous : List NumberSet) (made : List (Option NumberSet)) (b : ℕ) (item : Option NumberSet) → AreParts (current_lists previous made) → length made ≡ 12
+    → b < 12 → item ≡ get_or made b None → is_some item ≡ true → item ≡ Some (part_of (union_of (current_lists previous made)) b)
+single_part previous made b None are twelve l item_is some = absurd (cc)
+single_part previous made b (Some x) are twelve l item_is some =
+    ap Some (ap (λ o. unwrap_or o (get_or previous b set.empty)) item_is ∙ current_part previous made b set.empty None are twelve l)
 
 pub some_copied : (item : Option (Bor NumberSet)) → is_some (option_copied item) ≡ is_some item
 some_copied None = refl
 some_copied (Some x) = refl
 
--- one list made anew
-pub newest_set : (found : List NumberSet) (made : List (Option NumberSet)) (b : ℕ) (part : NumberSet) → AreParts (current_lists found made) → length made ≡ 12 → b < 12 → part_of part b ≡ part
-    → current_lists found (set_at made b (Some part)) ≡ parts_below (with_part (union_of (current_lists found made)) b part) 12
-newest_set found made b part e twelve l lies =
-    set-current_lists found made b part (subst (λ n. b < n) (sym (found_twelve found made e)) l) (subst (λ n. b < n) (sym twelve) l)
-    ∙ ap (λ parts. set_at parts b part) e ∙ set-parts (union_of (current_lists found made)) b part l lies
+-- one more list is replaced
+pub newest_set : (previous : List NumberSet) (made : List (Option NumberSet)) (b : ℕ) (part : NumberSet) → AreParts (current_lists previous made) → length made ≡ 12 → b < 12 → part_of part b ≡ part
+    → current_lists previous (set_at made b (Some part)) ≡ parts_below (with_part (union_of (current_lists previous made)) b part) 12
+newest_set previous made b part e twelve l lies =
+    set-current_lists previous made b part (subst (λ n. b < n) (sym (previous_twelve previous made e)) l) (subst (λ n. b < n) (sym twelve) l)
+    ∙ ap (λ parts. set_at parts b part) e ∙ set-parts (union_of (current_lists previous made)) b part l lies
 
 lying_within : (b q : ℕ) → b < 12 → nat_eq (q / base_pixel_size) b ≡ true → q / base_pixel_size < 12
 lying_within b q l e = grind (arith, nat_tests)
@@ -245,7 +245,7 @@ with_part_within a b part l w lies = record {
   ];
 }
 
--- ---- a set of which the first parts are changed
+-- ---- a set whose first parts are changed
 
 unfoldable pub half_changed : NumberSet → NumberSet → ℕ → NumberSet
 half_changed new old n = set.union (first_parts new n) (set.difference old (first_parts old n))
@@ -283,7 +283,7 @@ half-here true false r n = grind (arith, nat_tests)
 half-here false true r n = grind (arith, nat_tests)
 half-here false false r n = refl
 
--- the next part is not changed yet
+-- the next part is not yet changed
 pub part-half : (new old : NumberSet) (n : ℕ) → part_of (half_changed new old n) n ≡ part_of old n
 part-half new old n = same_members _ _ (λ q. contains-part_of (half_changed new old n) n q ∙ ap (λ t. t && nat_eq (q / base_pixel_size) n) (has-half new old n q)
     ∙ half-here (set.contains new q) (set.contains old q) (q / base_pixel_size) n ∙ sym (contains-part_of old n q))
@@ -294,7 +294,7 @@ half-next true false r n = grind (arith, nat_tests)
 half-next false true r n = grind (arith, nat_tests)
 half-next false false r n = refl
 
--- one part more
+-- one more part is changed
 pub with_next : (new old : NumberSet) (n : ℕ) → with_part (half_changed new old n) n (part_of new n) ≡ half_changed new old (n + 1)
 with_next new old n = same_members _ _ (λ q. has-with_part (half_changed new old n) n (part_of new n) q
     ∙ (λ i. (has-half new old n q i && not (nat_eq (q / base_pixel_size) n)) || contains-part_of new n q i)
@@ -305,11 +305,11 @@ own true true = refl
 own true false = refl
 own false e = refl
 
--- a set with its own part is the set
+-- replacing a part of a set by itself leaves the set unchanged
 pub with_own : (a : NumberSet) (b : ℕ) → with_part a b (part_of a b) ≡ a
 with_own a b = same_members _ _ (λ q. has-with_part a b (part_of a b) q ∙ ap (λ t. (set.contains a q && not (nat_eq (q / base_pixel_size) b)) || t) (contains-part_of a b q) ∙ own (set.contains a q) (nat_eq (q / base_pixel_size) b))
 
--- a part lies in its base pixel
+-- a part is within its base pixel
 pub part_lies : (a : NumberSet) (b : ℕ) → part_of (part_of a b) b ≡ part_of a b
 part_lies a b = same_members _ _ (λ q. contains-part_of (part_of a b) b q ∙ ap (λ t. t && nat_eq (q / base_pixel_size) b) (contains-part_of a b q) ∙ again (set.contains a q) (nat_eq (q / base_pixel_size) b) ∙ sym (contains-part_of a b q))
   where
@@ -318,9 +318,9 @@ part_lies a b = same_members _ _ (λ q. contains-part_of (part_of a b) b q ∙ a
     again true false = refl
     again false e = refl
 
--- the next part, and what a change makes of it
+-- the next part, and the effect of a change on it
 pub part_was : (new old whole part : NumberSet) (b : ℕ) → whole ≡ half_changed new old b → part ≡ part_of whole b → part ≡ part_of old b
 part_was new old whole part b half p = p ∙ ap (λ a. part_of a b) half ∙ part-half new old b
 
-pub part_becomes : (change : Change) → IsChange change → (old part : NumberSet) (b : ℕ) → part ≡ part_of old b → changed_part change part b ≡ part_of (changed change old) b
-part_becomes change is old part b p = ap (λ q. changed_part change q b) p ∙ sym (part_law change is old b)
+pub part_becomes : (change : Change) → IsChange change → (old part : NumberSet) (b : ℕ) → part ≡ part_of old b → changed_part change part b ≡ part_of (set_after_change change old) b
+part_becomes change is old part b p = ap (λ q. changed_part change q b) p ∙ sym (part_theorem change is old b)

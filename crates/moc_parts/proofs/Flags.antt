@@ -1,4 +1,4 @@
--- One more flag is one more part.
+-- Setting one more flag adds one more part.
 use Rattle.std.proofs.Common.{◌≡◌, ◌≢◌, ℕ, zero, suc, ◌+◌, ◌<◌, Bool, true, false, ◌&&◌, ◌||◌, List, [], ◌∷◌, ◌++◌, length, get_or, replicate, set as set_at, nat_eq, nat_lt, inl, inr, refl, sym, ap, subst, ◌∙◌, arith}
 use Rattle.std.specs.Cmp.{nat_cmp_total}
 use Rattle.std.specs.List.{list_any}
@@ -9,25 +9,25 @@ use Rattle.std.proofs.lemmas.Bool.{cases_eq, cases_lt, lt-ltb}
 use Rattle.std.proofs.lemmas.Bool.Decides.{nat_tests}
 use Rattle.std.proofs.lemmas.List.{get_or-replicate, get_or-set_same, get_or-set_other}
 use Rattle.moc_lists.specs.Lemmas.Members.{same_members, contains-kept}
-use Rattle.moc_parts.specs.Private.PartSets.{flagged, flags_of, contains-flagged, contains-flagged_below, flags_of-flagged}
+use Rattle.moc_parts.specs.Private.PartSets.{parts_of_flags, flags_of, contains-parts_of_flags, contains-flagged_below, flags_of-parts_of_flags}
 
--- one flag set is one part put in
-pub flagged-set : (flags : List Bool) (b : ℕ) → b < 12 → length flags ≡ 12 → flagged (set_at flags b true) ≡ set.insert (flagged flags) b
-flagged-set flags b l twelve = same_members _ _ (λ q.
-    contains-flagged (set_at flags b true) q
+-- setting a flag inserts the part
+pub parts_of_flags-set : (flags : List Bool) (b : ℕ) → b < 12 → length flags ≡ 12 → parts_of_flags (set_at flags b true) ≡ set.insert (parts_of_flags flags) b
+parts_of_flags-set flags b l twelve = same_members _ _ (λ q.
+    contains-parts_of_flags (set_at flags b true) q
     ∙ elim (cases_eq b q) [
       | inl same ↦
           ap (λ k. nat_lt k 12 && get_or (set_at flags b true) k false) (sym same)
           ∙ ap (λ t. t && get_or (set_at flags b true) b false) (lt-ltb b 12 l)
           ∙ get_or-set_same flags b true false (subst (λ n. b < n) (sym twelve) l)
-          ∙ sym (ap (λ t. t || set.contains (flagged flags) b) (tied b))
-          ∙ sym (set.contains-insert nat_cmp_total (flagged flags) b b)
-          ∙ ap (λ k. set.contains (set.insert (flagged flags) b) k) same
+          ∙ sym (ap (λ t. t || set.contains (parts_of_flags flags) b) (tied b))
+          ∙ sym (set.contains-insert nat_cmp_total (parts_of_flags flags) b b)
+          ∙ ap (λ k. set.contains (set.insert (parts_of_flags flags) b) k) same
       | inr apart ↦
           ap (λ t. nat_lt q 12 && t) (get_or-set_other flags b q true false (λ e. apart (sym e)))
-          ∙ sym (contains-flagged flags q)
-          ∙ sym (ap (λ t. t || set.contains (flagged flags) q) (untied q b (λ e. apart (sym e))))
-          ∙ sym (set.contains-insert nat_cmp_total (flagged flags) b q)
+          ∙ sym (contains-parts_of_flags flags q)
+          ∙ sym (ap (λ t. t || set.contains (parts_of_flags flags) q) (untied q b (λ e. apart (sym e))))
+          ∙ sym (set.contains-insert nat_cmp_total (parts_of_flags flags) b q)
     ])
   where
     tied : (k : ℕ) → eq_by_cmp nat_cmp k k ≡ true
@@ -36,9 +36,9 @@ flagged-set flags b l twelve = same_members _ _ (λ q.
     untied : (j k : ℕ) → j ≢ k → eq_by_cmp nat_cmp j k ≡ false
     untied j k d = grind (arith, nat_tests)
 
--- the parts of flags that are all alike
-steady : (flags : List Bool) (v : Bool) → ((b : ℕ) → b < 12 → get_or flags b false ≡ v) → (b : ℕ) → set.contains (flagged flags) b ≡ (nat_lt b 12 && v)
-steady flags v alike b = contains-flagged flags b ∙ elim (cases_lt b 12) [
+-- the parts of flags that are all equal
+steady : (flags : List Bool) (v : Bool) → ((b : ℕ) → b < 12 → get_or flags b false ≡ v) → (b : ℕ) → set.contains (parts_of_flags flags) b ≡ (nat_lt b 12 && v)
+steady flags v alike b = contains-parts_of_flags flags b ∙ elim (cases_lt b 12) [
   | inl l ↦ ap (λ t. nat_lt b 12 && t) (alike b l)
   | inr ge ↦
       let past : nat_lt b 12 ≡ false = grind (arith, nat_tests) in
@@ -53,40 +53,40 @@ always : (b : Bool) → (b && true) ≡ b
 always true = refl
 always false = refl
 
-pub none_flagged : flagged (false ∷ false ∷ false ∷ false ∷ false ∷ false ∷ false ∷ false ∷ false ∷ false ∷ false ∷ false ∷ []) ≡ set.empty
+pub none_flagged : parts_of_flags (false ∷ false ∷ false ∷ false ∷ false ∷ false ∷ false ∷ false ∷ false ∷ false ∷ false ∷ false ∷ []) ≡ set.empty
 none_flagged = same_members _ _ (λ q. steady (replicate 12 false) false (λ b l. get_or-replicate 12 b false false l) q ∙ never (nat_lt q 12) ∙ sym (set.contains-empty nat_cmp q))
 
-pub all_flagged : (b : ℕ) → set.contains (flagged (true ∷ true ∷ true ∷ true ∷ true ∷ true ∷ true ∷ true ∷ true ∷ true ∷ true ∷ true ∷ [])) b ≡ nat_lt b 12
+pub all_flagged : (b : ℕ) → set.contains (parts_of_flags (true ∷ true ∷ true ∷ true ∷ true ∷ true ∷ true ∷ true ∷ true ∷ true ∷ true ∷ true ∷ [])) b ≡ nat_lt b 12
 all_flagged b = steady (replicate 12 true) true (λ k l. get_or-replicate 12 k true false l) b ∙ always (nat_lt b 12)
 
 -- the flagged parts below n
 unfoldable pub flagged_until : List Bool → ℕ → set.FinSet nat_cmp
-flagged_until flags n = set.retain (flagged flags) (λ b. nat_lt b n)
+flagged_until flags n = set.retain (parts_of_flags flags) (λ b. nat_lt b n)
 
 contains-until : (flags : List Bool) (n q : ℕ) → set.contains (flagged_until flags n) q ≡ ((nat_lt q 12 && get_or flags q false) && nat_lt q n)
 unfolding flagged_until
 contains-until flags n q =
-    contains-kept (flagged flags) (λ b. nat_lt b n) q
-    ∙ ap (λ t. t && nat_lt q n) (contains-flagged flags q)
+    contains-kept (parts_of_flags flags) (λ b. nat_lt b n) q
+    ∙ ap (λ t. t && nat_lt q n) (contains-parts_of_flags flags q)
 
 contains-either : (a b : set.FinSet nat_cmp) (q : ℕ) → set.contains (set.union a b) q ≡ (set.contains a q || set.contains b q)
 contains-either a b q = set.contains-union nat_cmp_total a b q
 
 pub until-none : (a : set.FinSet nat_cmp) (flags : List Bool) → a ≡ set.union a (flagged_until flags 0)
-until-none a flags = same_members _ _ (λ q. sym (contains-either a (flagged_until flags 0) q ∙ ap (λ t. set.contains a q || t) (contains-until flags 0 q) ∙ nothing (set.contains a q) (nat_lt q 12 && get_or flags q false) q))
+until-none a flags = same_members _ _ (λ q. sym (contains-either a (flagged_until flags 0) q ∙ ap (λ t. set.contains a q || t) (contains-until flags 0 q) ∙ no_pixels (set.contains a q) (nat_lt q 12 && get_or flags q false) q))
   where
-    nothing : (x y : Bool) (q : ℕ) → (x || (y && nat_lt q 0)) ≡ x
-    nothing x y q = grind (arith, nat_tests)
+    no_pixels : (x y : Bool) (q : ℕ) → (x || (y && nat_lt q 0)) ≡ x
+    no_pixels x y q = grind (arith, nat_tests)
 
-pub until-all : (a : set.FinSet nat_cmp) (flags : List Bool) → set.union a (flagged_until flags 12) ≡ set.union a (flagged flags)
+pub until-all : (a : set.FinSet nat_cmp) (flags : List Bool) → set.union a (flagged_until flags 12) ≡ set.union a (parts_of_flags flags)
 until-all a flags = same_members _ _ (λ q.
-    contains-either a (flagged_until flags 12) q ∙ ap (λ t. set.contains a q || t) (contains-until flags 12 q ∙ whole q (get_or flags q false) ∙ sym (contains-flagged flags q))
-    ∙ sym (contains-either a (flagged flags) q))
+    contains-either a (flagged_until flags 12) q ∙ ap (λ t. set.contains a q || t) (contains-until flags 12 q ∙ whole q (get_or flags q false) ∙ sym (contains-parts_of_flags flags q))
+    ∙ sym (contains-either a (parts_of_flags flags) q))
   where
     whole : (q : ℕ) (y : Bool) → ((nat_lt q 12 && y) && nat_lt q 12) ≡ (nat_lt q 12 && y)
     whole q y = grind (arith, nat_tests)
 
--- one part more whose flag is set, or is not
+-- one more part, whose flag is set or not set
 pub until-set : (a : set.FinSet nat_cmp) (flags : List Bool) (n : ℕ) → n < 12 → get_or flags n false ≡ true → set.insert (set.union a (flagged_until flags n)) n ≡ set.union a (flagged_until flags (n + 1))
 until-set a flags n l is = same_members _ _ (λ q.
     set.contains-insert nat_cmp_total (set.union a (flagged_until flags n)) n q
@@ -111,22 +111,22 @@ until-unset a flags n is = same_members _ _ (λ q.
       | inr apart ↦ grind (arith, nat_tests)
     ]
 
--- flags are those of the parts that they show
-pub flags_behind : (flags : List Bool) (parts : set.FinSet nat_cmp) → flagged flags ≡ parts → length flags ≡ 12 → flags ≡ flags_of parts
-flags_behind flags parts shown twelve = sym (flags_of-flagged flags twelve) ∙ ap flags_of shown
+-- flags are determined by the parts that they represent
+pub flags_behind : (flags : List Bool) (parts : set.FinSet nat_cmp) → parts_of_flags flags ≡ parts → length flags ≡ 12 → flags ≡ flags_of parts
+flags_behind flags parts shown twelve = sym (flags_of-parts_of_flags flags twelve) ∙ ap flags_of shown
 
--- a part in a set that one was put into
+-- membership after an insertion
 pub inserted : (s t : set.FinSet nat_cmp) (n k : ℕ) → t ≡ set.insert s n → set.contains t k ≡ (nat_eq n k || set.contains s k)
 inserted s t n k e = ap (λ parts. set.contains parts k) e ∙ set.contains-insert nat_cmp_total s n k ∙ ap (λ b. b || set.contains s k) (tie n k)
   where
     tie : (n k : ℕ) → eq_by_cmp nat_cmp k n ≡ nat_eq n k
     tie n k = grind (arith, nat_tests)
 
--- a part in the empty set
+-- membership in the empty set
 pub lacking : (t : set.FinSet nat_cmp) (k : ℕ) → t ≡ set.empty → set.contains t k ≡ false
 lacking t k e = ap (λ parts. set.contains parts k) e ∙ set.contains-empty nat_cmp k
 
--- a part in either of two sets
+-- membership in a union
 pub either_has : (s t u : set.FinSet nat_cmp) (k : ℕ) → u ≡ set.union s t → set.contains u k ≡ (set.contains s k || set.contains t k)
 either_has s t u k e = ap (λ parts. set.contains parts k) e ∙ contains-either s t k
 
@@ -138,7 +138,7 @@ or_shift false true z = refl
 or_shift false false true = refl
 or_shift false false false = refl
 
--- one number more passes the test, or none does
+-- whether any number passes the test, with one more number
 pub any-more : (test : ℕ → Bool) (xs : List ℕ) (n : ℕ) (h : Bool) → (test n || (h || list_any test xs)) ≡ (h || list_any test (xs ++ n ∷ []))
 any-more test xs n h = or_shift (test n) h (list_any test xs) ∙ ap (λ t. h || t) (sym (list_any-append test xs (n ∷ []) ∙ ap (λ t. list_any test xs || t) (last (test n))))
   where
@@ -157,10 +157,10 @@ set_at_some (true ∷ flags) b is = refl
 set_at_some (false ∷ flags) zero is = absurd (cc)
 set_at_some (false ∷ flags) (suc b) is = set_at_some flags b is
 
--- no flag is set just where there is no part
-pub none_set : (flags : List Bool) → length flags ≡ 12 → (list_any (λ flag. flag) flags ≡ false → flagged flags ≡ set.empty) × (flagged flags ≡ set.empty → list_any (λ flag. flag) flags ≡ false)
+-- no flag is set if and only if the set of parts is empty
+pub none_set : (flags : List Bool) → length flags ≡ 12 → (list_any (λ flag. flag) flags ≡ false → parts_of_flags flags ≡ set.empty) × (parts_of_flags flags ≡ set.empty → list_any (λ flag. flag) flags ≡ false)
 none_set flags twelve = (
-  λ none. same_members _ _ (λ q. contains-flagged flags q ∙ ap (λ t. nat_lt q 12 && t) (no_flag none q (get_or flags q false) refl) ∙ never (nat_lt q 12) ∙ sym (set.contains-empty nat_cmp q)),
+  λ none. same_members _ _ (λ q. contains-parts_of_flags flags q ∙ ap (λ t. nat_lt q 12 && t) (no_flag none q (get_or flags q false) refl) ∙ never (nat_lt q 12) ∙ sym (set.contains-empty nat_cmp q)),
   λ empty. no_part empty (list_any (λ flag. flag) flags) refl,
 )
   where
@@ -168,8 +168,8 @@ none_set flags twelve = (
     no_flag none q true is = absurd (let some = set_at_some flags q is in cc)
     no_flag none q false is = refl
 
-    no_part : flagged flags ≡ set.empty → (t : Bool) → list_any (λ flag. flag) flags ≡ t → t ≡ false
+    no_part : parts_of_flags flags ≡ set.empty → (t : Bool) → list_any (λ flag. flag) flags ≡ t → t ≡ false
     no_part empty true is = absurd (let at = some_set flags is in
         let has = contains-flagged_below flags at.0 (subst (λ n. at.0 < n) twelve at.1) ∙ at.2 in
-        let lacks = lacking (flagged flags) at.0 empty in cc)
+        let lacks = lacking (parts_of_flags flags) at.0 empty in cc)
     no_part empty false is = refl

@@ -1,4 +1,4 @@
--- Each command is local: its footprint is all that it looks at and all that it changes.
+-- Each command is local: it reads and changes only the parts in its footprint.
 use Rattle.std.proofs.Common.{◌≡◌, ℕ, ◌/◌, ◌<◌, ◌≤◌, Bool, true, false, cond, not, ◌&&◌, ◌||◌, inl, inr, Option, None, Some, IfSome, nat_lt, refl, sym, ap, subst, ◌∙◌, arith, lt-ltb}
 use Rattle.std.specs.FinSet as set
 use Rattle.std.proofs.lemmas.Bool.{cases_Bool}
@@ -16,8 +16,8 @@ use Rattle.moc_parts.specs.declared.command.Command.TheVariants.{Add, Remove, Ke
 use Rattle.moc_parts.specs.declared.reply.Reply.TheVariants as reply
 use Rattle.moc_parts.specs.Commands.{commands, operand_set, parts_met, surroundings, parts_around, IsCommand, IsOperand}
 use Rattle.moc_parts.proofs.Members.{has-union, has-empty, has-intersection, has-difference, clash, and_true, or_true, not_true_false, same_test, some_member, is_some, in_part, of_part}
-use Rattle.moc_parts.proofs.Around.{around_surroundings, some_around}
-use Rattle.moc_parts.proofs.Coarse.{of_degrade, one_part, part-degrade}
+use Rattle.moc_parts.proofs.CellSurroundings.{around_surroundings, some_around}
+use Rattle.moc_parts.proofs.DegradingParts.{of_degrade, one_part, part-degrade}
 use Rattle.moc_parts.proofs.Counts.{in_degrade, parts_met_empty, parts_met_some}
 use Rattle.moc_parts.proofs.Twelve.{within_base}
 
@@ -47,14 +47,14 @@ and_alike_left false false false h = refl
 both_false : (x y : Bool) → x ≡ false → y ≡ false → x ≡ y
 both_false x y e f = e ∙ sym f
 
--- sets that agree in all twelve parts are one
+-- two sets that agree in all twelve parts are equal
 one_set : (a b : NumberSet) → IsWithin a pixels → IsWithin b pixels → AgreeOn (λ b. nat_lt b 12) a b → a ≡ b
 one_set a b v w same = same_members a b (λ p. elim (cases_Bool (nat_lt (base_pixel p) 12)) [
   | inl t ↦ same p t
   | inr f ↦ both_false _ _ (not_true_false _ (λ h. clash _ (lt-ltb (base_pixel p) 12 (base_within a v p h)) f)) (not_true_false _ (λ h. clash _ (lt-ltb (base_pixel p) 12 (base_within b w p h)) f))
 ])
 
--- an operation that takes all twelve parts is local where it keeps sets within the pixels
+-- an operation whose footprint is all twelve parts is local if it keeps sets within the sky
 all_local : {Op Reply : Type 0} (o : Object Op Reply) (op : Op) → ((b : ℕ) → o.footprint op b ≡ nat_lt b 12) → ((a : NumberSet) → IsWithin a pixels → IsWithin (o.answer a op).0 pixels) → IsLocal o op
 all_local o op all stays =
     let one : (a b : NumberSet) → IsWithin a pixels → IsWithin b pixels → AgreeOn (o.footprint op) a b → a ≡ b = λ a b v w same. one_set a b v w (λ p f. same p (all (base_pixel p) ∙ f)) in
@@ -68,7 +68,7 @@ all_local o op all stays =
       stays = stays;
     }
 
--- what a set has in common with two sets that agree on its parts
+-- the intersection of S with two sets that agree on the parts of S
 module _ (S : NumberSet) (f : ℕ → Bool) (in_f : (p : ℕ) → set.contains S p ≡ true → f (base_pixel p) ≡ true) where
   common : (a b : NumberSet) → AgreeOn f a b → set.intersection a S ≡ set.intersection b S
   common a b same = same_members _ _ (λ p. has-intersection a S p ∙ and_alike_left (set.contains S p) (set.contains a p) (set.contains b p) (λ t. same p (in_f p t)) ∙ sym (has-intersection b S p))
@@ -92,7 +92,7 @@ module _ (S : NumberSet) (f : ℕ → Bool) (in_f : (p : ℕ) → set.contains S
   union_within : (a : NumberSet) → IsWithin S pixels → IsWithin a pixels → IsWithin (set.union a S) pixels
   union_within a s v = record { each = λ p h. elim (or_true (set.contains a p) (set.contains S p) (sym (has-union a S p) ∙ h)) [ inl e ↦ v.each p e | inr e ↦ s.each p e ] }
 
-  -- an operation that leaves the set, and answers by what it has in common with S
+  -- an operation that leaves the set unchanged, and whose reply depends only on the intersection with S
   query_local : {Op Reply : Type 0} (o : Object Op Reply) (op : Op) (reply : NumberSet → Reply)
       → ((b : ℕ) → o.footprint op b ≡ f b) → ((a : NumberSet) → o.answer a op ≡ (a, reply (set.intersection a S))) → (b : ℕ) × (b < 12) × (f b ≡ true) → IsLocal o op
   query_local o op reply foot is some = record {
@@ -103,7 +103,8 @@ module _ (S : NumberSet) (f : ℕ → Bool) (in_f : (p : ℕ) → set.contains S
     stays = λ a v. subst (λ s. IsWithin s pixels) (sym (ap (λ x. x.0) (is a))) v;
   }
 
--- the footprint is told from the operand's set alone: degrading keeps each pixel in its base pixel, and the empty set empty
+-- The footprint depends only on the operand's original set: degrading keeps each pixel in its base pixel, and the
+-- degraded empty set is empty.
 pub met_by_coarse : (x : Operand) → IsOperand x → (p : ℕ) → set.contains (operand_set x) p ≡ true → parts_met x.set (base_pixel p) ≡ true
 unfolding base_pixel
 met_by_coarse x k p h = go x.coarse k.1 h
@@ -139,11 +140,11 @@ some_met s w = elim (cases_Bool (nat_lt 0 (set.len s))) [
   | inr f ↦ (0, omega arith, parts_met_empty s 0 (set.empty_of_len s (none_len (set.len s) f)))
 ]
 
--- the empty set stays empty
+-- the degraded empty set is empty
 degrade-empty : (order : ℕ) → degrade set.empty order ≡ set.empty
 degrade-empty order = same_members _ _ (λ q. not_true_false _ (λ h. let m = of_degrade set.empty order q h in clash _ m.1 (has-empty m.0)) ∙ sym (has-empty q))
 
--- a degraded set is empty where the set is
+-- a degraded set is empty if and only if the set is empty
 some_degraded : (a : NumberSet) (order : ℕ) → IsWithin a pixels → nat_lt 0 (set.len (degrade a order)) ≡ nat_lt 0 (set.len a)
 some_degraded a order w = same_test _ _
     (λ h. let m = some_member (degrade a order) h in let n = of_degrade a order m.0 m.1 in is_some a n.0 n.1)
@@ -152,7 +153,7 @@ some_degraded a order w = same_test _ _
 part_within : (a : NumberSet) (b : ℕ) → IsWithin a pixels → IsWithin (part_of a b) pixels
 part_within a b w = record { each = λ q h. w.each q (of_part a b q h).0 }
 
--- an operand's own set meets the parts that its degraded set meets
+-- an operand's original set and its degraded set have pixels in the same parts
 pub met_degraded : (x : Operand) → IsOperand x → (b : ℕ) → parts_met (operand_set x) b ≡ parts_met x.set b
 met_degraded x k b = go x.coarse k.1
   where
@@ -172,7 +173,7 @@ met_degraded x k b = go x.coarse k.1
           ap (λ (s : NumberSet). parts_met s b) (ap (λ s. degrade s order) none ∙ degrade-empty order ∙ sym none)
     ]
 
--- whether a cell's surroundings hold a pixel is told by the base pixels around it
+-- whether the surroundings of a cell have a pixel depends only on the base pixels of the surroundings
 near_local : (c : CellNumber) → IsCell c → IsLocal commands (Near c)
 unfolding meets
 near_local c k = query_local (surroundings c) (parts_around c) (around_surroundings c k) commands (Near c) (λ D. reply.Near (nat_lt 0 (set.len D))) (λ b. refl) (λ a. refl) (some_around c k)

@@ -1,4 +1,4 @@
--- Members of the sets that the operations make.
+-- Membership in the results of set operations.
 use Rattle.std.proofs.Common.{◌≡◌, ℕ, ◌/◌, Bool, true, false, not, ◌&&◌, ◌||◌, List, [], ◌∷◌, ◌⊎◌, inl, inr, nat_lt, refl, sym, ap, ◌∙◌, arith, eq-eqb, eqb-true}
 use Rattle.std.specs.Cmp.{nat_cmp_total, unsigned_tied}
 use Rattle.std.specs.Ordering.{nat_cmp, eq_by_cmp}
@@ -49,7 +49,7 @@ pub not_true_false : (b : Bool) → (b ≡ true → ⊥) → b ≡ false
 not_true_false true h = absurd (h refl)
 not_true_false false h = refl
 
--- two tests that imply each other are one
+-- two tests that imply each other are equal
 pub same_test : (x y : Bool) → (x ≡ true → y ≡ true) → (y ≡ true → x ≡ true) → x ≡ y
 same_test true y f g = sym (f refl)
 same_test false true f g = g refl
@@ -70,7 +70,7 @@ is_some a p h = elim (cases_lt 0 (set.len a)) [
   | inr none ↦ clash (set.contains a p) h (ap (λ (s : NumberSet). set.contains s p) (set.empty_of_len a (omega arith)) ∙ has-empty p)
 ]
 
--- sets that meet have a pixel in common
+-- two sets that meet have a pixel in common
 pub meets_at : (a b : NumberSet) → meets a b ≡ true → (p : ℕ) × (set.contains a p ≡ true) × (set.contains b p ≡ true)
 unfolding meets
 meets_at a b h =

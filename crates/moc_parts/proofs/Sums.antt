@@ -1,4 +1,4 @@
--- Sizes, part by part.
+-- Sizes as sums over the parts.
 use Rattle.std.proofs.Common.{◌≡◌, ℕ, zero, suc, ◌+◌, ◌-◌, ◌/◌, ◌<◌, ◌≤◌, Bool, true, false, not, ◌&&◌, ◌||◌, nat_lt, nat_eq, [], ◌∷◌, refl, sym, ap, subst, ◌∙◌, arith}
 use Rattle.std.proofs.lemmas.Bool.{lt-ltb}
 use Rattle.std.proofs.lemmas.Bool.Decides.{nat_tests}
@@ -26,7 +26,7 @@ late true true r n = grind (arith, nat_tests)
 late true false r n = grind (arith, nat_tests)
 late false s r n = refl
 
--- what the first parts share with a set, one part more
+-- the intersection of the first parts with a set, with one more part
 pub len-next : (a s : NumberSet) (n : ℕ) → set.len (set.intersection (first_parts a n) s) + set.len (set.intersection (part_of a n) s) ≡ set.len (set.intersection (first_parts a (n + 1)) s)
 len-next a s n =
     let whole : NumberSet = set.intersection (first_parts a (n + 1)) s in
@@ -48,7 +48,7 @@ in_all q = grind (arith, nat_tests)
 all_normal : IsNormal ((0, pixel_count) ∷ [])
 all_normal = (omega arith, omega arith, tt, tt)
 
--- there are no more pixels than that
+-- a set has at most as many pixels as the sky
 pub len_within : (a : NumberSet) → IsWithin a pixels → set.len a ≤ pixel_count
 len_within a w =
     let all : set_of ((0, pixel_count) ∷ []) ≡ pixels = same_members _ _ (λ q. contains-set_of ((0, pixel_count) ∷ []) q ∙ in_all q ∙ sym (contains-pixels q)) in
@@ -73,7 +73,7 @@ common-none a s = same_members _ _ (λ q. has-intersection (first_parts a 0) s q
 pub len_none : (a s : NumberSet) → 0 ≡ set.len (set.intersection (first_parts a 0) s)
 len_none a s = sym (ap set.len (common-none a s) ∙ set.len-empty nat_cmp)
 
--- what is shared with pixels is pixels
+-- an intersection with a set of pixels is a set of pixels
 common_within : (a s : NumberSet) → IsWithin s pixels → IsWithin (set.intersection a s) pixels
 common_within a s w = record { each = λ q h. w.each q (and_true _ _ (sym (has-intersection a s q) ∙ h)).1 }
 
@@ -94,7 +94,7 @@ or_and true true false = refl
 or_and true false false = refl
 or_and false y e = refl
 
--- one part more
+-- with one more part
 pub common-next : (a s : NumberSet) (n : ℕ) → set.union (set.intersection (first_parts a n) s) (set.intersection (part_of a n) s) ≡ set.intersection (first_parts a (n + 1)) s
 common-next a s n = same_members _ _ (λ q.
     has-union (set.intersection (first_parts a n) s) (set.intersection (part_of a n) s) q
@@ -110,7 +110,7 @@ part-self : (a : NumberSet) (n : ℕ) → set.intersection (part_of a n) a ≡ p
 part-self a n = same_members _ _ (λ q. has-intersection (part_of a n) a q ∙ same_test _ _
     (λ h. (and_true _ _ h).0) (λ h. both h (and_true _ _ (sym (contains-part_of a n q) ∙ h)).0))
 
--- the size of the first parts, one part more
+-- the size of the first parts, with one more part
 pub size-next : (a : NumberSet) (n : ℕ) → set.len (first_parts a n) + set.len (part_of a n) ≡ set.len (first_parts a (n + 1))
 size-next a n = (λ i. set.len (sym (first-self a n) i) + set.len (sym (part-self a n) i)) ∙ len-next a a n ∙ ap set.len (first-self a (n + 1))
 
@@ -120,11 +120,11 @@ size_bound a n w = let next = size-next a n in let bound = len_within (first_par
 pub size_none : (a : NumberSet) → 0 ≡ set.len (first_parts a 0)
 size_none a = sym (ap set.len (first_parts-none a) ∙ set.len-empty nat_cmp)
 
--- what is lacking, by what is shared
+-- the number of missing pixels, from the number of common pixels
 pub lacking : (a s : NumberSet) → set.len s - set.len (set.intersection a s) ≡ set.len (set.difference s a)
 lacking a s =
-    let turned : set.intersection s a ≡ set.intersection a s = same_members _ _ (λ q. has-intersection s a q ∙ swap (set.contains s q) (set.contains a q) ∙ sym (has-intersection a s q)) in
-    let e : set.len (set.intersection s a) ≡ set.len (set.intersection a s) = ap set.len turned in
+    let changed_pixels : set.intersection s a ≡ set.intersection a s = same_members _ _ (λ q. has-intersection s a q ∙ swap (set.contains s q) (set.contains a q) ∙ sym (has-intersection a s q)) in
+    let e : set.len (set.intersection s a) ≡ set.len (set.intersection a s) = ap set.len changed_pixels in
     let parts = len_parts s a in omega arith
   where
     swap : (x y : Bool) → (x && y) ≡ (y && x)
@@ -135,8 +135,8 @@ lacking a s =
 
 pub shared_less : (a s : NumberSet) → set.len (set.intersection a s) ≤ set.len s
 shared_less a s =
-    let turned : set.intersection s a ≡ set.intersection a s = same_members _ _ (λ q. has-intersection s a q ∙ swap (set.contains s q) (set.contains a q) ∙ sym (has-intersection a s q)) in
-    let e : set.len (set.intersection s a) ≡ set.len (set.intersection a s) = ap set.len turned in
+    let changed_pixels : set.intersection s a ≡ set.intersection a s = same_members _ _ (λ q. has-intersection s a q ∙ swap (set.contains s q) (set.contains a q) ∙ sym (has-intersection a s q)) in
+    let e : set.len (set.intersection s a) ≡ set.len (set.intersection a s) = ap set.len changed_pixels in
     let parts = len_parts s a in omega arith
   where
     swap : (x y : Bool) → (x && y) ≡ (y && x)
@@ -151,7 +151,7 @@ kept_less a s = let parts = len_parts a s in omega arith
 pub dropped : (a s : NumberSet) → set.len a - set.len (set.intersection a s) ≡ set.len (set.difference a s)
 dropped a s = let parts = len_parts a s in omega arith
 
--- ---- whether a set meets another, part by part
+-- ---- whether two sets meet, part by part
 
 pub meets-none : (a s : NumberSet) → meets (first_parts a 0) s ≡ false
 unfolding meets
@@ -167,14 +167,14 @@ meets-next a s n f g = no_more _ _ _ (len-next a s n) f g
 pub meets-part : (a s : NumberSet) (b : ℕ) → meets (part_of a b) s ≡ true → meets a s ≡ true
 meets-part a s b h = let m = meets_at (part_of a b) s h in meets-some a s m.0 (of_part a b m.0 m.1).0 m.2
 
--- nothing more in common
-pub union-nothing : (a b : NumberSet) → b ≡ set.empty → set.union a b ≡ a
-union-nothing a b e = same_members _ _ (λ q. has-union a b q ∙ ap (λ t. set.contains a q || set.contains t q) e ∙ ap (λ t. set.contains a q || t) (has-empty q) ∙ or_nothing (set.contains a q))
+-- a union with the empty set
+pub union-no_pixels : (a b : NumberSet) → b ≡ set.empty → set.union a b ≡ a
+union-no_pixels a b e = same_members _ _ (λ q. has-union a b q ∙ ap (λ t. set.contains a q || set.contains t q) e ∙ ap (λ t. set.contains a q || t) (has-empty q) ∙ or_nothing (set.contains a q))
 
-pub nothing-union : (a b : NumberSet) → a ≡ set.empty → set.union a b ≡ b
-nothing-union a b e = same_members _ _ (λ q. has-union a b q ∙ ap (λ t. set.contains t q || set.contains b q) e ∙ ap (λ t. t || set.contains b q) (has-empty q))
+pub no_pixels-union : (a b : NumberSet) → a ≡ set.empty → set.union a b ≡ b
+no_pixels-union a b e = same_members _ _ (λ q. has-union a b q ∙ ap (λ t. set.contains t q || set.contains b q) e ∙ ap (λ t. t || set.contains b q) (has-empty q))
 
--- a part is shared whole with a set that has its base pixel
+-- the intersection of a part with a set that covers its base pixel is the part
 pub part-covered : (a s : NumberSet) (b : ℕ) → IsWithin a pixels → set.is_subset (part_of pixels b) s ≡ true → set.intersection (part_of a b) s ≡ part_of a b
 part-covered a s b w sub = same_members _ _ (λ q. has-intersection (part_of a b) s q ∙ same_test _ _
     (λ h. (and_true (set.contains (part_of a b) q) (set.contains s q) h).0)
@@ -182,12 +182,12 @@ part-covered a s b w sub = same_members _ _ (λ q. has-intersection (part_of a b
     let k = of_part a b q h in
     both h (set.is_subset-contains nat_cmp_total (part_of pixels b) s sub q (in_part pixels b q (w.each q k.0) k.1))))
 
--- nothing is shared in a part of which the other set has no pixel
+-- the intersection with a set that has no pixel in the part is empty
 pub part-missed : (a s : NumberSet) (b : ℕ) → nat_lt 0 (set.len (part_of s b)) ≡ false → 0 ≡ set.len (set.intersection (part_of a b) s)
 part-missed a s b missed =
-    let nothing : part_of s b ≡ set.empty = set.empty_of_len (part_of s b) (none (set.len (part_of s b)) missed) in
+    let no_pixels : part_of s b ≡ set.empty = set.empty_of_len (part_of s b) (none (set.len (part_of s b)) missed) in
     sym (ap set.len (same_members (set.intersection (part_of a b) s) set.empty (λ q. has-intersection (part_of a b) s q ∙ shifted (set.contains a q) (set.contains s q) (nat_eq (q / base_pixel_size) b) (contains-part_of a b q)
-    ∙ sym (ap (λ t. set.contains a q && t) (contains-part_of s b q)) ∙ ap (λ c. set.contains a q && set.contains c q) nothing ∙ ap (λ t. set.contains a q && t) (has-empty q) ∙ never (set.contains a q) ∙ sym (has-empty q))) ∙ set.len-empty nat_cmp)
+    ∙ sym (ap (λ t. set.contains a q && t) (contains-part_of s b q)) ∙ ap (λ c. set.contains a q && set.contains c q) no_pixels ∙ ap (λ t. set.contains a q && t) (has-empty q) ∙ never (set.contains a q) ∙ sym (has-empty q))) ∙ set.len-empty nat_cmp)
   where
     none : (n : ℕ) → nat_lt 0 n ≡ false → n ≡ 0
     none n h = grind (arith, nat_tests)
@@ -203,19 +203,19 @@ part-missed a s b missed =
     shifted true false false h = ap (λ t. t && false) h
     shifted false y e h = ap (λ t. t && y) h
 
--- ---- parts that are passed over
+-- ---- skipped parts
 
 common_passed : (a s : NumberSet) (n d : ℕ) → ((k : ℕ) → n ≤ k → k < n + d → parts_met s k ≡ false) → set.intersection (first_parts a n) s ≡ set.intersection (first_parts a (n + d)) s
 common_passed a s n zero none = let e : n ≡ n + 0 = omega arith in ap (λ m. set.intersection (first_parts a m) s) e
 common_passed a s n (suc d) none =
     let e : (n + d) + 1 ≡ n + suc d = omega arith in
-    let nothing : set.intersection (part_of a (n + d)) s ≡ set.empty =
+    let no_pixels : set.intersection (part_of a (n + d)) s ≡ set.empty =
     set.empty_of_len (set.intersection (part_of a (n + d)) s) (sym (part-missed a s (n + d) (not_met s (n + d) (none (n + d) (omega arith) (omega arith))))) in
     common_passed a s n d (λ k l m. none k l (omega arith))
-    ∙ sym (union-nothing (set.intersection (first_parts a (n + d)) s) (set.intersection (part_of a (n + d)) s) nothing)
+    ∙ sym (union-no_pixels (set.intersection (first_parts a (n + d)) s) (set.intersection (part_of a (n + d)) s) no_pixels)
     ∙ common-next a s (n + d) ∙ ap (λ m. set.intersection (first_parts a m) s) e
 
--- what the first parts share with a set, as long as it meets none of those that follow
+-- the intersection of the first parts with a set does not change over parts in which the set has no pixel
 pub common-upto : (a s : NumberSet) (n b : ℕ) → n ≤ b → ((k : ℕ) → n ≤ k → k < b → parts_met s k ≡ false) → set.intersection (first_parts a n) s ≡ set.intersection (first_parts a b) s
 common-upto a s n b le none =
     let e : n + (b - n) ≡ b = omega arith in
@@ -224,7 +224,7 @@ common-upto a s n b le none =
 pub len-upto : (a s : NumberSet) (n b : ℕ) → n ≤ b → ((k : ℕ) → n ≤ k → k < b → parts_met s k ≡ false) → set.len (set.intersection (first_parts a n) s) ≡ set.len (set.intersection (first_parts a b) s)
 len-upto a s n b le none = ap set.len (common-upto a s n b le none)
 
--- parts that the other set does not meet add nothing
+-- parts in which the other set has no pixel do not affect whether the sets meet
 pub meets-upto : (a s : NumberSet) (n b : ℕ) → n ≤ b → ((k : ℕ) → n ≤ k → k < b → parts_met s k ≡ false) → meets (first_parts a n) s ≡ meets (first_parts a b) s
 unfolding meets
 meets-upto a s n b le none = ap (λ m. nat_lt 0 m) (len-upto a s n b le none)

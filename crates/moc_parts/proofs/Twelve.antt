@@ -1,4 +1,4 @@
--- The twelve parts of a set as a list, and what holds of the first n.
+-- The twelve parts of a set as a list, and properties of the first n parts.
 use Rattle.std.proofs.Common.{◌≡◌, ℕ, zero, suc, ◌+◌, ◌/◌, ◌<◌, Bool, true, false, ◌&&◌, ◌||◌, List, [], ◌∷◌, ◌++◌, length, get_or, nat_lt, nat_eq, inl, inr, refl, sym, ap, subst, ◌∙◌, arith, lt-ltb, length-append, get_or-append-add}
 use Rattle.std.proofs.lemmas.Bool.{cases_lt}
 use Rattle.std.proofs.lemmas.List.{ext_get_or, get_or_append_left}
@@ -11,7 +11,7 @@ use Rattle.moc_ranges.specs.Lemmas.Members.{contains-part_of, contains-pixels}
 use Rattle.moc_ranges.specs.Lemmas.{in_base_pixels, is_pixel}
 use Rattle.moc_ranges.specs.Operations.{pixels, base_pixel_size, part_of, IsWithin}
 use Rattle.moc_parts.specs.Objects.{base_pixel}
-use Rattle.moc_parts.specs.Parts.{union_of, parts_below, LieInParts}
+use Rattle.moc_parts.specs.Parts.{union_of, parts_below, AreWithinParts}
 use Rattle.moc_parts.proofs.Members.{has-union, has-empty, and_true, or_true, or_left, or_right, both, same_test, clash, in_part, of_part}
 use Rattle.moc_parts.specs.Private.Drafts.{AreParts}
 
@@ -64,7 +64,7 @@ next_test : (x : Bool) (r n : ℕ) → ((x && nat_lt r n) || (x && nat_eq r n)) 
 next_test true r n = grind (arith, nat_tests)
 next_test false r n = refl
 
--- one part more
+-- one more part
 pub first_parts-next : (a : NumberSet) (n : ℕ) → set.union (first_parts a n) (part_of a n) ≡ first_parts a (n + 1)
 first_parts-next a n = same_members _ _ (λ q.
     has-union (first_parts a n) (part_of a n) q ∙ (λ i. has-first_parts a n q i || contains-part_of a n q i)
@@ -93,7 +93,7 @@ union_of-parts_below a (suc n) =
 pub within_base : (a : NumberSet) → IsWithin a pixels → (p : ℕ) → set.contains a p ≡ true → p / base_pixel_size < 12
 within_base a w p h = in_base_pixels p (sym (contains-pixels p) ∙ w.each p h)
 
--- all twelve parts are the set
+-- the first twelve parts are the whole set
 pub first_parts-all : (a : NumberSet) → IsWithin a pixels → first_parts a 12 ≡ a
 first_parts-all a w = same_members _ _ (λ q. same_test _ _
     (λ h. (and_true _ _ (sym (has-first_parts a 12 q) ∙ h)).0)
@@ -102,11 +102,11 @@ first_parts-all a w = same_members _ _ (λ q. same_test _ _
 pub union_of-parts : (a : NumberSet) → IsWithin a pixels → union_of (parts_below a 12) ≡ a
 union_of-parts a w = union_of-parts_below a 12 ∙ first_parts-all a w
 
--- the parts of a set are parts
+-- the list of the twelve parts satisfies `AreParts`
 pub AreParts-parts : (a : NumberSet) → IsWithin a pixels → AreParts (parts_below a 12)
 AreParts-parts a w = ap (λ s. parts_below s 12) (sym (union_of-parts a w))
 
--- what is made of parts lies in the pixels
+-- the union of parts is within the sky
 pub parts_within : (sets : List NumberSet) → AreParts sets → IsWithin (union_of sets) pixels
 parts_within sets e = record {
   each = λ q h.
@@ -130,11 +130,11 @@ made_parts sets a e w = subst AreParts (sym e) (AreParts-parts a w)
 pub made_union : (sets : List NumberSet) (a : NumberSet) → sets ≡ parts_below a 12 → IsWithin a pixels → union_of sets ≡ a
 made_union sets a e w = ap union_of e ∙ union_of-parts a w
 
--- one list more
+-- one more list
 pub made_next : (sets : List NumberSet) (a : NumberSet) (n : ℕ) → sets ≡ parts_below a n → (part : NumberSet) → part ≡ part_of a n → sets ++ (part ∷ []) ≡ parts_below a (n + 1)
 made_next sets a n e part p = (λ i. e i ++ (p i ∷ [])) ∙ sym (parts_below-next a n)
 
--- ---- sets that lie each in its own base pixel
+-- ---- sets that are each within their own base pixel
 
 -- a pixel of the union is in one of the sets
 one_of : (sets : List NumberSet) (q : ℕ) → set.contains (union_of sets) q ≡ true → (k : ℕ) × (k < length sets) × (set.contains (get_or sets k set.empty) q ≡ true)
@@ -149,8 +149,8 @@ in_union [] k q l h = absurd (omega arith)
 in_union (a ∷ sets) zero q l h = has-union a (union_of sets) q ∙ or_left (set.contains a q) (set.contains (union_of sets) q) h
 in_union (a ∷ sets) (suc k) q l h = has-union a (union_of sets) q ∙ or_right (set.contains a q) (set.contains (union_of sets) q) (in_union sets k q (omega arith) h)
 
-own_part : (sets : List NumberSet) → LieInParts sets → (b : ℕ) → b < 12 → get_or sets b set.empty ≡ part_of (union_of sets) b
-own_part sets lie b l = same_members _ _ (λ q. same_test _ _
+single_part : (sets : List NumberSet) → AreWithinParts sets → (b : ℕ) → b < 12 → get_or sets b set.empty ≡ part_of (union_of sets) b
+single_part sets lie b l = same_members _ _ (λ q. same_test _ _
     (λ h. in_part (union_of sets) b q (in_union sets b q (subst (λ n. b < n) (sym lie.twelve) l) h) (at b q l h))
     (λ h.
     let k = of_part (union_of sets) b q h in
@@ -161,19 +161,19 @@ own_part sets lie b l = same_members _ _ (λ q. same_test _ _
     at : (n q : ℕ) → n < 12 → set.contains (get_or sets n set.empty) q ≡ true → q / base_pixel_size ≡ n
     at n q lt h = (of_part (get_or sets n set.empty) n q (ap (λ a. set.contains a q) (lie.own n lt) ∙ h)).1
 
--- they are the parts of their union
-pub lying_parts : (sets : List NumberSet) → LieInParts sets → AreParts sets
+-- the sets are the parts of their union
+pub lying_parts : (sets : List NumberSet) → AreWithinParts sets → AreParts sets
 lying_parts sets lie = ext_get_or set.empty sets (parts_below (union_of sets) 12)
     (lie.twelve ∙ sym (length-parts_below (union_of sets) 12))
-    (λ b l. let lt : b < 12 = subst (λ n. b < n) lie.twelve l in own_part sets lie b lt ∙ sym (get-parts_below (union_of sets) 12 b set.empty lt))
+    (λ b l. let lt : b < 12 = subst (λ n. b < n) lie.twelve l in single_part sets lie b lt ∙ sym (get-parts_below (union_of sets) 12 b set.empty lt))
 
--- a pixel is in the union where it is in the set of its own base pixel
-pub found_by_part : (sets : List NumberSet) → LieInParts sets → (p : ℕ) → base_pixel p < 12 → set.contains (union_of sets) p ≡ set.contains (get_or sets (base_pixel p) set.empty) p
+-- a pixel is in the union if and only if it is in the set of its base pixel
+pub contains_by_part : (sets : List NumberSet) → AreWithinParts sets → (p : ℕ) → base_pixel p < 12 → set.contains (union_of sets) p ≡ set.contains (get_or sets (base_pixel p) set.empty) p
 unfolding base_pixel
-found_by_part sets lie p l =
+contains_by_part sets lie p l =
     let whole = union_of sets in
     let b = p / base_pixel_size in
-    sym (ap (λ a. set.contains a p) (own_part sets lie b l) ∙ contains-part_of whole b p ∙ ap (λ t. set.contains whole p && t) (same_number b) ∙ and_yes (set.contains whole p))
+    sym (ap (λ a. set.contains a p) (single_part sets lie b l) ∙ contains-part_of whole b p ∙ ap (λ t. set.contains whole p && t) (same_number b) ∙ and_yes (set.contains whole p))
   where
     same_number : (n : ℕ) → nat_eq n n ≡ true
     same_number n = grind (arith, nat_tests)
@@ -190,8 +190,8 @@ part_again a b = same_members _ _ (λ q. contains-part_of (part_of a b) b q ∙ 
     twice true false = refl
     twice false e = refl
 
--- the twelve parts of a set lie each in its own base pixel
-pub parts_lie : (a : NumberSet) → IsWithin a pixels → LieInParts (parts_below a 12)
+-- the twelve parts of a set are each within their own base pixel
+pub parts_lie : (a : NumberSet) → IsWithin a pixels → AreWithinParts (parts_below a 12)
 parts_lie a w = record {
   twelve = length-parts_below a 12;
   own = λ b l. let at = get-parts_below a 12 b set.empty l in ap (λ s. part_of s b) at ∙ part_again a b ∙ sym at;

@@ -1,4 +1,4 @@
--- The commands on one set of pixels, and their footprints.
+-- The commands on a set of pixels, and their footprints.
 use Rattle.std.specs.Prelude.{ℕ, ◌≤◌, Bool, true, false, nat_lt, nat_eq, IfSome, List, ◌∷◌, map, if◌then◌else◌}
 use Rattle.std.specs.List.{list_any}
 use Rattle.std.specs.FinSet as set
@@ -17,7 +17,7 @@ use Rattle.moc_parts.specs.declared.command.Command.TheVariants.{Near}
 use Rattle.moc_parts.specs.declared.reply.Reply.{Reply}
 use Rattle.moc_parts.specs.declared.reply.Reply.TheVariants as reply
 
--- the set that a command works with: the operand's, degraded where an order is given
+-- the effective set of an operand: its set, degraded if an order is given
 abbrev pub operand_set : Operand → NumberSet
 operand_set x = option_map_or (degrade x.set) x.coarse x.set
 
@@ -29,7 +29,7 @@ cells_around c = c.index ∷ touching_cells c.order c.index
 unfoldable pub surroundings : CellNumber → NumberSet
 surroundings c = pixels_of (map (cell_number c.order) (cells_around c))
 
--- the parts that a set meets, and part 0 where it is empty
+-- the parts in which a set has a pixel; part 0 if the set is empty
 abbrev pub parts_met : NumberSet → ℕ → Bool
 parts_met a b = if nat_eq (set.len a) 0 then nat_eq b 0 else nat_lt 0 (set.len (part_of a b))
 
@@ -37,7 +37,7 @@ parts_met a b = if nat_eq (set.len a) 0 then nat_eq b 0 else nat_lt 0 (set.len (
 abbrev pub parts_around : CellNumber → ℕ → Bool
 parts_around c b = list_any (λ index. nat_eq (face_of c.order index) b) (cells_around c)
 
--- the parts that a command looks at and changes
+-- the footprint of a command: the parts that it reads or changes
 abbrev pub footprint : Command → ℕ → Bool
 footprint (Add x) b = parts_met x.set b
 footprint (Remove x) b = parts_met x.set b
@@ -49,7 +49,7 @@ footprint (Count x) b = parts_met x.set b
 footprint (Read x) b = parts_met x.set b
 footprint (Near c) b = parts_around c b
 
--- the set that a command leaves
+-- the set after a command
 abbrev pub set_after : NumberSet → Command → NumberSet
 set_after a (Add x) = set.union a (operand_set x)
 set_after a (Remove x) = set.difference a (operand_set x)
@@ -61,7 +61,7 @@ set_after a (Count x) = a
 set_after a (Read x) = a
 set_after a (Near c) = a
 
--- what a command replies
+-- the reply to a command
 abbrev pub reply_on : NumberSet → Command → Reply
 reply_on a (Add x) = reply.Changed (set.len (set.difference (operand_set x) a))
 reply_on a (Remove x) = reply.Changed (set.len (set.intersection a (operand_set x)))
@@ -74,22 +74,22 @@ reply_on a (Count x) = reply.Total (set.len (set.intersection a (operand_set x))
 reply_on a (Read x) = reply.Cover (set.intersection a (operand_set x))
 reply_on a (Near c) = reply.Near (meets a (surroundings c))
 
--- whether a command may change the set
+-- a command is an update if it may change the set
 abbrev pub is_update : Command → Bool
 is_update (Count x) = false
 is_update (Read x) = false
 is_update (Near c) = false
 is_update c = true
 
--- the commands as an object
+-- commands as a sequential object
 abbrev pub commands : Object Command Reply
 commands = record { footprint = footprint; answer = λ a c. (set_after a c, reply_on a c) }
 
--- an operand is a set of pixels, and its order is 0 to 29
+-- an operand is a set of pixels within the sky with an optional order from 0 to 29
 abbrev pub IsOperand : Operand → Type 0
 IsOperand x = IsWithin x.set pixels × IfSome x.coarse (λ order. order ≤ 29)
 
--- sets lie within the pixels, orders are 0 to 29, and cells are cells
+-- a command is valid if its set is within the sky, its order is 0 to 29, and its cell is a cell
 abbrev pub IsCommand : Command → Type 0
 IsCommand (Add x) = IsOperand x
 IsCommand (Remove x) = IsOperand x

@@ -4,5 +4,5 @@ pub mod Batches
 pub mod Parts
 pub mod Prepared
 pub mod Lemmas
-pub mod Laws
+pub mod Theorems
 pub mod Private

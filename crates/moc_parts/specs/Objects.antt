@@ -1,25 +1,25 @@
--- A sequential object on one set of pixels: what an operation answers, and in which of the twelve parts it looks.
+-- A sequential object on a set of pixels: the new set and the reply of each operation, and the parts that it accesses.
 use Rattle.std.specs.Prelude.{◌≡◌, ℕ, ◌/◌, ◌<◌, Bool, true, false}
 use Rattle.std.specs.FinSet as set
 use Rattle.moc_lists.specs.RangeList.{NumberSet}
 use Rattle.moc_ranges.specs.Operations.{base_pixel_size, pixels, IsWithin}
 
--- the base pixel that a pixel lies in
+-- the base pixel of a pixel
 unfoldable pub base_pixel : ℕ → ℕ
 base_pixel p = p / base_pixel_size
 
--- what an operation does on one set of pixels, and the parts that it takes
+-- a sequential object: the effect of each operation on a set of pixels, and its footprint
 pub record Object (Op Reply : Type 0) : Type 0 where
-  -- the parts that an operation takes
+  -- the footprint of an operation: the parts that it accesses
   pub footprint : Op → ℕ → Bool
   -- the new set and the reply
   pub answer : NumberSet → Op → NumberSet × Reply
 
--- two sets have the same pixels in the parts that pass the test
+-- two sets are equal in the parts that pass the test
 abbrev pub AgreeOn : (ℕ → Bool) → NumberSet → NumberSet → Type 0
 AgreeOn parts a b = (p : ℕ) → parts (base_pixel p) ≡ true → set.contains a p ≡ set.contains b p
 
--- its footprint, which has a part, is all that it looks at and changes, and sets of pixels stay such sets
+-- an operation is local if its footprint is not empty, it accesses nothing else, and sets of pixels stay within the sky
 pub record IsLocal {Op Reply : Type 0} (o : Object Op Reply) (op : Op) : Type 0 where
   pub some : (b : ℕ) × (b < 12) × (o.footprint op b ≡ true)
   pub reply : (a b : NumberSet) → IsWithin a pixels → IsWithin b pixels → AgreeOn (o.footprint op) a b

@@ -6,7 +6,7 @@ use Rattle.std.specs.Ordering.{nat_cmp}
 use Rattle.moc_lists.specs.RangeList.{NumberSet}
 use Rattle.moc_ranges.specs.Operations.{part_of}
 
--- the union of sets
+-- the union of a list of sets
 abbrev pub union_of : List NumberSet → NumberSet
 union_of [] = set.empty
 union_of (a ∷ sets) = set.union a (union_of sets)
@@ -16,11 +16,11 @@ unfoldable pub parts_below : NumberSet → ℕ → List NumberSet
 parts_below a zero = []
 parts_below a (suc n) = parts_below a n ++ (part_of a n ∷ [])
 
--- there are twelve sets, and each lies in its own base pixel
-pub record LieInParts (sets : List NumberSet) : Type 0 where
+-- there are twelve sets, each within its own base pixel
+pub record AreWithinParts (sets : List NumberSet) : Type 0 where
   pub twelve : length sets ≡ 12
   pub own : (b : ℕ) → b < 12 → part_of (get_or sets b set.empty) b ≡ get_or sets b set.empty
 
--- the parts of a set of parts from this number on, rising
-abbrev pub rising_parts : set.FinSet nat_cmp → ℕ → List ℕ
-rising_parts parts from = filter (λ b. set.contains parts b) (range_with_len from (12 - from))
+-- the parts in a set of parts from a number on, in ascending order
+abbrev pub parts_from : set.FinSet nat_cmp → ℕ → List ℕ
+parts_from parts from = filter (λ b. set.contains parts b) (range_with_len from (12 - from))

@@ -1,5 +1,5 @@
--- Words that contracts of private functions, and views and invariants of types, alone cite.
+-- Definitions that only private contracts, views and invariants use.
 pub mod Changes
 pub mod Drafts
-pub mod Resolved
+pub mod EffectiveSet
 pub mod PartSets

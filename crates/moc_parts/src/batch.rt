@@ -1,4 +1,4 @@
-//! Commands that are done in order, as one operation.
+//! Batches: commands that are executed in order, as one operation.
 ghost use Rattle.std.specs.Prelude.{◌≡◌, [], ◌∷◌, ◌<◌, ◌≤◌, ℕ, true, length, nat_eq, IfOk, IfErr, OnOk, OnErr};
 ghost use Rattle.std.specs.Prelude.{if◌then◌else◌};
 ghost use Rattle.std.specs.FinSet as set;
@@ -13,21 +13,21 @@ use std::alloc::Global;
 use std::marker::Model;
 use thiserror::Error;
 
-/// The most commands of a batch.
-pub const MOST_COMMANDS: usize = 16;
+/// The maximum number of commands in a batch.
+pub const MAX_COMMANDS: usize = 16;
 
-/// Why commands are no batch.
+/// The reason why a list of commands is not a valid batch.
 #[derive(Clone, Copy, Debug, PartialEq, Eq, Error)]
 pub enum BatchError {
-    /// There is no command.
+    /// The list is empty.
     #[error("a batch has a command")]
     EmptyCommand,
-    /// There are more than 16 commands.
+    /// The list has more than 16 commands.
     #[error("a batch has at most 16 commands")]
     TooManyCommands,
 }
 
-/// Commands that are done in order, as one operation: 1 to 16 of them.
+/// A list of 1 to 16 commands that are executed in order, as one operation.
 #[derive(Debug, Drop)]
 pub struct Batch {
     commands: Vec<Command>,
@@ -48,7 +48,7 @@ impl Model for Batch {
     ghost invariant = { λ b. (0 < length b.commands.items) × (length b.commands.items ≤ 16) };
 }
 
-/// The same commands in the same order.
+/// Batches are equal if they have equal commands in the same order.
 impl PartialEq for Batch {
     ghost use Rattle.std.specs.Cmp.{partial_equiv_from_equiv};
     ghost use Rattle.std.specs.Cmp.Lexicographic.{pointwise, lists_equiv};
@@ -72,25 +72,34 @@ impl Eq for Batch {
 }
 
 impl Batch {
-    /// The commands as a batch, if they are 1 to 16; else they are given up, refused with `EmptyCommand` for none and
-    /// `TooManyCommands` above 16. Takes no memory. A step for each command.
+    /// Creates a batch from a list of commands.
+    ///
+    /// # Errors
+    /// Fails with `EmptyCommand` if the list is empty, and with `TooManyCommands` if it has more than 16 commands. The
+    /// list is dropped on failure.
+    ///
+    /// # Complexity
+    /// Linear in the number of commands. Allocates nothing.
     pub fn new(commands: Vec<Command>) -> Result<Batch, BatchError>
-        ensures made { IfOk result (λ b. b ≡ commands.items) }
-        ensures accepted { OnOk result ((0 < length commands.items) × (length commands.items ≤ MOST_COMMANDS)) }
-        ensures fault { IfErr result (λ e.
+        ensures value { IfOk result (λ b. b ≡ commands.items) }
+        ensures accepted { OnOk result ((0 < length commands.items) × (length commands.items ≤ MAX_COMMANDS)) }
+        ensures error { IfErr result (λ e.
             e ≡ (if nat_eq (length commands.items) 0 then BatchError.EmptyCommand else BatchError.TooManyCommands)) }
-        ensures refused { OnErr result (0 < length commands.items → MOST_COMMANDS < length commands.items) }
+        ensures failure { OnErr result (0 < length commands.items → MAX_COMMANDS < length commands.items) }
     {
         if commands.is_empty() {
             Err(BatchError::EmptyCommand)
-        } else if commands.len() > MOST_COMMANDS {
+        } else if commands.len() > MAX_COMMANDS {
             Err(BatchError::TooManyCommands)
         } else {
             Ok(Batch { commands })
         }
     }
 
-    /// The batch of one command. Refused where memory runs out; the command is then given up. O(1).
+    /// Creates a batch of one command. O(1).
+    ///
+    /// # Errors
+    /// Fails with `Memory` if an allocation fails; the command is then dropped.
     pub fn one(alloc: Global, command: Command) -> Result<Batch, Memory>
         ensures { IfOk result (λ b. b ≡ command ∷ []) }
     {
@@ -99,47 +108,50 @@ impl Batch {
         Ok(Batch { commands })
     }
 
-    /// The commands as a batch, for a caller that knows them to be 1 to 16. Takes no memory.
+    /// Creates a batch from a list of commands. Requires a list of 1 to 16 commands. Allocates nothing.
     pub fn of(commands: Vec<Command>) -> Batch
         requires some { 0 < length commands.items }
-        requires few { length commands.items ≤ MOST_COMMANDS }
+        requires bounded { length commands.items ≤ MAX_COMMANDS }
         ensures { result ≡ commands.items }
     {
         Batch { commands }
     }
 
-    /// The commands, in order. Takes no memory. A step for each command.
+    /// Returns the commands in order. Linear in the number of commands; allocates nothing.
     pub fn commands(&self) -> &[Command]
         ensures commands { result.now ≡ self.now }
         ensures some { 0 < length self.now }
-        ensures few { length self.now ≤ MOST_COMMANDS }
+        ensures bounded { length self.now ≤ MAX_COMMANDS }
 
-        // What lets a caller use the laws of commands.
-        ensures proper { AreCommands self.now }
+        // The theorems about commands require this fact.
+        ensures valid { AreCommands self.now }
     {
-        lie_in_sky(&self.commands);
+        prove_all_in_sky(&self.commands);
         &self.commands
     }
 
-    /// Whether some command may change the set. Takes no memory. A step for each command.
+    /// Returns whether at least one command is an update. Linear in the number of commands; allocates nothing.
     pub fn is_update(&self) -> bool
         ensures { result ≡ list_any is_update self.now }
     {
         self.commands.iter().any(|command| command.is_update())
     }
 
-    /// The parts that any of the commands looks at and changes. Takes no memory. O(log n) for each command, for n
-    /// ranges of its operand.
+    /// Returns the union of the footprints of all commands: the parts that the batch reads or changes. Takes O(log n)
+    /// for each command, for an operand of n ranges; allocates nothing.
     pub fn footprint(&self, alloc: Global) -> PartSet
         ensures parts { (b : ℕ) → b < 12 → set.contains result b ≡ footprint_of_all self.now b }
 
-        // It is never empty.
+        // The footprint is never empty.
         ensures some { (b : ℕ) × (b < 12) × (set.contains result b ≡ true) }
     {
         footprint_of_all(self.commands(), alloc)
     }
 
-    /// A copy. Linear in the ranges of the operands; refused where memory runs out.
+    /// Returns a copy, which shares the blocks of all operands. One `Command::try_copy` for each command.
+    ///
+    /// # Errors
+    /// Fails with `Memory` if an allocation fails.
     pub fn try_copy(&self, alloc: Global) -> Result<Batch, Memory>
         ensures { IfOk result (λ x. x ≡ self.now) }
     {
@@ -151,17 +163,18 @@ impl Batch {
     }
 }
 
-/// Each operand lies in the sky, and each order or cell is one. Does nothing.
-fn lie_in_sky(commands: &[Command])
+/// Establishes that every command is valid: operands are within the sky, orders and cells are valid. Changes nothing,
+/// but takes one call for each command at run time.
+fn prove_all_in_sky(commands: &[Command])
     ensures { AreCommands commands.now }
 {
     if let Some((first, rest)) = commands.split_first() {
-        first.lies_in_sky();
-        lie_in_sky(rest);
+        first.prove_in_sky();
+        prove_all_in_sky(rest);
     }
 }
 
-/// The parts of any of the commands.
+/// Returns the union of the footprints of the commands.
 fn footprint_of_all(commands: &[Command], alloc: Global) -> PartSet
     ensures { (b : ℕ) → b < 12 → set.contains result b ≡ footprint_of_all commands.now b }
 {

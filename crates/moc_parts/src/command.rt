@@ -1,52 +1,52 @@
-//! What is asked of a map.
+//! The commands of a map and their operands.
 ghost use Rattle.std.specs.Prelude.{◌≡◌, ◌<◌, ℕ, nat_eq, IfOk, IfSome, OnSome, None};
 ghost use Rattle.std.specs.FinSet as set;
 ghost use Rattle.moc_ranges.specs.Operations.{part_of};
 ghost use Rattle.moc_parts.specs.Commands.{footprint, is_update, operand_set, parts_met, IsCommand, IsOperand};
-ghost use Rattle.moc_parts.specs.Private.Resolved.{resolved_set};
+ghost use Rattle.moc_parts.specs.Private.EffectiveSet.{effective_pixels};
 
-use crate::footprint::{only_part, parts_around, parts_met};
+use crate::effective_set::EffectiveSet;
+use crate::footprint::{parts_around, parts_met, single_part};
 use crate::part::{Part, PartSet};
-use crate::resolved::Resolved;
 use moc_ranges::{Coverage, Memory};
 use moc_sphere::{Cell, Order};
 use std::alloc::Global;
 
-/// What a command works with: a set of pixels, degraded first where an order is given.
+/// The operand of a command: a set of pixels that is degraded first if an order is given.
 #[derive(Debug, PartialEq, Eq, Drop)]
 pub struct Operand {
     /// The set of pixels.
     pub set: Coverage,
-    /// The order to degrade it to first, if any.
+    /// The order to which the set is degraded first, if any.
     pub coarse: Option<Order>,
 }
 
-/// What a client asks for. Below, S is the operand's set and A the set of the map.
+/// A command of a client. Below, S is the operand's set (degraded if it has an order) and A is the set of the map.
 #[derive(Debug, PartialEq, Eq, Drop)]
 pub enum Command {
-    /// Adds S to A.
+    /// Replaces A by the union of A and S.
     Add(Operand),
-    /// Removes S from A.
+    /// Replaces A by the difference of A and S.
     Remove(Operand),
-    /// Keeps what A and S share.
+    /// Replaces A by the intersection of A and S.
     Keep(Operand),
-    /// Adds S to A where they share nothing, and else leaves A.
+    /// Adds S to A if they have no pixel in common; otherwise leaves A unchanged.
     Claim(Operand),
-    /// Takes the pixels of the sky that A lacks.
+    /// Replaces A by its complement in the sky.
     Invert,
     /// Degrades A to an order.
     Degrade(Order),
-    /// Counts the pixels that A and S share.
+    /// Counts the pixels in the intersection of A and S.
     Count(Operand),
-    /// Reads the pixels that A and S share.
+    /// Returns the intersection of A and S.
     Read(Operand),
-    /// Asks whether A has a pixel of the cell or of a cell that touches it.
+    /// Returns whether A has a pixel in the cell or in a cell that touches it.
     Near(Cell),
 }
 
 impl Operand {
-    /// The set lies in the sky, and an order is one. Does nothing.
-    fn lies_in_sky(&self)
+    /// Establishes that the set is within the sky and that the order is valid. Has no effect at run time.
+    fn prove_in_sky(&self)
         ensures { IsOperand self.now }
     {
         self.set.is_empty();
@@ -55,34 +55,39 @@ impl Operand {
         }
     }
 
-    /// The part that the set lies in, if there is one, where no order is given and the set is not empty.
+    /// Returns the single part that contains the whole set. Returns `None` if the operand has an order, if the set is
+    /// empty, or if the set has pixels in several parts.
     ///
-    /// O(log n) for n ranges, takes no memory.
-    pub fn own_part(&self) -> Option<Part>
-        ensures lies { IfSome result (λ b. part_of self.now.set b ≡ self.now.set) }
+    /// # Complexity
+    /// O(log n) for n ranges. Allocates nothing.
+    pub fn single_part(&self) -> Option<Part>
+        ensures in_part { IfSome result (λ b. part_of self.now.set b ≡ self.now.set) }
         ensures met { IfSome result (λ b. (k : ℕ) → parts_met self.now.set k ≡ nat_eq b k) }
         ensures set { OnSome result (operand_set self.now ≡ self.now.set) }
 
-        // What lets a caller use the laws of commands.
-        ensures proper { OnSome result (IsOperand self.now) }
+        // The theorems about commands require this fact.
+        ensures valid { OnSome result (IsOperand self.now) }
     {
         match self.coarse {
             Some(_) => None,
-            None => only_part(&self.set),
+            None => single_part(&self.set),
         }
     }
 
-    /// The set that the operand stands for: its own, or the degraded one where an order is given.
-    pub(crate) fn resolved(&self, alloc: Global) -> Result<Resolved<'_>, Memory>
-        ensures { IfOk result (λ r. resolved_set r ≡ operand_set self.now) }
+    /// Returns the operand's effective set: the set itself, or the degraded set if an order is given.
+    pub(crate) fn effective_set(&self, alloc: Global) -> Result<EffectiveSet<'_>, Memory>
+        ensures { IfOk result (λ r. effective_pixels r ≡ operand_set self.now) }
     {
         match self.coarse {
-            Some(order) => Ok(Resolved::Degraded(self.set.degrade(alloc, order)?)),
-            None => Ok(Resolved::Own(&self.set)),
+            Some(order) => Ok(EffectiveSet::Degraded(self.set.degrade(alloc, order)?)),
+            None => Ok(EffectiveSet::Original(&self.set)),
         }
     }
 
-    /// A copy. O(n) for n ranges; refused where memory runs out.
+    /// Returns a copy, which shares the blocks of the set. Costs as much as `Coverage::try_copy`.
+    ///
+    /// # Errors
+    /// Fails with `Memory` if an allocation fails.
     pub fn try_copy(&self, alloc: Global) -> Result<Operand, Memory>
         ensures { IfOk result (λ x. x ≡ self.now) }
     {
@@ -93,7 +98,7 @@ impl Operand {
     }
 }
 
-/// The set, not degraded.
+/// Creates an operand without an order: the set is not degraded.
 impl From<Coverage> for Operand {
     ghost from_gives = { λ set x. x ≡ record { set = set; coarse = None } };
 
@@ -103,7 +108,7 @@ impl From<Coverage> for Operand {
 }
 
 impl Command {
-    /// Whether the command may change the set. Takes no memory.
+    /// Returns whether the command is an update, that is, may change the set. Allocates nothing.
     pub fn is_update(&self) -> bool
         ensures { result ≡ is_update self.now }
     {
@@ -113,9 +118,11 @@ impl Command {
         )
     }
 
-    /// The parts that the command looks at and changes, by its operand's own set or its cell; at least one.
+    /// Returns the footprint of the command: the parts that it reads or changes. The footprint depends only on the
+    /// operand's original set or on the cell, and is never empty.
     ///
-    /// O(log n) for n ranges of the operand, takes no memory.
+    /// # Complexity
+    /// O(log n) for an operand of n ranges. Allocates nothing.
     pub fn footprint(&self, alloc: Global) -> PartSet
         ensures { (b : ℕ) → b < 12 → set.contains result b ≡ footprint self.now b }
     {
@@ -130,8 +137,9 @@ impl Command {
         }
     }
 
-    /// The operand lies in the sky, and an order or a cell is one. Does nothing.
-    pub(crate) fn lies_in_sky(&self)
+    /// Establishes that the command is valid: its operand is within the sky, its order or cell is valid. Has no effect
+    /// at run time.
+    pub(crate) fn prove_in_sky(&self)
         ensures { IsCommand self.now }
     {
         match self {
@@ -140,7 +148,7 @@ impl Command {
             | Command::Keep(x)
             | Command::Claim(x)
             | Command::Count(x)
-            | Command::Read(x) => x.lies_in_sky(),
+            | Command::Read(x) => x.prove_in_sky(),
             Command::Invert => {}
             Command::Degrade(order) => {
                 order.get();
@@ -152,7 +160,10 @@ impl Command {
         }
     }
 
-    /// A copy. O(n) for n ranges; refused where memory runs out.
+    /// Returns a copy, which shares the blocks of the operand. Costs at most as much as `Coverage::try_copy`.
+    ///
+    /// # Errors
+    /// Fails with `Memory` if an allocation fails.
     pub fn try_copy(&self, alloc: Global) -> Result<Command, Memory>
         ensures { IfOk result (λ x. x ≡ self.now) }
     {

@@ -1,16 +1,16 @@
-//! A set in twelve parts while a batch is done on it.
+//! A working copy of a set in twelve parts, on which the commands of a batch are executed.
 ghost use Rattle.std.specs.Prelude.{◌≡◌, ◌<◌, ℕ, IfOk, OnOk, None, get_or, length};
 ghost use Rattle.std.specs.FinSet as set;
 ghost use Rattle.moc_ranges.specs.Operations.{meets, part_of, symmetric, IsWithin, pixels};
-ghost use Rattle.moc_parts.specs.Private.Changes.{changed, IsChange};
+ghost use Rattle.moc_parts.specs.Private.Changes.{set_after_change, IsChange};
 ghost use Rattle.moc_parts.specs.Commands.{parts_met};
 ghost use Rattle.moc_parts.specs.Private.Drafts.{current_lists, sets_of, with_part, AreParts};
 ghost use Rattle.moc_parts.specs.Parts.{union_of, parts_below};
-ghost use Rattle.moc_parts.specs.Prepared.{found_sets, is_given, part_if};
+ghost use Rattle.moc_parts.specs.Prepared.{given_sets, is_given, part_if};
 
 mod commands;
 
-use crate::change::{Altered, Change};
+use crate::change::{Change, PartUpdate};
 use crate::footprint::parts_met;
 use crate::lists::Lists;
 use crate::part::Part;
@@ -18,112 +18,114 @@ use moc_ranges::{Coverage, Memory};
 use std::alloc::Global;
 use std::marker::Model;
 
-/// The lists that were found in the twelve parts, and those that were made anew since.
+/// The original lists of the twelve parts, and the lists that replace some of them.
 #[derive(Drop)]
 pub(crate) struct Draft<'a> {
-    found: [&'a Coverage; 12],
-    made: Lists,
+    previous: [&'a Coverage; 12],
+    new_lists: Lists,
 }
 
 impl<'a> Model for Draft<'a> {
     ghost use Rattle.std.specs.Prelude.{◌≡◌, length};
-    ghost use Rattle.moc_parts.specs.Private.Drafts.{Drafted, drafted_code, current_lists, sets_of, AreParts};
+    ghost use Rattle.moc_parts.specs.Private.Drafts.{DraftState, draft_state_code, current_lists, sets_of, AreParts};
     ghost use Rattle.moc_parts.specs.Parts.{union_of};
 
-    ghost Value = { Drafted };
+    ghost Value = { DraftState };
 
-    ghost coded = { drafted_code };
+    ghost coded = { draft_state_code };
 
     ghost view = { λ d. record {
-      found = sets_of d.found;
-      set = union_of (current_lists (sets_of d.found) d.made);
+      previous = sets_of d.previous;
+      set = union_of (current_lists (sets_of d.previous) d.new_lists);
     } };
 
-    ghost invariant = { λ d. AreParts (current_lists (sets_of d.found) d.made)
-        × (length d.made ≡ 12) };
+    ghost invariant = { λ d. AreParts (current_lists (sets_of d.previous) d.new_lists)
+        × (length d.new_lists ≡ 12) };
 }
 
 impl<'a> Draft<'a> {
-    /// A draft of the set in the lists that were found, with nothing in the parts that were not looked at.
-    pub(crate) fn from_found(
+    /// Creates a draft from the lists that were read. Parts without a list are empty.
+    pub(crate) fn from_lists(
         alloc: Global,
         lists: &'a [Option<&'a Coverage>; 12],
-        nothing: &'a Coverage,
+        no_pixels: &'a Coverage,
     ) -> Draft<'a>
-        requires parts { AreParts (found_sets lists.now) }
-        requires nothing { nothing.now ≡ set.empty }
-        ensures { result ≡ record { found = found_sets lists.now; set = union_of (found_sets lists.now) } }
+        requires parts { AreParts (given_sets lists.now) }
+        requires no_pixels { no_pixels.now ≡ set.empty }
+        ensures { result ≡ record { previous = given_sets lists.now; set = union_of (given_sets lists.now) } }
     {
-        let mut found = [nothing; 12];
+        let mut previous = [no_pixels; 12];
         for (b, list) in lists.iter().enumerate() {
-            found[b] = list.unwrap_or(nothing);
+            previous[b] = list.unwrap_or(no_pixels);
         }
-        Draft::unchanged(alloc, found)
+        Draft::without_changes(alloc, previous)
     }
 
-    /// A draft on which nothing is done yet.
-    fn unchanged(alloc: Global, found: [&'a Coverage; 12]) -> Draft<'a>
-        requires { AreParts (sets_of found) }
-        ensures { result ≡ record { found = sets_of found.entry; set = union_of (sets_of found.entry) } }
+    /// Creates a draft without any replaced list.
+    fn without_changes(alloc: Global, previous: [&'a Coverage; 12]) -> Draft<'a>
+        requires { AreParts (sets_of previous) }
+        ensures { result ≡ record { previous = sets_of previous.entry; set = union_of (sets_of previous.entry) } }
     {
         Draft {
-            found,
-            made: Lists::new(alloc),
+            previous,
+            new_lists: Lists::new(alloc),
         }
     }
 
-    /// The set of one part.
+    /// Returns the current list of one part.
     fn part(&self, part: Part) -> &Coverage
         ensures list { result.now ≡ part_of self.now.set part }
         ensures within { IsWithin self.now.set pixels }
     {
-        let found = &self.found[..];
-        let found = found[part.index()];
-        self.made.get(part).unwrap_or(found)
+        let previous = &self.previous[..];
+        let previous = previous[part.index()];
+        self.new_lists.get(part).unwrap_or(previous)
     }
 
-    /// Makes the list of one part anew. Refused where memory runs out.
+    /// Replaces the list of one part. Fails with `Memory` if an allocation fails.
     fn put(&mut self, part: Part, list: Coverage) -> Result<(), Memory>
         requires { part_of list part ≡ list }
         ensures set { OnOk result (self.new.set ≡ with_part self.old.set part list) }
-        ensures found { self.new.found ≡ self.old.found }
+        ensures previous { self.new.previous ≡ self.old.previous }
     {
-        self.made.put(part, list)?;
+        self.new_lists.put(part, list)?;
         Ok(())
     }
 
-    /// The set lies in the sky. Does nothing.
-    fn lies_in_sky(&self)
+    /// Establishes that the set is within the sky. Has no effect at run time.
+    fn prove_in_sky(&self)
         ensures { IsWithin self.now.set pixels }
     {
-        // Read for the proof alone: what every draft keeps is known where a field of it is read.
-        let _found = self.found;
+        // Reading a field makes the invariant of the draft available to the proof.
+        let _found = self.previous;
     }
 
-    /// Changes the set, and tells how many pixels it adds or removes.
+    /// Applies a change to the set, and returns the number of pixels that were added or removed.
     ///
-    /// A part that it leaves is not made anew, and one that it cannot alter is not looked at; an operand is walked over
-    /// as its part is cut out, counted, and put in.
+    /// Lists of parts that stay unchanged are not replaced, and parts that the change cannot alter are not read. For
+    /// each part, one pass counts the pixels and one combines the list and the operand. A union first extracts the
+    /// part of the operand.
     pub(crate) fn change(&mut self, alloc: Global, change: &Change<'_>) -> Result<u64, Memory>
         requires { IsChange change.now }
-        ensures set { OnOk result (self.new.set ≡ changed change.now self.old.set) }
-        ensures turned { IfOk result (λ n. n ≡ set.len (symmetric (changed change.now self.old.set) self.old.set)) }
+        ensures set { OnOk result (self.new.set ≡ set_after_change change.now self.old.set) }
+        ensures changed_pixels { IfOk result (λ n.
+            n ≡ set.len (symmetric (set_after_change change.now self.old.set) self.old.set)) }
         ensures within { OnOk result (IsWithin self.old.set pixels) }
-        ensures found { self.new.found ≡ self.old.found }
+        ensures previous { self.new.previous ≡ self.old.previous }
     {
-        self.lies_in_sky();
-        let mut turned = 0;
+        self.prove_in_sky();
+        let mut changed_pixels = 0;
         for part in change.parts() {
-            if let Some(Altered { list, pixels }) = change.part(alloc, self.part(part), part)? {
-                turned += pixels;
+            if let Some(PartUpdate { list, pixels }) = change.part(alloc, self.part(part), part)? {
+                changed_pixels += pixels;
                 self.put(part, list)?;
             }
         }
-        Ok(turned)
+        Ok(changed_pixels)
     }
 
-    /// How many pixels of one part the set has in common with another.
-    fn count_common_in(&self, part: Part, other: &Coverage) -> u64
+    /// Returns the number of pixels of one part that are also in `other`.
+    fn count_common_in_part(&self, part: Part, other: &Coverage) -> u64
         ensures { result ≡ set.len (set.intersection (part_of self.now.set part) other.now) }
     {
         let list = self.part(part);
@@ -134,18 +136,18 @@ impl<'a> Draft<'a> {
         }
     }
 
-    /// How many pixels the set has in common with another.
+    /// Returns the number of pixels that the set has in common with `other`.
     pub(crate) fn count_common(&self, other: &Coverage) -> u64
         ensures { result ≡ set.len (set.intersection self.now.set other.now) }
     {
         let mut total = 0;
         for part in parts_met(other) {
-            total += self.count_common_in(part, other);
+            total += self.count_common_in_part(part, other);
         }
         total
     }
 
-    /// Whether the set has a pixel in common with another.
+    /// Returns whether the set has a pixel in common with `other`.
     pub(crate) fn meets(&self, other: &Coverage) -> bool
         ensures { result ≡ meets self.now.set other.now }
     {
@@ -157,8 +159,14 @@ impl<'a> Draft<'a> {
         false
     }
 
-    /// The pixels of one part that the set has in common with another. A part that the other covers is copied whole.
-    fn common_in(&self, alloc: Global, part: Part, other: &Coverage) -> Result<Coverage, Memory>
+    /// Returns the pixels of one part that are also in `other`. If `other` covers the whole part, returns a copy that
+    /// shares the blocks of the list.
+    fn intersection_in(
+        &self,
+        alloc: Global,
+        part: Part,
+        other: &Coverage,
+    ) -> Result<Coverage, Memory>
         ensures common { IfOk result (λ c. c ≡ set.intersection (part_of self.now.set part) other.now) }
         ensures within { IsWithin self.now.set pixels }
     {
@@ -170,27 +178,27 @@ impl<'a> Draft<'a> {
         }
     }
 
-    /// The pixels that the set has in common with another.
+    /// Returns the intersection of the set with `other`.
     pub(crate) fn common(&self, alloc: Global, other: &Coverage) -> Result<Coverage, Memory>
         ensures { IfOk result (λ c. c ≡ set.intersection self.now.set other.now) }
     {
         let mut common = Coverage::empty(alloc);
         for part in parts_met(other) {
-            common = joined(alloc, common, self.common_in(alloc, part, other)?)?;
+            common = merge_sets(alloc, common, self.intersection_in(alloc, part, other)?)?;
         }
         Ok(common)
     }
 
-    /// The lists that were made anew.
-    pub(crate) fn into_made(self) -> Lists
-        ensures lists { current_lists self.entry.found result ≡ parts_below self.entry.set 12 }
+    /// Returns the replaced lists.
+    pub(crate) fn into_new_lists(self) -> Lists
+        ensures lists { current_lists self.entry.previous result ≡ parts_below self.entry.set 12 }
         ensures within { IsWithin self.entry.set pixels }
         ensures twelve { length result ≡ 12 }
     {
-        self.made
+        self.new_lists
     }
 
-    /// The lists of the parts that were given, with copies of those that were not made anew.
+    /// Returns the current lists of the parts that are given; lists that were not replaced are copied.
     pub(crate) fn into_lists(
         self,
         alloc: Global,
@@ -199,22 +207,25 @@ impl<'a> Draft<'a> {
         ensures { IfOk result (λ lists.
             (b : ℕ) → b < 12 → get_or lists b None ≡ part_if (is_given given.now b) self.entry.set b) }
     {
-        let Draft { found, made } = self;
-        let mut lists = made;
+        let Draft {
+            previous,
+            new_lists,
+        } = self;
+        let mut lists = new_lists;
         for part in Part::ALL {
             let b = part.index();
             if given[b].is_none() {
                 lists.clear(part);
             } else if lists.get(part).is_none() {
-                lists.put(part, found[b].try_copy(alloc)?)?;
+                lists.put(part, previous[b].try_copy(alloc)?)?;
             }
         }
         Ok(lists)
     }
 }
 
-/// What is in either set. Where one has no pixel, it is the other as it stands.
-fn joined(alloc: Global, a: Coverage, b: Coverage) -> Result<Coverage, Memory>
+/// Returns the union of two sets. If one set is empty, the other is returned without a copy.
+fn merge_sets(alloc: Global, a: Coverage, b: Coverage) -> Result<Coverage, Memory>
     ensures { IfOk result (λ c. c ≡ set.union a b) }
 {
     if b.is_empty() {

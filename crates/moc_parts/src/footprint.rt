@@ -1,4 +1,4 @@
-//! The parts that operands and cells lie in.
+//! The parts of operands and cells.
 ghost use Rattle.std.specs.Prelude.{◌≡◌, ◌<◌, ℕ, nat_eq, IfSome};
 ghost use Rattle.std.specs.FinSet as set;
 ghost use Rattle.moc_parts.specs.Commands.{parts_around, parts_met};
@@ -10,7 +10,7 @@ use moc_ranges::Coverage;
 use moc_sphere::Cell;
 use std::alloc::Global;
 
-/// The parts that a set meets, and part 0 where it is empty.
+/// Returns the parts in which a set has a pixel; returns part 0 if the set is empty.
 pub(crate) fn parts_met(operand: &Coverage) -> PartSet
     ensures parts { (b : ℕ) → b < 12 → set.contains result b ≡ parts_met operand.now b }
     ensures within { IsWithin operand.now pixels }
@@ -28,9 +28,9 @@ pub(crate) fn parts_met(operand: &Coverage) -> PartSet
     parts
 }
 
-/// The part that a set lies in, if there is one and the set is not empty.
-pub(crate) fn only_part(operand: &Coverage) -> Option<Part>
-    ensures lies { IfSome result (λ b. part_of operand.now b ≡ operand.now) }
+/// Returns the single part that contains the whole set, or `None` if the set is empty or has pixels in several parts.
+pub(crate) fn single_part(operand: &Coverage) -> Option<Part>
+    ensures in_part { IfSome result (λ b. part_of operand.now b ≡ operand.now) }
     ensures met { IfSome result (λ b. (k : ℕ) → parts_met operand.now k ≡ nat_eq b k) }
     ensures within { IsWithin operand.now pixels }
 {
@@ -44,7 +44,7 @@ pub(crate) fn only_part(operand: &Coverage) -> Option<Part>
     Some(Part::of(b))
 }
 
-/// The base pixels of a cell and of the cells that touch it.
+/// Returns the base pixels of a cell and of the cells that touch it.
 pub(crate) fn parts_around(cell: Cell, alloc: Global) -> PartSet
     ensures { (b : ℕ) → b < 12 → set.contains result b ≡ parts_around cell b }
 {
@@ -56,7 +56,7 @@ pub(crate) fn parts_around(cell: Cell, alloc: Global) -> PartSet
     parts
 }
 
-/// The part that a cell lies in: its base pixel.
+/// Returns the base pixel of a cell as a part.
 fn part_of_cell(cell: Cell) -> Part
     ensures { result ≡ face_of cell.order cell.index }
 {

@@ -5,25 +5,25 @@ mod batch;
 mod change;
 mod command;
 mod draft;
+mod effective_set;
 mod footprint;
-mod laws;
 mod lists;
 mod map;
 mod part;
 mod prepared;
 mod reply;
-mod resolved;
 mod surroundings;
+mod theorems;
 mod whole;
 
-pub use batch::{Batch, BatchError, MOST_COMMANDS};
+pub use batch::{Batch, BatchError, MAX_COMMANDS};
 pub use command::{Command, Operand};
-pub use laws::{
-    batches_are_local, commands_are_local, degraded_operands_meet_the_same_parts,
-    queries_leave_the_set, sets_are_united_by_parts, sets_have_twelve_parts,
-};
 pub use map::Map;
 pub use part::{Part, PartSet};
 pub use prepared::{Prepared, prepare, prepare_changes, reply_of};
 pub use reply::{Replies, Reply};
-pub use whole::{cut, unite};
+pub use theorems::{
+    batches_are_local, commands_are_local, degraded_operands_meet_the_same_parts,
+    queries_leave_the_set, sets_are_united_by_parts, sets_have_twelve_parts,
+};
+pub use whole::{merge_parts, split_by_base_pixel};

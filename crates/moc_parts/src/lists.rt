@@ -1,14 +1,15 @@
-//! Lists of some of the twelve parts.
+//! Lists of ranges for some of the twelve parts.
 ghost use Rattle.std.specs.Prelude.{◌≡◌, ◌<◌, None, Some, OnOk, OnErr, get_or, replicate, set as set_at};
 ghost use Rattle.std.specs.Option.{option_copied};
-ghost use Rattle.moc_parts.specs.Private.Drafts.{place_from};
+ghost use Rattle.moc_parts.specs.Private.Drafts.{index_of_part_from};
 
 use crate::part::Part;
 use moc_ranges::{Coverage, Memory};
 use std::alloc::Global;
 use std::marker::Model;
 
-/// Lists of some of the twelve parts, each with its part. Contracts see them as twelve places.
+/// Lists of ranges for some of the twelve parts, stored as pairs. In contracts, the value is a list of twelve optional
+/// sets.
 #[derive(Debug, Drop)]
 pub(crate) struct Lists {
     lists: Vec<(Part, Option<Coverage>)>,
@@ -29,7 +30,7 @@ impl Model for Lists {
 }
 
 impl Lists {
-    /// No list. Takes no memory.
+    /// Creates a collection without any list. Allocates nothing.
     pub(crate) fn new(alloc: Global) -> Lists
         ensures { result ≡ replicate 12 None }
     {
@@ -38,23 +39,23 @@ impl Lists {
         }
     }
 
-    /// The list of a part.
+    /// Returns the list of a part, if there is one.
     pub(crate) fn get(&self, part: Part) -> Option<&Coverage>
         ensures { option_copied result ≡ get_or self.now part None }
     {
-        match place_of(&self.lists, part) {
+        match index_of_part(&self.lists, part) {
             Some(i) => self.lists[i].1.as_ref(),
             None => None,
         }
     }
 
-    /// Puts a list into the place of a part, over the one that was there. Refused where memory runs out.
+    /// Sets or replaces the list of a part. Fails with `Memory` if an allocation fails; the lists are then unchanged.
     pub(crate) fn put(&mut self, part: Part, list: Coverage) -> Result<(), Memory>
         ensures put { OnOk result (self.new ≡ set_at self.old part (Some list)) }
         ensures unchanged { OnErr result (self.new ≡ self.old) }
         ensures in_range { part < 12 }
     {
-        match place_of(&self.lists, part) {
+        match index_of_part(&self.lists, part) {
             Some(i) => {
                 self.lists[i].1 = Some(list);
                 Ok(())
@@ -66,30 +67,30 @@ impl Lists {
         }
     }
 
-    /// Leaves the place of a part empty. Takes no memory.
+    /// Removes the list of a part. Allocates nothing.
     pub(crate) fn clear(&mut self, part: Part)
         ensures { self.new ≡ set_at self.old part None }
     {
-        if let Some(i) = place_of(&self.lists, part) {
+        if let Some(i) = index_of_part(&self.lists, part) {
             self.lists[i].1 = None;
         }
     }
 
-    /// Takes the list of a part out of its place. Takes no memory.
+    /// Removes and returns the list of a part, if there is one. Allocates nothing.
     pub(crate) fn take(&mut self, part: Part) -> Option<Coverage>
         ensures taken { result ≡ get_or self.old part None }
         ensures left { self.new ≡ set_at self.old part None }
     {
-        match place_of(&self.lists, part) {
+        match index_of_part(&self.lists, part) {
             Some(i) => self.lists[i].1.take(),
             None => None,
         }
     }
 }
 
-/// Where the list of a part is: the first with that part.
-fn place_of(lists: &[(Part, Option<Coverage>)], part: Part) -> Option<usize>
-    ensures place { result ≡ place_from 0 lists.now part }
+/// Returns the index of the first entry for a part.
+fn index_of_part(lists: &[(Part, Option<Coverage>)], part: Part) -> Option<usize>
+    ensures place { result ≡ index_of_part_from 0 lists.now part }
     ensures in_range { part < 12 }
 {
     let number = part.get();

@@ -1,4 +1,4 @@
-//! A set of pixels in twelve parts.
+//! A set of pixels in twelve parts, changed and queried by commands.
 ghost use Rattle.std.specs.Prelude.{◌≡◌, ◌<◌, [], ◌∷◌, IfOk, MatchOption, OnOk, OnErr, length};
 ghost use Rattle.std.specs.FinSet as set;
 ghost use Rattle.moc_ranges.specs.Operations.{part_of, IsWithin, pixels};
@@ -6,7 +6,7 @@ ghost use Rattle.moc_parts.specs.Batches.{replies_on, set_after_all};
 ghost use Rattle.moc_parts.specs.Commands.{operand_set, reply_on, set_after};
 ghost use Rattle.moc_parts.specs.declared.reply.Reply.TheVariants as reply;
 ghost use Rattle.moc_parts.specs.Private.Drafts.{current_lists};
-ghost use Rattle.moc_parts.specs.Prepared.{found_sets};
+ghost use Rattle.moc_parts.specs.Prepared.{given_sets};
 
 use crate::batch::Batch;
 use crate::command::{Command, Operand};
@@ -14,12 +14,12 @@ use crate::draft::Draft;
 use crate::lists::Lists;
 use crate::part::Part;
 use crate::reply::{Replies, Reply};
-use crate::whole::{cut, unite};
+use crate::whole::{merge_parts, split_by_base_pixel};
 use moc_ranges::{Coverage, Memory};
 use std::alloc::Global;
 use std::marker::Model;
 
-/// A set of pixels, as the twelve lists of its parts.
+/// A set of pixels, stored as the lists of ranges of its twelve parts.
 #[derive(Debug, Drop)]
 pub struct Map {
     parts: Vec<Coverage>,
@@ -42,77 +42,90 @@ impl Model for Map {
 }
 
 impl Map {
-    /// The map of a set. O(n) for n ranges; refused where memory runs out.
+    /// Creates the map of a set. O(n) for n ranges.
+    ///
+    /// # Errors
+    /// Fails with `Memory` if an allocation fails.
     pub fn new(alloc: Global, start: Coverage) -> Result<Map, Memory>
         ensures { IfOk result (λ m. m ≡ start) }
     {
-        let parts = cut(alloc, &start)?;
+        let parts = split_by_base_pixel(alloc, &start)?;
         Ok(Map { parts })
     }
 
-    /// The pixels of one part. Takes no memory. O(1).
+    /// Returns the pixels of one part. O(1); allocates nothing.
     pub fn part(&self, part: Part) -> &Coverage
         ensures part { result.now ≡ part_of self.now part }
 
-        // What lets a caller put the map together from its parts.
+        // A caller that assembles the map from its parts requires this fact.
         ensures within { IsWithin self.now pixels }
     {
         &self.parts[part.index()]
     }
 
-    /// The pixels of all parts. A union for each part; refused where memory runs out.
+    /// Returns the whole set. Computes one union for each part.
+    ///
+    /// # Errors
+    /// Fails with `Memory` if an allocation fails.
     pub fn coverage(&self, alloc: Global) -> Result<Coverage, Memory>
         ensures { IfOk result (λ c. c ≡ self.now) }
     {
-        let whole = unite(alloc, &lists(&self.parts))?;
+        let whole = merge_parts(alloc, &lists(&self.parts))?;
         Ok(whole)
     }
 
-    /// Does the commands of a batch in order, and replies to each.
+    /// Executes the commands of a batch in order, and returns the reply to each.
     ///
-    /// A list that a command changes is made anew, in one pass; one that none changes is not copied. One `add` alone,
-    /// whose operand lies in one part and is not degraded, is put into the list of that part. Refused where memory runs
-    /// out; the map then is as it was.
+    /// # Errors
+    /// Fails with `Memory` if an allocation fails; the map is then unchanged.
+    ///
+    /// # Complexity
+    /// A command that changes a part computes the new list of the part in one pass; unchanged lists are not copied. A
+    /// batch of one `Add`, whose operand is within one part and has no order, is inserted into the list of that part.
     pub fn apply(&mut self, alloc: Global, batch: &Batch) -> Result<Replies, Memory>
         ensures set { OnOk result (self.new ≡ set_after_all self.old batch.now) }
         ensures replies { IfOk result (λ r. r ≡ replies_on self.old batch.now) }
         ensures unchanged { OnErr result (self.new ≡ self.old) }
     {
         if let [Command::Add(operand)] = batch.commands() {
-            if let Some(replies) = self.add_alone(alloc, operand)? {
+            if let Some(replies) = self.add_single_part(alloc, operand)? {
                 return Ok(replies);
             }
         }
         let lists = lists(&self.parts);
-        let nothing = Coverage::empty(alloc);
-        let mut draft = Draft::from_found(alloc, &lists, &nothing);
+        let no_pixels = Coverage::empty(alloc);
+        let mut draft = Draft::from_lists(alloc, &lists, &no_pixels);
         let replies = draft.answer_all(alloc, batch.commands())?;
-        let made = draft.into_made();
-        put_all(&mut self.parts, made);
+        let new_lists = draft.into_new_lists();
+        replace_lists(&mut self.parts, new_lists);
         Ok(replies)
     }
 
-    /// Adds the set of an operand, and replies to that, where the set lies in one part and is not degraded. None where
-    /// it does not; the map then is as it was.
-    fn add_alone(&mut self, alloc: Global, operand: &Operand) -> Result<Option<Replies>, Memory>
+    /// Adds the set of an operand and returns the reply if the set is within one part and has no order. Otherwise
+    /// returns `None`, and the map is unchanged.
+    fn add_single_part(
+        &mut self,
+        alloc: Global,
+        operand: &Operand,
+    ) -> Result<Option<Replies>, Memory>
         ensures added { IfOk result (λ r. MatchOption r (self.new ≡ self.old) (λ r.
             (self.new ≡ set.union self.old (operand_set operand.now))
             × (r ≡ reply.Changed (set.len (set.difference (operand_set operand.now) self.old)) ∷ []))) }
         ensures unchanged { OnErr result (self.new ≡ self.old) }
     {
-        let Some(part) = operand.own_part() else {
+        let Some(part) = operand.single_part() else {
             return Ok(None);
         };
-        // All that can be refused comes before the set changes.
+        // Every allocation that can fail precedes the first change of the set.
         let mut replies = Replies::one(alloc, Reply::Changed(0))?;
         let added = self.insert_into(alloc, part, &operand.set)?;
         replies.set_only(Reply::Changed(added));
         Ok(Some(replies))
     }
 
-    /// Adds a set to the part that it lies in, and tells how many pixels are new.
+    /// Adds a set to the part that contains it, and returns the number of added pixels.
     fn insert_into(&mut self, alloc: Global, part: Part, more: &Coverage) -> Result<u64, Memory>
-        requires lies { part_of more.now part ≡ more.now }
+        requires in_part { part_of more.now part ≡ more.now }
         ensures set { OnOk result (self.new ≡ set.union self.old more.now) }
         ensures added { IfOk result (λ n. n ≡ set.len (set.difference more.now self.old)) }
         ensures unchanged { OnErr result (self.new ≡ self.old) }
@@ -121,50 +134,55 @@ impl Map {
         Ok(added)
     }
 
-    /// How many pixels the map has of a set that lies in one part.
+    /// Returns the number of pixels that the map has in common with a set within one part.
     fn count_in(&self, part: Part, other: &Coverage) -> u64
-        requires lies { part_of other.now part ≡ other.now }
+        requires in_part { part_of other.now part ≡ other.now }
         ensures { result ≡ set.len (set.intersection self.now other.now) }
     {
         self.part(part).count_common(other)
     }
 
-    /// Does one command, and replies to it: as `apply` does the batch of it, without a batch. An `add` or a `count`
-    /// whose operand lies in one part, and is not degraded, looks at the list of that part alone.
+    /// Executes one command and returns its reply. The result is that of `apply` on the batch of this command, without
+    /// allocating a batch. An `Add` or `Count`, whose operand is within one part and has no order, only accesses the
+    /// list of that part.
     ///
-    /// Refused where memory runs out; the map then is as it was. Costs what `apply` does.
+    /// # Errors
+    /// Fails with `Memory` if an allocation fails; the map is then unchanged.
+    ///
+    /// # Complexity
+    /// As `apply`.
     pub fn answer(&mut self, alloc: Global, command: &Command) -> Result<Reply, Memory>
         ensures set { OnOk result (self.new ≡ set_after self.old command.now) }
         ensures reply { IfOk result (λ r. r ≡ reply_on self.old command.now) }
         ensures unchanged { OnErr result (self.new ≡ self.old) }
     {
         if let Command::Add(operand) = command {
-            if let Some(part) = operand.own_part() {
+            if let Some(part) = operand.single_part() {
                 let added = self.insert_into(alloc, part, &operand.set)?;
                 return Ok(Reply::Changed(added));
             }
         }
         if let Command::Count(operand) = command {
-            if let Some(part) = operand.own_part() {
+            if let Some(part) = operand.single_part() {
                 return Ok(Reply::Total(self.count_in(part, &operand.set)));
             }
         }
-        // The operand lies in the sky, and an order or a cell is one.
-        command.lies_in_sky();
+        // The operand is within the sky, and an order or a cell is valid.
+        command.prove_in_sky();
         let lists = lists(&self.parts);
-        let nothing = Coverage::empty(alloc);
-        let mut draft = Draft::from_found(alloc, &lists, &nothing);
+        let no_pixels = Coverage::empty(alloc);
+        let mut draft = Draft::from_lists(alloc, &lists, &no_pixels);
         let reply = draft.answer(alloc, command)?;
-        let made = draft.into_made();
-        put_all(&mut self.parts, made);
+        let new_lists = draft.into_new_lists();
+        replace_lists(&mut self.parts, new_lists);
         Ok(reply)
     }
 }
 
-/// The lists of all parts.
+/// Returns the lists of all parts.
 fn lists(parts: &[Coverage]) -> [Option<&Coverage>; 12]
     requires { length parts.now ≡ 12 }
-    ensures { found_sets result ≡ parts.now }
+    ensures { given_sets result ≡ parts.now }
 {
     let mut lists = [None; 12];
     for (b, part) in parts.iter().enumerate() {
@@ -173,14 +191,14 @@ fn lists(parts: &[Coverage]) -> [Option<&Coverage>; 12]
     lists
 }
 
-/// Puts the lists that were made anew into their places.
-fn put_all(parts: &mut [Coverage], mut made: Lists)
+/// Replaces the lists of those parts that have a new list.
+fn replace_lists(parts: &mut [Coverage], mut new_lists: Lists)
     requires twelve { length parts.old ≡ 12 }
-    requires places { length made ≡ 12 }
-    ensures { parts.new ≡ current_lists parts.old made }
+    requires places { length new_lists ≡ 12 }
+    ensures { parts.new ≡ current_lists parts.old new_lists }
 {
     for part in Part::ALL {
-        if let Some(list) = made.take(part) {
+        if let Some(list) = new_lists.take(part) {
             parts[part.index()] = list;
         }
     }

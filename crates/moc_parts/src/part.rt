@@ -1,13 +1,13 @@
-//! The parts of a map: one for each base pixel.
+//! The twelve parts of a map, one for each base pixel.
 ghost use Rattle.std.specs.Prelude.{◌≡◌, ◌↔◌, ℕ, ◌+◌, ◌<◌, nat_lt, [], ◌∷◌, IsTrue, MatchOption, SomeIff};
 ghost use Rattle.std.specs.List.{list_any};
 ghost use Rattle.std.specs.FinSet as set;
 ghost use Rattle.std.specs.Iterator.{item_count, YieldsFirst};
-ghost use Rattle.moc_parts.specs.Parts.{rising_parts};
+ghost use Rattle.moc_parts.specs.Parts.{parts_from};
 
 use std::marker::Model;
 
-/// One of the twelve parts of a map, by its base pixel, 0 to 11. Each call of it takes a step, and none takes memory.
+/// One of the twelve parts of a map: a base pixel, 0 to 11. Every method takes constant time and allocates nothing.
 #[derive(Clone, Copy, Debug, PartialEq, Eq, PartialOrd, Ord, Hash)]
 pub struct Part {
     number: u8,
@@ -24,7 +24,7 @@ impl Model for Part {
 }
 
 impl Part {
-    /// All twelve, rising.
+    /// All twelve parts in ascending order.
     pub const ALL: [Part; 12] = [
         Part { number: 0 },
         Part { number: 1 },
@@ -40,7 +40,7 @@ impl Part {
         Part { number: 11 },
     ];
 
-    /// The part of this base pixel, or `None` above 11.
+    /// Returns the part of a base pixel, or `None` if the number is above 11.
     pub fn new(number: u8) -> Option<Part>
         ensures { SomeIff result (number < 12) number }
     {
@@ -51,7 +51,7 @@ impl Part {
         }
     }
 
-    /// The part of this base pixel, for a caller that knows it to be one.
+    /// Returns the part of a base pixel. Requires a number below 12.
     pub fn of(number: u8) -> Part
         requires { number < 12 }
         ensures { result ≡ number }
@@ -59,7 +59,7 @@ impl Part {
         Part { number }
     }
 
-    /// The number of the base pixel.
+    /// Returns the number of the base pixel.
     pub fn get(self) -> u8
         ensures value { result ≡ self }
         ensures in_range { result < 12 }
@@ -67,7 +67,7 @@ impl Part {
         self.number
     }
 
-    /// The same number as a place in a row of twelve.
+    /// Returns the number of the base pixel as an index into an array of twelve.
     pub fn index(self) -> usize
         ensures value { result ≡ self }
         ensures in_range { result < 12 }
@@ -88,51 +88,51 @@ impl Model for PartSet {
     ghost use Rattle.std.specs.Ordering.{nat_cmp};
     ghost use Rattle.std.specs.FinSet as set;
     ghost use Rattle.std.specs.Coded.{coded_ℕ};
-    ghost use Rattle.moc_parts.specs.Private.PartSets.{flagged, flags_of, flags_of-flagged};
+    ghost use Rattle.moc_parts.specs.Private.PartSets.{parts_of_flags, flags_of, flags_of-parts_of_flags};
 
     ghost Value = { set.FinSet nat_cmp };
 
     ghost coded = { set.code coded_ℕ };
 
-    ghost view = { λ parts. flagged parts.flags };
+    ghost view = { λ parts. parts_of_flags parts.flags };
 
     ghost invariant = { λ parts. length parts.flags ≡ 12 };
 
     ghost inverse = { λ parts. record { flags = flags_of parts } };
 
-    ghost inverse_ok = { λ parts twelve. ap (λ flags. record { flags = flags }) (flags_of-flagged parts.flags twelve) };
+    ghost inverse_ok = { λ s twelve. ap (λ flags. record { flags = flags }) (flags_of-parts_of_flags s.flags twelve) };
 }
 
 impl PartSet {
-    /// No part. O(1), takes no memory.
+    /// Returns the empty set of parts. O(1); allocates nothing.
     pub fn none() -> PartSet
         ensures { result ≡ set.empty }
     {
         PartSet { flags: [false; 12] }
     }
 
-    /// All twelve parts. O(1), takes no memory.
+    /// Returns the set of all twelve parts. O(1); allocates nothing.
     pub fn all() -> PartSet
         ensures { (b : ℕ) → set.contains result b ≡ nat_lt b 12 }
     {
         PartSet { flags: [true; 12] }
     }
 
-    /// Whether no part is in the set. O(1), takes no memory.
+    /// Returns whether the set is empty. O(1); allocates nothing.
     pub fn is_empty(self) -> bool
         ensures { IsTrue result ↔ (self ≡ set.empty) }
     {
         !has_true(&self.flags)
     }
 
-    /// Puts a part in. O(1), takes no memory.
+    /// Adds a part to the set. O(1); allocates nothing.
     pub fn insert(&mut self, part: Part)
         ensures { self.new ≡ set.insert self.old part }
     {
         self.flags[part.index()] = true;
     }
 
-    /// The parts of either set. O(1), takes no memory.
+    /// Returns the union of two sets of parts. O(1); allocates nothing.
     pub fn union(self, other: PartSet) -> PartSet
         ensures { result ≡ set.union self other }
     {
@@ -145,10 +145,10 @@ impl PartSet {
         parts
     }
 
-    /// The first part of the set from this number on, if there is one.
+    /// Returns the first part in the set from `from` on, if any.
     fn first_from(self, from: u8) -> Option<Part>
-        ensures { MatchOption result (rising_parts self from ≡ []) (λ b.
-            rising_parts self from ≡ b ∷ rising_parts self (b + 1)) }
+        ensures { MatchOption result (parts_from self from ≡ []) (λ b.
+            parts_from self from ≡ b ∷ parts_from self (b + 1)) }
     {
         for number in from..12 {
             let part = Part::of(number);
@@ -159,7 +159,7 @@ impl PartSet {
         None
     }
 
-    /// Whether the part is in the set. O(1), takes no memory.
+    /// Returns whether the part is in the set. O(1); allocates nothing.
     pub fn contains(self, part: Part) -> bool
         ensures { result ≡ set.contains self part }
     {
@@ -167,22 +167,22 @@ impl PartSet {
     }
 }
 
-/// The parts of a set, rising; each is found in as many steps as there are parts at most. Takes no memory.
+/// Iterates over the parts in ascending order. Each step examines at most twelve flags; allocates nothing.
 impl IntoIterator for PartSet {
     type Item = Part;
 
     type IntoIter = Parts;
 
-    ghost use Rattle.moc_parts.specs.Parts.{rising_parts};
+    ghost use Rattle.moc_parts.specs.Parts.{parts_from};
 
-    ghost into_iter_gives = { λ s r. r ≡ rising_parts s 0 };
+    ghost into_iter_gives = { λ s r. r ≡ parts_from s 0 };
 
     fn into_iter(self) -> Parts {
         Parts { set: self, from: 0 }
     }
 }
 
-/// The parts of a set that are still to come, rising.
+/// An iterator over the remaining parts of a set, in ascending order.
 #[derive(Debug, Drop)]
 pub struct Parts {
     set: PartSet,
@@ -191,11 +191,11 @@ pub struct Parts {
 
 impl Model for Parts {
     ghost use Rattle.std.specs.Prelude.{List, ℕ};
-    ghost use Rattle.moc_parts.specs.Parts.{rising_parts};
+    ghost use Rattle.moc_parts.specs.Parts.{parts_from};
 
     ghost Value = { List ℕ };
 
-    ghost view = { λ parts. rising_parts parts.set parts.from };
+    ghost view = { λ parts. parts_from parts.set parts.from };
 }
 
 impl Iterator for Parts {
@@ -212,7 +212,7 @@ impl Iterator for Parts {
     }
 }
 
-/// Whether some flag is set.
+/// Returns whether at least one flag is set.
 fn has_true(flags: &[bool]) -> bool
     ensures { result ≡ list_any (λ flag. flag) flags.now }
 {

@@ -1,9 +1,9 @@
-//! What a batch makes of the parts in its footprint, from what was found there.
+//! The effect of a batch on the parts in its footprint, computed from their current content.
 ghost use Rattle.std.specs.Prelude.{◌≡◌, ◌<◌, IfOk, None, false, get_or, set as set_at};
 ghost use Rattle.std.specs.List.{list_any};
 ghost use Rattle.moc_parts.specs.Commands.{is_update};
-ghost use Rattle.moc_parts.specs.Parts.{union_of, LieInParts};
-ghost use Rattle.moc_parts.specs.Prepared.{found_sets, is_given, AreChanges, AreRepliesTo, IsPrepared};
+ghost use Rattle.moc_parts.specs.Parts.{union_of, AreWithinParts};
+ghost use Rattle.moc_parts.specs.Prepared.{given_sets, is_given, AreChanges, AreRepliesTo, IsPrepared};
 
 use crate::batch::Batch;
 use crate::draft::Draft;
@@ -14,7 +14,7 @@ use moc_ranges::{Coverage, Memory};
 use std::alloc::Global;
 use std::marker::Model;
 
-/// The new lists of parts that were given, and the replies to the commands of a batch.
+/// The new lists of the given parts, and the replies to the commands of a batch.
 #[derive(Debug, Drop)]
 pub struct Prepared {
     lists: Lists,
@@ -36,14 +36,15 @@ impl Model for Prepared {
 }
 
 impl Prepared {
-    /// The replies, in the order of the commands. Takes no memory.
+    /// Returns the replies in the order of the commands. Allocates nothing.
     pub fn reply(&self) -> &Replies
         ensures { result.now ≡ self.now.replies }
     {
         &self.replies
     }
 
-    /// The new list of a part: `None` where there is none, and where it was taken before. Takes no memory. O(1).
+    /// Removes and returns the new list of a part. Returns `None` if there is no new list or if it was already taken.
+    /// O(1); allocates nothing.
     pub fn take(&mut self, part: Part) -> Option<Coverage>
         ensures taken { result ≡ get_or self.old.lists part None }
         ensures left { self.new.lists ≡ set_at self.old.lists part None }
@@ -52,8 +53,8 @@ impl Prepared {
         self.lists.take(part)
     }
 
-    /// The replies alone; the lists that were not taken are given up. Takes no memory. Linear in the lists that are
-    /// given up.
+    /// Returns the replies and drops the lists that were not taken. Linear in the size of the dropped lists; allocates
+    /// nothing.
     pub fn into_reply(self) -> Replies
         ensures { result ≡ self.replies }
     {
@@ -61,59 +62,76 @@ impl Prepared {
     }
 }
 
-/// The new lists of the parts in the footprint of a batch, and its replies, from the lists that were found there.
+/// Computes the new lists of the parts in the footprint of a batch, and its replies.
 ///
-/// The parts of the footprint are given, each in its own base pixel. What is given outside of the footprint has no say
-/// in it, and is handed on as it was found. Lists that do not change are copied. Refused where memory runs out. One
-/// pass over a list for each command that changes it.
+/// The array must have the current list of every part in the footprint, each within its own base pixel. A part without
+/// a list counts as empty. Lists outside the footprint do not influence the replies and are copied unchanged.
+///
+/// # Errors
+/// Fails with `Memory` if an allocation fails.
+///
+/// # Complexity
+/// One pass over a list for each command that changes it; unchanged lists are copied.
 pub fn prepare(
     alloc: Global,
     batch: &Batch,
-    found: &[Option<&Coverage>; 12],
+    previous: &[Option<&Coverage>; 12],
 ) -> Result<Prepared, Memory>
-    requires { LieInParts (found_sets found.now) }
+    requires { AreWithinParts (given_sets previous.now) }
 
-    // So on every set that agrees with what was found in the footprint: its replies, and its new content there.
-    ensures { IfOk result (λ p. IsPrepared batch.now (is_given found.now) (union_of (found_sets found.now)) p) }
+    // The result holds for every set that agrees with the given lists in the footprint: both the replies and the new
+    // content of the footprint.
+    ensures { IfOk result (λ p. IsPrepared batch.now (is_given previous.now) (union_of (given_sets previous.now)) p) }
 {
-    let nothing = Coverage::empty(alloc);
-    let mut draft = Draft::from_found(alloc, found, &nothing);
+    let no_pixels = Coverage::empty(alloc);
+    let mut draft = Draft::from_lists(alloc, previous, &no_pixels);
     let replies = draft.answer_all(alloc, batch.commands())?;
-    let lists = draft.into_lists(alloc, found)?;
+    let lists = draft.into_lists(alloc, previous)?;
     Ok(Prepared { lists, replies })
 }
 
-/// As `prepare`, but without a list for a part that no command of the batch changes, so that no list is copied. Refused
-/// where memory runs out. As many passes as `prepare`.
+/// Computes the new lists and the replies like `prepare`, but without a list for a part that no command changes. No
+/// list is copied.
+///
+/// # Errors
+/// Fails with `Memory` if an allocation fails.
+///
+/// # Complexity
+/// The same number of passes as `prepare`.
 pub fn prepare_changes(
     alloc: Global,
     batch: &Batch,
-    found: &[Option<&Coverage>; 12],
+    previous: &[Option<&Coverage>; 12],
 ) -> Result<Prepared, Memory>
-    requires { LieInParts (found_sets found.now) }
-    ensures { IfOk result (λ p. AreChanges batch.now (union_of (found_sets found.now)) p) }
+    requires { AreWithinParts (given_sets previous.now) }
+    ensures { IfOk result (λ p. AreChanges batch.now (union_of (given_sets previous.now)) p) }
 {
-    let nothing = Coverage::empty(alloc);
-    let mut draft = Draft::from_found(alloc, found, &nothing);
+    let no_pixels = Coverage::empty(alloc);
+    let mut draft = Draft::from_lists(alloc, previous, &no_pixels);
     let replies = draft.answer_all(alloc, batch.commands())?;
-    let lists = draft.into_made();
+    let lists = draft.into_new_lists();
     Ok(Prepared { lists, replies })
 }
 
-/// The replies to a batch that is no update, from the lists that were found in its footprint, as `prepare` has them.
+/// Computes the replies to a batch without updates from the current lists of the parts in its footprint. The replies
+/// are those of `prepare`, but no list is copied.
 ///
-/// Copies no list. Refused where memory runs out. Linear in what the queries look at.
+/// # Errors
+/// Fails with `Memory` if an allocation fails.
+///
+/// # Complexity
+/// Linear in the size of the lists that the queries read.
 pub fn reply_of(
     alloc: Global,
     batch: &Batch,
-    found: &[Option<&Coverage>; 12],
+    previous: &[Option<&Coverage>; 12],
 ) -> Result<Replies, Memory>
     requires query { list_any is_update batch.now ≡ false }
-    requires parts { LieInParts (found_sets found.now) }
-    ensures { IfOk result (λ r. AreRepliesTo batch.now (union_of (found_sets found.now)) r) }
+    requires parts { AreWithinParts (given_sets previous.now) }
+    ensures { IfOk result (λ r. AreRepliesTo batch.now (union_of (given_sets previous.now)) r) }
 {
-    let nothing = Coverage::empty(alloc);
-    let mut draft = Draft::from_found(alloc, found, &nothing);
+    let no_pixels = Coverage::empty(alloc);
+    let mut draft = Draft::from_lists(alloc, previous, &no_pixels);
     let replies = draft.answer_all(alloc, batch.commands())?;
     Ok(replies)
 }

@@ -1,4 +1,4 @@
-//! What a map replies.
+//! The replies to commands.
 ghost use Rattle.std.specs.Prelude.{◌≡◌, ◌++◌, ◌∷◌, [], ◌⊎◌, ℕ, IfOk, IfSome, OnOk, Some, length, slice_get};
 ghost use Rattle.std.specs.Option.{option_copied};
 
@@ -6,31 +6,31 @@ use moc_ranges::{Coverage, Memory};
 use std::alloc::Global;
 use std::marker::Model;
 
-/// What a command is answered. Counts are of pixels of order 29.
+/// The reply to a command. All counts are counts of pixels of order 29.
 #[derive(Debug, PartialEq, Eq, Drop)]
 pub enum Reply {
-    /// How many pixels changed.
+    /// The number of pixels that were added or removed.
     Changed(u64),
-    /// The set was claimed: nothing of it was there.
+    /// The claim succeeded: its pixels were free and were added.
     Claimed,
-    /// How many pixels of the claim were there already.
+    /// The claim failed: the number of its pixels that were already in the set.
     Taken(u64),
-    /// How many pixels were counted.
+    /// The number of pixels that the set has in common with the operand.
     Total(u64),
-    /// The pixels that were read.
+    /// The pixels that the set has in common with the operand.
     Cover(Coverage),
-    /// Whether the set has a pixel in the surroundings of the cell.
+    /// Whether the set has a pixel in the cell or in a cell that touches it.
     Near(bool),
 }
 
 impl Reply {
-    /// The number that the reply tells: of pixels that changed, that were there already, or that were counted. None
-    /// where it tells something else. O(1), takes no memory.
+    /// Returns the number of pixels in a `Changed`, `Taken` or `Total` reply, and `None` for other replies. O(1);
+    /// allocates nothing.
     pub fn pixels(&self) -> Option<u64>
         ensures changed { (n : ℕ) → self.now ≡ Reply.Changed n → result ≡ Some n }
         ensures taken { (n : ℕ) → self.now ≡ Reply.Taken n → result ≡ Some n }
         ensures counted { (n : ℕ) → self.now ≡ Reply.Total n → result ≡ Some n }
-        ensures told { IfSome result (λ n.
+        ensures reported { IfSome result (λ n.
             (self.now ≡ Reply.Changed n) ⊎ (self.now ≡ Reply.Taken n) ⊎ (self.now ≡ Reply.Total n)) }
     {
         match self {
@@ -39,7 +39,10 @@ impl Reply {
         }
     }
 
-    /// A copy. O(n) for n ranges; refused where memory runs out.
+    /// Returns a copy, which shares the blocks of a `Cover`. Costs at most as much as `Coverage::try_copy`.
+    ///
+    /// # Errors
+    /// Fails with `Memory` if an allocation fails.
     pub fn try_copy(&self, alloc: Global) -> Result<Reply, Memory>
         ensures { IfOk result (λ x. x ≡ self.now) }
     {
@@ -54,7 +57,7 @@ impl Reply {
     }
 }
 
-/// The replies of a batch, in the order of its commands.
+/// The replies to the commands of a batch, in the order of the commands.
 #[derive(Debug, Drop)]
 pub struct Replies {
     replies: Vec<Reply>,
@@ -73,7 +76,7 @@ impl Model for Replies {
     ghost view = { λ r. r.replies.items };
 }
 
-/// The same replies in the same order.
+/// Equal if the replies are equal and in the same order.
 impl PartialEq for Replies {
     ghost use Rattle.std.specs.Cmp.{partial_equiv_from_equiv};
     ghost use Rattle.std.specs.Cmp.Lexicographic.{pointwise, lists_equiv};
@@ -97,7 +100,7 @@ impl Eq for Replies {
 }
 
 impl Replies {
-    /// No reply yet.
+    /// Creates an empty list of replies.
     pub(crate) fn new(alloc: Global) -> Replies
         ensures { result ≡ [] }
     {
@@ -106,7 +109,7 @@ impl Replies {
         }
     }
 
-    /// Adds a reply.
+    /// Appends a reply.
     pub(crate) fn push(&mut self, reply: Reply) -> Result<(), Memory>
         ensures { OnOk result (self.new ≡ self.old ++ reply ∷ []) }
     {
@@ -114,7 +117,7 @@ impl Replies {
         Ok(())
     }
 
-    /// One reply.
+    /// Creates a list of one reply.
     pub(crate) fn one(alloc: Global, reply: Reply) -> Result<Replies, Memory>
         ensures { IfOk result (λ r. r ≡ reply ∷ []) }
     {
@@ -123,7 +126,7 @@ impl Replies {
         Ok(replies)
     }
 
-    /// Puts another reply in place of the only one.
+    /// Replaces the only reply.
     pub(crate) fn set_only(&mut self, reply: Reply)
         requires { length self.old ≡ 1 }
         ensures { self.new ≡ reply ∷ [] }
@@ -131,21 +134,21 @@ impl Replies {
         self.replies[0] = reply;
     }
 
-    /// The replies, in the order of the commands. Takes no memory.
+    /// Returns the replies in the order of the commands. Allocates nothing.
     pub fn as_slice(&self) -> &[Reply]
         ensures { result.now ≡ self.now }
     {
         &self.replies
     }
 
-    /// The reply to the first command, which each batch has. Takes no memory.
+    /// Returns the reply to the first command; a batch always has a first command. Allocates nothing.
     pub fn first(&self) -> Option<&Reply>
         ensures { option_copied result ≡ slice_get self.now 0 }
     {
         self.replies.first()
     }
 
-    /// The only reply, for a caller that knows there to be one. Takes no memory. O(1).
+    /// Returns the only reply. Requires a list of exactly one reply. O(1); allocates nothing.
     pub fn into_only(self) -> Reply
         requires { length self ≡ 1 }
         ensures { self ≡ result ∷ [] }
@@ -157,7 +160,10 @@ impl Replies {
         }
     }
 
-    /// A copy. Linear in the replies and their ranges; refused where memory runs out.
+    /// Returns a copy, which shares the blocks of all sets. One `Reply::try_copy` for each reply.
+    ///
+    /// # Errors
+    /// Fails with `Memory` if an allocation fails.
     pub fn try_copy(&self, alloc: Global) -> Result<Replies, Memory>
         ensures { IfOk result (λ x. x ≡ self.now) }
     {

@@ -1,4 +1,4 @@
-//! The pixels of a cell and of the cells that touch it.
+//! The surroundings of a cell: its pixels and those of the cells that touch it.
 ghost use Rattle.std.specs.Prelude.{◌≡◌, IfOk};
 ghost use Rattle.moc_parts.specs.Commands.{surroundings};
 
@@ -6,7 +6,7 @@ use moc_ranges::{Coverage, CoverageBuilder, Memory};
 use moc_sphere::Cell;
 use std::alloc::Global;
 
-/// The pixels of a cell and of the cells that touch it.
+/// Returns the pixels of a cell and of the cells that touch it.
 pub(crate) fn surroundings_of(alloc: Global, cell: Cell) -> Result<Coverage, Memory>
     ensures { IfOk result (λ c. c ≡ surroundings cell) }
 {

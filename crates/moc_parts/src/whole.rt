@@ -1,18 +1,21 @@
-//! A set cut into its twelve parts, and put together from them.
+//! Splitting a set into its twelve parts, and merging the parts.
 ghost use Rattle.std.specs.Prelude.{◌≡◌, IfOk, OnOk};
 ghost use Rattle.moc_ranges.specs.Operations.{IsWithin, pixels};
 ghost use Rattle.moc_parts.specs.Parts.{parts_below, union_of};
-ghost use Rattle.moc_parts.specs.Prepared.{found_sets};
+ghost use Rattle.moc_parts.specs.Prepared.{given_sets};
 
 use crate::part::Part;
 use moc_ranges::{Coverage, Memory};
 use std::alloc::Global;
 
-/// The twelve parts of a set, by their numbers. O(n) for n ranges; refused where memory runs out.
-pub fn cut(alloc: Global, set: &Coverage) -> Result<Vec<Coverage>, Memory>
+/// Splits a set into its twelve parts, in the order of the base pixels. O(n) for n ranges.
+///
+/// # Errors
+/// Fails with `Memory` if an allocation fails.
+pub fn split_by_base_pixel(alloc: Global, set: &Coverage) -> Result<Vec<Coverage>, Memory>
     ensures parts { IfOk result (λ parts. parts.items ≡ parts_below set.now 12) }
 
-    // What lets a caller put the set together from them.
+    // A caller that merges the parts again requires this fact.
     ensures within { OnOk result (IsWithin set.now pixels) }
 {
     let mut parts = Vec::with_capacity(alloc, 12)?;
@@ -22,9 +25,12 @@ pub fn cut(alloc: Global, set: &Coverage) -> Result<Vec<Coverage>, Memory>
     Ok(parts)
 }
 
-/// The pixels of all parts that are given. A union for each; refused where memory runs out.
-pub fn unite(alloc: Global, parts: &[Option<&Coverage>; 12]) -> Result<Coverage, Memory>
-    ensures { IfOk result (λ set. set ≡ union_of (found_sets parts.now)) }
+/// Returns the union of all parts that are given. Computes one union for each part.
+///
+/// # Errors
+/// Fails with `Memory` if an allocation fails.
+pub fn merge_parts(alloc: Global, parts: &[Option<&Coverage>; 12]) -> Result<Coverage, Memory>
+    ensures { IfOk result (λ set. set ≡ union_of (given_sets parts.now)) }
 {
     let mut whole = Coverage::empty(alloc);
     for part in parts {

@@ -1,6 +1,6 @@
-pub mod Asking
+pub mod Requests
 pub mod Controls
 pub mod Parsing
-pub mod Refusals
+pub mod StatusLemmas
 pub mod NumberLines
 pub mod Writing

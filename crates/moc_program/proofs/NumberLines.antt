@@ -4,7 +4,7 @@ use Rattle.std.specs.Prelude.{codes, decimal}
 use Rattle.std.proofs.lemmas.List.{take_more, take_all}
 use Rattle.std.specs.List.{flat_map}
 
--- numbers behind others, each behind a blank
+-- numbers after others, each after a blank
 abbrev pub spaced : List ℕ → List ℕ
 spaced ns = flat_map (λ n. codes " " ++ decimal n) ns
 

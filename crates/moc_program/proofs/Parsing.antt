@@ -1,4 +1,4 @@
--- What the parse of words says of them.
+-- Consequences of the result of parsing the arguments.
 use Rattle.std.proofs.Common.{◌≡◌, ◌⊎◌, inl, inr, true, List, Result, Ok, Err, refl}
 use Rattle.std.specs.Result.{IfErr, IfOk, OnOk}
 use Rattle.std.proofs.lemmas.Bool.{false_from_ne_true}
@@ -8,10 +8,10 @@ use Rattle.clap.specs.declared.parser.matches.ArgMatches.{ArgMatches}
 use Rattle.clap.specs.declared.error.kind.ErrorKind.{ErrorKind}
 use Rattle.clap.specs.declared.error.kind.ErrorKind.TheVariants.{OutOfMemory, DisplayHelp, DisplayVersion}
 use Rattle.moc_command_line.specs.CommandLine.{IsCommandLine, Parsers, moc_app}
-use Rattle.moc_program.specs.Private.Matches.{AreReadAs}
-use Rattle.moc_program.specs.Outcomes.{AreMistaken, AreRefused, AskForHelp, IsMistake}
+use Rattle.moc_program.specs.Private.Matches.{AreParsedAs}
+use Rattle.moc_program.specs.Outcomes.{AreAlwaysInvalid, AreInvalid, RequestHelp, IsUsageError}
 
--- the command line is one whose faults `clap` names
+-- the command line is one whose errors `clap` names
 pub simple : (parsers : Parsers) → is_simple_and_free (moc_app parsers) ≡ true
 unfolding moc_app
 simple parsers = refl
@@ -19,45 +19,45 @@ simple parsers = refl
 pub is_free : (app : App) → IsCommandLine app → is_simple_and_free app ≡ true
 is_free app line = rw line.is (simple line.parsers)
 
--- and of which it gives the matches
+-- and one for which it returns the matches
 pub plain : (parsers : Parsers) → is_simple (moc_app parsers) ≡ true
 unfolding moc_app
 plain parsers = refl
 
-pub read_as : (app : App) (words : List Text) → IsCommandLine app → (r : Result ArgMatches Error) → IfOk r (λ m. HasMatchesOf app words m)
-    → IfOk r (λ m. AreReadAs words m)
-read_as app words line (Ok m) matches = record { app = app; line = line; are = (matches (rw line.is (plain line.parsers))).1 }
-read_as app words line (Err e) matches = tt
+pub read_as : (app : App) (arguments : List Text) → IsCommandLine app → (r : Result ArgMatches Error) → IfOk r (λ m. HasMatchesOf app arguments m)
+    → IfOk r (λ m. AreParsedAs arguments m)
+read_as app arguments line (Ok m) matches = record { app = app; line = line; are = (matches (rw line.is (plain line.parsers))).1 }
+read_as app arguments line (Err e) matches = tt
 
 no_help : (kind : ErrorKind) → kind ≡ OutOfMemory → (kind ≡ DisplayHelp) ⊎ (kind ≡ DisplayVersion) → ⊥
 no_help kind memory (inl help) = cc
 no_help kind memory (inr version) = cc
 
-module _ {M : Type 0} (app : App) (words : List Text) (line : IsCommandLine app) where
-  pub refused : (r : Result M Error) → IfErr r (λ e. takes app words ≡ true → kind_of e ≡ OutOfMemory) → FailsBy (fault_of app words) r
-      → IfErr r (λ e. IsMistake (kind_of e) → AreRefused words)
+module _ {M : Type 0} (app : App) (arguments : List Text) (line : IsCommandLine app) where
+  pub refused : (r : Result M Error) → IfErr r (λ e. takes app arguments ≡ true → kind_of e ≡ OutOfMemory) → FailsBy (fault_of app arguments) r
+      → IfErr r (λ e. IsUsageError (kind_of e) → AreInvalid arguments)
   refused (Ok m) passes fails = tt
-  refused (Err e) passes (inl memory) = λ mistake. absurd (mistake.words memory)
+  refused (Err e) passes (inl memory) = λ mistake. absurd (mistake.arguments memory)
   refused (Err e) passes (inr among) = λ mistake. record {
     app = app;
     line = line;
-    refused = false_from_ne_true (takes app words) (λ taken. mistake.words (passes taken));
+    refused = false_from_ne_true (takes app arguments) (λ taken. mistake.arguments (passes taken));
     kind = kind_of e;
     among = among;
     mistake = mistake;
   }
 
-  pub helped : (r : Result M Error) → FailsBy (fault_of app words) r
-      → IfErr r (λ e. (kind_of e ≡ DisplayHelp) ⊎ (kind_of e ≡ DisplayVersion) → AskForHelp words)
+  pub helped : (r : Result M Error) → FailsBy (fault_of app arguments) r
+      → IfErr r (λ e. (kind_of e ≡ DisplayHelp) ⊎ (kind_of e ≡ DisplayVersion) → RequestHelp arguments)
   helped (Ok m) fails = tt
   helped (Err e) (inl memory) = λ help. absurd (no_help (kind_of e) memory help)
   helped (Err e) (inr among) = λ help. record { app = app; line = line; kind = kind_of e; among = among; help = help }
 
-  pub taken : (r : Result M Error) → FailsBy (fault_of app words) r → OnOk r (AreMistaken words → ⊥)
+  pub taken : (r : Result M Error) → FailsBy (fault_of app arguments) r → OnOk r (AreAlwaysInvalid arguments → ⊥)
   taken (Ok m) fails = λ mistaken. mistaken.some app line fails
   taken (Err e) fails = tt
 
-  pub mistaken : (r : Result M Error) → FailsBy (fault_of app words) r → IfErr r (λ e. AreMistaken words → (kind_of e ≡ OutOfMemory) ⊎ IsMistake (kind_of e))
+  pub mistaken : (r : Result M Error) → FailsBy (fault_of app arguments) r → IfErr r (λ e. AreAlwaysInvalid arguments → (kind_of e ≡ OutOfMemory) ⊎ IsUsageError (kind_of e))
   mistaken (Ok m) fails = tt
   mistaken (Err e) (inl memory) = λ are. inl memory
   mistaken (Err e) (inr among) = λ are. inr (are.all app line (kind_of e) among)

@@ -1,5 +1,5 @@
 pub mod Actions
-pub mod Asking
+pub mod Requests
 pub mod Explanations
 pub mod Listing
 pub mod Numbers

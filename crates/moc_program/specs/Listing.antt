@@ -1,33 +1,33 @@
--- What the word `faults` prints: the exit statuses, and the faults with what they mean.
+-- The output of the subcommand `faults`: the exit statuses, and the errors with their meaning.
 use Rattle.std.specs.Prelude.{ℕ, ◌+◌, ◌-◌, List, [], ◌∷◌, ◌++◌, codes, length, replicate}
-use Rattle.moc_lines.specs.Language.{name_of_line}
-use Rattle.moc_lines.specs.Numberings.{name_of_number}
-use Rattle.moc_lines.specs.Runs.{name_of_run}
-use Rattle.moc_lines.specs.declared.fault.LineFault.TheVariants as line
-use Rattle.moc_lines.specs.declared.numbering.NumberFault.TheVariants as number
+use Rattle.moc_lines.specs.Language.{name_of_line_error}
+use Rattle.moc_lines.specs.Numberings.{name_of_number_error}
+use Rattle.moc_lines.specs.Runs.{name_of_run_error}
+use Rattle.moc_lines.specs.declared.fault.LineError.TheVariants as line
+use Rattle.moc_lines.specs.declared.numbering.NumberError.TheVariants as number
 use Rattle.moc_lines.specs.declared.run_error.RunError.TheVariants as run
-use Rattle.moc_script.specs.Schedules.{name_of_step}
-use Rattle.moc_script.specs.declared.fault.StepFault.TheVariants as step
+use Rattle.moc_script.specs.Schedules.{name_of_step_error}
+use Rattle.moc_script.specs.declared.fault.ScheduleLineError.TheVariants as step
 use Rattle.moc_text.specs.declared.ascii.error.TextError.TheVariants as text
-use Rattle.moc_text.specs.declared.json_form.error.JsonError.TheVariants as json
+use Rattle.moc_text.specs.declared.json_format.error.JsonError.TheVariants as json
 use Rattle.moc_text.specs.declared.uniq.UniqError.TheVariants as uniq
-use Rattle.moc_text.specs.Names.{name_of_json, name_of_text, name_of_uniq, told_fault}
-use Rattle.moc_conversion.specs.Faults.{name_of_input, want_of_memory}
-use Rattle.moc_conversion.specs.declared.fault.InputFault.TheVariants.{TooLong, Read}
+use Rattle.moc_text.specs.Names.{name_of_json, name_of_text, name_of_uniq, fault_report}
+use Rattle.moc_conversion.specs.Faults.{name_of_input, out_of_memory}
+use Rattle.moc_conversion.specs.declared.fault.InputError.TheVariants.{TooLong, Read}
 use Rattle.moc_sphere.specs.declared.cell.CellError.TheVariants as cell
 use Rattle.moc_program.specs.Statuses.{code_of, name_of_cell}
 use Rattle.moc_program.specs.declared.status.Status.{Status}
-use Rattle.moc_program.specs.declared.status.Status.TheVariants.{Done, Refused, BadWords, Broken}
+use Rattle.moc_program.specs.declared.status.Status.TheVariants.{Success, Invalid, BadCommandLine, Failed}
 
 -- a line of the list
 abbrev pub text_line : List ℕ → List ℕ
 text_line text = text ++ 10 ∷ []
 
--- the digit that is a status
+-- the digit of a status
 abbrev pub digit_of : Status → List ℕ
 digit_of status = (48 + code_of status) ∷ []
 
--- a status or the name of a fault, and what it means
+-- a status or the name of an error, and its meaning
 abbrev pub Meaning : Type 0
 Meaning = List ℕ × List ℕ
 
@@ -37,26 +37,26 @@ meaning_lines column [] = []
 meaning_lines column (m ∷ meanings) =
     text_line (codes "  " ++ m.0 ++ replicate (column - length m.0) 32 ++ m.1) ++ meaning_lines column meanings
 
--- meanings under a heading, and an empty line behind them
+-- meanings under a heading, and an empty line after them
 abbrev pub section : List ℕ → ℕ → List Meaning → List ℕ
 section heading column meanings = text_line (heading ++ codes ":") ++ meaning_lines column meanings ++ text_line []
 
--- the list of the statuses, and of the faults by what they are of, with an example behind it
-unfoldable pub fault_list : List ℕ
-fault_list =
+-- the list of the statuses, and of the errors by subject, with an example after it
+unfoldable pub error_list : List ℕ
+error_list =
     section (codes "Statuses") 3 (
-    (digit_of Done, codes "success, also if lines had the reply `fault`, and after help")
-    ∷ (digit_of Refused, codes "invalid number or text, or a line too long; standard error has `fault NAME`")
-    ∷ (digit_of BadWords, codes "invalid command line")
-    ∷ (digit_of Broken, codes "input or output failed, out of memory, or no thread: `fault NAME`")
+    (digit_of Success, codes "success, also if lines had the reply `fault`, and after help")
+    ∷ (digit_of Invalid, codes "invalid number or text, or a line too long; standard error has `fault NAME`")
+    ∷ (digit_of BadCommandLine, codes "invalid command line")
+    ∷ (digit_of Failed, codes "input or output failed, out of memory, or no thread: `fault NAME`")
     ∷ [])
     ++ section (codes "Numbers of cells") 17 (
     (name_of_cell cell.CellTooLarge, codes "the order has no such cell; order k has 12 times 4^k, from 0")
     ∷ (name_of_cell cell.RingTooLarge, codes "the order has no such ring number; it has 12 times 4^k")
     ∷ (name_of_cell cell.NotUniq, codes "not a NUNIQ number, 4 to 2^62 - 1")
-    ∷ (name_of_number number.OtherOrder, codes "a NUNIQ number of another order (renumber)")
-    ∷ (name_of_number number.BadNumber, codes "not a number in decimal digits")
-    ∷ (name_of_number number.WrongCount, codes "too few or too many fields on a line")
+    ∷ (name_of_number_error number.OtherOrder, codes "a NUNIQ number of another order (renumber)")
+    ∷ (name_of_number_error number.BadNumber, codes "not a number in decimal digits")
+    ∷ (name_of_number_error number.WrongCount, codes "too few or too many fields on a line")
     ∷ [])
     ++ section (codes "Coverages in ASCII") 17 (
     (name_of_text (text.BadByte 0), codes "an unexpected byte")
@@ -80,19 +80,19 @@ fault_list =
     ∷ [])
     ++ section (codes "Lengths") 17 (
     (name_of_input TooLong, codes "a text of more than 16,777,216 bytes")
-    ∷ (name_of_run (run.LineTooLong 0), codes "a line of more than 1,048,576 bytes")
+    ∷ (name_of_run_error (run.LineTooLong 0), codes "a line of more than 1,048,576 bytes")
     ∷ [])
     ++ section (codes "Lines of scripts and schedules") 17 (
-    (name_of_line line.UnknownWord, codes "unknown command")
-    ∷ (name_of_line line.EmptyCommand, codes "nothing before, between or after `;`")
-    ∷ (name_of_line line.TooManyCommands, codes "more than 16 commands on a line")
-    ∷ (name_of_step step.ClientTooLarge, codes "a client above 4294967295")
-    ∷ (name_of_step step.PartTooLarge, codes "a part above 11")
+    (name_of_line_error line.UnknownWord, codes "unknown command")
+    ∷ (name_of_line_error line.EmptyCommand, codes "nothing before, between or after `;`")
+    ∷ (name_of_line_error line.TooManyCommands, codes "more than 16 commands on a line")
+    ∷ (name_of_step_error step.ClientTooLarge, codes "a client above 4294967295")
+    ∷ (name_of_step_error step.PartTooLarge, codes "a part above 11")
     ∷ [])
     ++ section (codes "Devices") 17 (
-    (name_of_input Read ++ codes ", " ++ name_of_run run.Write, codes "standard input or output failed")
-    ∷ (name_of_input want_of_memory, codes "out of memory")
+    (name_of_input Read ++ codes ", " ++ name_of_run_error run.Write, codes "standard input or output failed")
+    ∷ (name_of_input out_of_memory, codes "out of memory")
     ∷ (codes "Spawn", codes "a thread could not be started")
     ∷ [])
     ++ text_line (codes "Example:") ++ text_line (codes "  moc cell 3") ++ text_line (codes "writes to standard error")
-    ++ codes "  " ++ told_fault (name_of_cell cell.NotUniq)
+    ++ codes "  " ++ fault_report (name_of_cell cell.NotUniq)

@@ -1,4 +1,4 @@
--- The lines of converted numbers.
+-- The output of number conversions.
 use Rattle.std.specs.Prelude.{◌≡◌, ◌⊎◌, ℕ, ◌<◌, ◌≤◌, false, List, [], ◌∷◌, ◌++◌, codes, decimal}
 use Rattle.std.specs.List.{join_by}
 use Rattle.moc_sphere.specs.CellNumber.{CellNumber, IsCell, cell_count, cell_number, is_uniq, uniq_of}
@@ -8,14 +8,14 @@ use Rattle.moc_sphere.specs.declared.cell.CellError.{CellError}
 use Rattle.moc_sphere.specs.declared.cell.CellError.TheVariants.{CellTooLarge, NotUniq, RingTooLarge}
 use Rattle.moc_program.specs.declared.action.Number.{Number}
 use Rattle.moc_program.specs.declared.action.Number.TheVariants.{Ring, Nest, Uniq, Cell, Near}
-use Rattle.moc_program.specs.declared.status.ProgramFault.{ProgramFault}
-use Rattle.moc_program.specs.declared.status.ProgramFault.TheVariants as program
+use Rattle.moc_program.specs.declared.status.ProgramError.{ProgramError}
+use Rattle.moc_program.specs.declared.status.ProgramError.TheVariants as program
 
--- numbers with a blank between any two
+-- numbers separated by blanks
 abbrev pub number_list : List ℕ → List ℕ
 number_list numbers = join_by decimal (codes " ") numbers
 
--- what answers a number: the ring, nested or NUNIQ number of its cell, that cell, or the cells that touch it
+-- the output for a number: the ring, nested or NUNIQ number of its cell, that cell, or the cells that touch it
 abbrev pub IsNumberLine : Number → List ℕ → Type 0
 IsNumberLine (Ring order cell) line =
     (cell < cell_count order) × (line ≡ decimal (ring_number order cell) ++ 10 ∷ [])
@@ -29,15 +29,15 @@ IsNumberLine (Cell uniq) line =
 IsNumberLine (Near order cell) line =
     (cell < cell_count order) × (line ≡ number_list (touching_cells order cell) ++ 10 ∷ [])
 
--- what a number is refused for that no cell has
-abbrev pub IsNumberFault : Number → CellError → Type 0
-IsNumberFault (Ring order cell) error = (error ≡ CellTooLarge) × (cell_count order ≤ cell)
-IsNumberFault (Nest order ring) error = (error ≡ RingTooLarge) × (cell_count order ≤ ring)
-IsNumberFault (Uniq order cell) error = (error ≡ CellTooLarge) × (cell_count order ≤ cell)
-IsNumberFault (Cell uniq) error = (error ≡ NotUniq) × (is_uniq uniq ≡ false)
-IsNumberFault (Near order cell) error = (error ≡ CellTooLarge) × (cell_count order ≤ cell)
+-- the error of a number that no cell has
+abbrev pub IsNumberError : Number → CellError → Type 0
+IsNumberError (Ring order cell) error = (error ≡ CellTooLarge) × (cell_count order ≤ cell)
+IsNumberError (Nest order ring) error = (error ≡ RingTooLarge) × (cell_count order ≤ ring)
+IsNumberError (Uniq order cell) error = (error ≡ CellTooLarge) × (cell_count order ≤ cell)
+IsNumberError (Cell uniq) error = (error ≡ NotUniq) × (is_uniq uniq ≡ false)
+IsNumberError (Near order cell) error = (error ≡ CellTooLarge) × (cell_count order ≤ cell)
 
--- the fault of a number that is not converted: memory was refused, or no cell has the number
-abbrev pub IsNumberRefusal : Number → ProgramFault → Type 0
-IsNumberRefusal number fault =
-    (fault ≡ program.Memory) ⊎ ((error : CellError) × IsNumberFault number error × (fault ≡ program.Number error))
+-- the error of a number that is not converted: an allocation failed, or no cell has the number
+abbrev pub IsConversionError : Number → ProgramError → Type 0
+IsConversionError number fault =
+    (fault ≡ program.Memory) ⊎ ((error : CellError) × IsNumberError number error × (fault ≡ program.Number error))

@@ -1,4 +1,4 @@
--- Words that contracts of private functions alone cite.
+-- Definitions that only contracts of private functions use.
 pub mod NumberCells
 pub mod Ending
 pub mod Matches

@@ -1,58 +1,58 @@
--- How the program ends: its status, and what it tells of a fault.
+-- The exit statuses of the program, and the texts of its errors.
 use Rattle.std.specs.Prelude.{ℕ, List, codes}
 use Rattle.moc_sphere.specs.declared.cell.CellError.{CellError}
 use Rattle.moc_sphere.specs.declared.cell.CellError.TheVariants.{CellTooLarge, NotUniq, OutOfFace, RingTooLarge}
 use Rattle.moc_lines.specs.declared.run_error.RunError.TheVariants as run
-use Rattle.moc_lines.specs.Runs.{name_of_run}
+use Rattle.moc_lines.specs.Runs.{name_of_run_error}
 use Rattle.moc_script.specs.declared.crew_error.CrewError.{CrewError}
 use Rattle.moc_script.specs.declared.crew_error.CrewError.TheVariants as crew
-use Rattle.moc_forms.specs.declared.form.FormError.TheVariants as form
-use Rattle.moc_text.specs.Names.{told_fault}
-use Rattle.moc_conversion.specs.Faults.{complaint_text}
-use Rattle.moc_conversion.specs.declared.fault.InputFault.{InputFault}
-use Rattle.moc_conversion.specs.declared.fault.InputFault.TheVariants as input_fault
-use Rattle.moc_program.specs.declared.status.ProgramFault.{ProgramFault}
-use Rattle.moc_program.specs.declared.status.ProgramFault.TheVariants.{Input, Number, Lines, Spawn, Write, Memory}
+use Rattle.moc_forms.specs.declared.format.FormatError.TheVariants as format
+use Rattle.moc_text.specs.Names.{fault_report}
+use Rattle.moc_conversion.specs.Faults.{diagnostic_text}
+use Rattle.moc_conversion.specs.declared.fault.InputError.{InputError}
+use Rattle.moc_conversion.specs.declared.fault.InputError.TheVariants as input_error
+use Rattle.moc_program.specs.declared.status.ProgramError.{ProgramError}
+use Rattle.moc_program.specs.declared.status.ProgramError.TheVariants.{Input, Number, Lines, Spawn, Write, Memory}
 use Rattle.moc_program.specs.declared.status.Status.{Status}
-use Rattle.moc_program.specs.declared.status.Status.TheVariants.{Done, Refused, BadWords, Broken}
+use Rattle.moc_program.specs.declared.status.Status.TheVariants.{Success, Invalid, BadCommandLine, Failed}
 
 -- the number of a status
 abbrev pub code_of : Status → ℕ
-code_of Done = 0
-code_of Refused = 1
-code_of BadWords = 2
-code_of Broken = 3
+code_of Success = 0
+code_of Invalid = 1
+code_of BadCommandLine = 2
+code_of Failed = 3
 
--- the status with which an input is refused
-abbrev pub status_of_input : InputFault → Status
-status_of_input input_fault.Read = Broken
-status_of_input (input_fault.Form form.Memory) = Broken
-status_of_input _ = Refused
+-- the status for an error of the input
+abbrev pub status_of_input : InputError → Status
+status_of_input input_error.Read = Failed
+status_of_input (input_error.Format format.Memory) = Failed
+status_of_input _ = Invalid
 
--- the fault of a crew that ended early
-abbrev pub fault_of_crew : CrewError → ProgramFault
-fault_of_crew (crew.Run error) = Lines error
-fault_of_crew crew.Spawn = Spawn
+-- the error of a crew that ended early
+abbrev pub error_of_crew : CrewError → ProgramError
+error_of_crew (crew.Run error) = Lines error
+error_of_crew crew.Spawn = Spawn
 
--- a failed device, refused memory and a refused thread break the program, and all else is refused
-abbrev pub status_of : ProgramFault → Status
+-- `Failed` for a failed device, an allocation failure and a thread that could not be started; else `Invalid`
+abbrev pub status_of : ProgramError → Status
 status_of (Input c) = status_of_input c.fault
-status_of (Number e) = Refused
-status_of (Lines (run.LineTooLong line)) = Refused
-status_of _ = Broken
+status_of (Number e) = Invalid
+status_of (Lines (run.LineTooLong line)) = Invalid
+status_of _ = Failed
 
--- the name of the fault of a number that no cell has
+-- the name of the error of a number that no cell has
 abbrev pub name_of_cell : CellError → List ℕ
 name_of_cell CellTooLarge = codes "CellTooLarge"
 name_of_cell NotUniq = codes "NotUniq"
 name_of_cell OutOfFace = codes "OutOfFace"
 name_of_cell RingTooLarge = codes "RingTooLarge"
 
--- what tells a fault: a complaint of the input, or a line
-abbrev pub fault_text : ProgramFault → List ℕ
-fault_text (Input c) = complaint_text c
-fault_text (Number e) = told_fault (name_of_cell e)
-fault_text (Lines e) = told_fault (name_of_run e)
-fault_text Spawn = told_fault (codes "Spawn")
-fault_text Write = told_fault (codes "Write")
-fault_text Memory = told_fault (codes "Memory")
+-- the text of an error: a diagnostic of the input, or a line
+abbrev pub error_text : ProgramError → List ℕ
+error_text (Input c) = diagnostic_text c
+error_text (Number e) = fault_report (name_of_cell e)
+error_text (Lines e) = fault_report (name_of_run_error e)
+error_text Spawn = fault_report (codes "Spawn")
+error_text Write = fault_report (codes "Write")
+error_text Memory = fault_report (codes "Memory")

@@ -1,68 +1,68 @@
-//! What the words of the command line ask for.
+//! The action that the command line asks for.
 ghost use Rattle.std.specs.Prelude.{IfSome, codes};
 ghost use Rattle.moc_forms.specs.Combining.{operation_name};
 ghost use Rattle.moc_forms.specs.Finding.{choice_name};
-ghost use Rattle.moc_forms.specs.Forms.{form_name};
+ghost use Rattle.moc_forms.specs.Formats.{format_name};
 ghost use Rattle.moc_lines.specs.Numberings.{numbering_name};
 ghost use Rattle.moc_script.specs.Crews.{lane_count};
-ghost use Rattle.moc_program.specs.Asking.{Asks, HasNumber, HasWord};
-ghost use Rattle.moc_program.specs.Private.Matches.{IsAskedIn, values_of};
+ghost use Rattle.moc_program.specs.Requests.{SelectsAction, HasNumber, HasWord};
+ghost use Rattle.moc_program.specs.Private.Matches.{IsRequestedIn, values_of};
 ghost use Rattle.moc_program.specs.declared.action.Action.TheVariants as action;
 
 use clap::ArgMatches;
-use moc_forms::{Change, Choice, Form, Operation};
+use moc_forms::{Change, Format, FormatChoice, Operation};
 use moc_script::{Lanes, Numbering, Renumbering};
 use moc_sphere::Order;
 use std::str::FromStr;
 
-/// What the words ask for.
+/// An action of the program.
 #[derive(Clone, Copy)]
 pub enum Action {
     /// Run a script.
     Run,
     /// Play a schedule.
     Play,
-    /// Run a script on so many threads.
+    /// Run a script on several threads.
     Crew(Lanes),
     /// Convert a number.
     Number(Number),
-    /// Convert the number of a cell of an order a line, from one numbering to another.
+    /// Convert cell numbers of an order, one a line, from one numbering to another.
     Renumber(Renumbering),
-    /// Convert a coverage from one text form to another.
-    Convert(Form, Form),
-    /// Tell whether a text is a coverage, and else where it is at fault.
-    Check(Choice),
-    /// Tell the figures of a coverage.
-    Describe(Choice),
+    /// Convert a coverage from one text format to another.
+    Convert(Format, Format),
+    /// Check whether a text is a valid coverage, and report the position of its first error.
+    Check(FormatChoice),
+    /// Print the statistics of a coverage.
+    Describe(FormatChoice),
     /// Draw a coverage.
-    Draw(Choice),
+    Draw(FormatChoice),
     /// Change a coverage.
-    Change(Change, Choice),
+    Change(Change, FormatChoice),
     /// Combine coverages.
-    Combine(Operation, Choice),
-    /// List the exit statuses and the faults.
+    Combine(Operation, FormatChoice),
+    /// List the exit statuses and the errors.
     Faults,
 }
 
 /// A number to convert.
 #[derive(Clone, Copy)]
 pub enum Number {
-    /// A nested number to its ring number.
+    /// A nested number, to its ring number.
     Ring(Order, u64),
-    /// A ring number to its nested number.
+    /// A ring number, to its nested number.
     Nest(Order, u64),
-    /// A nested number to its NUNIQ number.
+    /// A nested number, to its NUNIQ number.
     Uniq(Order, u64),
-    /// A NUNIQ number to its order and nested number.
+    /// A NUNIQ number, to its order and nested number.
     Cell(u64),
-    /// A nested number to those of the touching cells.
+    /// A nested number, to those of the cells that touch the cell.
     Near(Order, u64),
 }
 
 impl Action {
-    /// What these matches ask for; `None` where they lack a word or a value, which `clap` requires.
+    /// Returns the action of the matches, or `None` if a subcommand or a value is missing, which `clap` rules out.
     pub fn from_matches(matches: &ArgMatches<'_>) -> Option<Action>
-        ensures { IfSome result (λ action. IsAskedIn matches.now action) }
+        ensures { IfSome result (λ action. IsRequestedIn matches.now action) }
     {
         let (name, values) = matches.subcommand()?;
         match name {
@@ -70,7 +70,7 @@ impl Action {
             "play" => Some(Action::Play),
             "crew" => Some(Action::Crew(lanes(values)?)),
             "renumber" => Some(Action::Renumber(renumbering(values)?)),
-            "convert" => Some(Action::Convert(form(values, "FROM")?, form(values, "TO")?)),
+            "convert" => Some(Action::Convert(format(values, "FROM")?, format(values, "TO")?)),
             "check" => Some(Action::Check(choice(values)?)),
             "describe" => Some(Action::Describe(choice(values)?)),
             "draw" => Some(Action::Draw(choice(values)?)),
@@ -84,9 +84,10 @@ impl Action {
 }
 
 impl Number {
-    /// What a word and its values ask for; `None` where it is no word that converts a number, or lacks a value.
+    /// Returns the number of a subcommand and its values, or `None` if the subcommand does not convert a number or a
+    /// value is missing.
     fn from_matches(word: &str, values: &ArgMatches<'_>) -> Option<Number>
-        ensures { IfSome result (λ number. Asks word.now (values_of values.now) (action.Number number)) }
+        ensures { IfSome result (λ number. SelectsAction word.now (values_of values.now) (action.Number number)) }
     {
         if word == "cell" {
             return Some(Number::Cell(index(values, "UNIQ")?));
@@ -102,30 +103,30 @@ impl Number {
     }
 }
 
-/// The form that the value of this name tells.
-fn form(values: &ArgMatches<'_>, id: &str) -> Option<Form>
-    ensures { IfSome result (λ form. HasWord id.now (values_of values.now) (form_name form)) }
+/// Returns the format that the argument with this name selects.
+fn format(values: &ArgMatches<'_>, id: &str) -> Option<Format>
+    ensures { IfSome result (λ format. HasWord id.now (values_of values.now) (format_name format)) }
 {
-    Form::from_str(values.get_str(id)?).ok()
+    Format::from_str(values.get_str(id)?).ok()
 }
 
-/// The form to read in, or that it is to be found.
-fn choice(values: &ArgMatches<'_>) -> Option<Choice>
+/// Returns the format to read in, or `Auto`.
+fn choice(values: &ArgMatches<'_>) -> Option<FormatChoice>
     ensures { IfSome result (λ choice. HasWord (codes "FORM") (values_of values.now) (choice_name choice)) }
 {
-    Choice::from_str(values.get_str("FORM")?).ok()
+    FormatChoice::from_str(values.get_str("FORM")?).ok()
 }
 
-/// The operation on two sets.
+/// Returns the operation on two sets.
 fn operation(values: &ArgMatches<'_>) -> Option<Operation>
     ensures { IfSome result (λ operation. HasWord (codes "OP") (values_of values.now) (operation_name operation)) }
 {
     Operation::from_str(values.get_str("OP")?).ok()
 }
 
-/// The two numberings and the order.
+/// Returns the two numberings and the order.
 fn renumbering(values: &ArgMatches<'_>) -> Option<Renumbering>
-    ensures { IfSome result (λ r. Asks (codes "renumber") (values_of values.now) (action.Renumber r)) }
+    ensures { IfSome result (λ r. SelectsAction (codes "renumber") (values_of values.now) (action.Renumber r)) }
 {
     Some(Renumbering {
         from: numbering(values, "FROM")?,
@@ -134,28 +135,28 @@ fn renumbering(values: &ArgMatches<'_>) -> Option<Renumbering>
     })
 }
 
-/// The numbering that the value of this name tells.
+/// Returns the numbering that the argument with this name selects.
 fn numbering(values: &ArgMatches<'_>, id: &str) -> Option<Numbering>
     ensures { IfSome result (λ numbering. HasWord id.now (values_of values.now) (numbering_name numbering)) }
 {
     Numbering::from_str(values.get_str(id)?).ok()
 }
 
-/// How many lanes.
+/// Returns the number of lanes.
 fn lanes(values: &ArgMatches<'_>) -> Option<Lanes>
     ensures { IfSome result (λ lanes. HasNumber (codes "N") (values_of values.now) (lane_count lanes)) }
 {
     Lanes::new(values.get_one::<u8>("N")?)
 }
 
-/// The order.
+/// Returns the order.
 fn order(values: &ArgMatches<'_>) -> Option<Order>
     ensures { IfSome result (λ order. HasNumber (codes "ORDER") (values_of values.now) order) }
 {
     Order::new(values.get_one::<u8>("ORDER")?)
 }
 
-/// The number that the value of this name tells.
+/// Returns the number in the argument with this name.
 fn index(values: &ArgMatches<'_>, id: &str) -> Option<u64>
     ensures { IfSome result (λ n. HasNumber id.now (values_of values.now) n) }
 {

@@ -1,21 +1,22 @@
-//! What the words of the command line make the program do.
+//! The entry point of the program: from the command line to the exit status.
 ghost use Rattle.std.specs.Prelude.{◌≡◌, ◌≢◌, ◌⊎◌, ◌||◌, ◌<◌, false, map, IfErr, IfOk, IsTrue, Ok, OnOk};
 ghost use Rattle.moc_devices.specs.Devices.{AcceptsNone};
 ghost use Rattle.std.specs.IoError.{error_kind};
 ghost use Rattle.clap.specs.Words.{kind_of};
 ghost use Rattle.moc_program.specs.Actions.{ActionEnds};
-ghost use Rattle.moc_program.specs.Asking.{AskFor};
+ghost use Rattle.moc_program.specs.Requests.{RequestAction};
 ghost use Rattle.moc_program.specs.Explanations.{not_utf8_text};
-ghost use Rattle.moc_program.specs.Outcomes.{AcceptsSome, AreMistaken, AreRefused, AskForHelp, BlamesFailed, EndWith};
-ghost use Rattle.moc_program.specs.Outcomes.{ExplainsMistake, IsMistake, RunsOutOfMemory, TellsFaultOf};
+ghost use Rattle.moc_program.specs.Outcomes.{AcceptsSome, AreAlwaysInvalid, AreInvalid};
+ghost use Rattle.moc_program.specs.Outcomes.{RequestHelp, BlamesFailed, CanEndWith};
+ghost use Rattle.moc_program.specs.Outcomes.{ReportsUsageError, IsUsageError, RunsOutOfMemory, ReportsErrorOf};
 ghost use Rattle.moc_program.specs.Outcomes.{WritesUnlessFailed};
-ghost use Rattle.moc_program.specs.Statuses.{fault_text};
-ghost use Rattle.moc_program.specs.Private.Matches.{AreReadAs};
+ghost use Rattle.moc_program.specs.Statuses.{error_text};
+ghost use Rattle.moc_program.specs.Private.Matches.{AreParsedAs};
 ghost use Rattle.moc_program.specs.declared.action.Action.{Action};
 
+use crate::execution::execute_matches;
 use crate::explaining::explain;
-use crate::performing::act;
-use crate::status::{ProgramFault, Status, ended};
+use crate::status::{ProgramError, Status, report_result};
 use clap::error::ErrorKind;
 use clap::{ArgMatches, Error};
 use moc_command_line::command_line;
@@ -27,17 +28,19 @@ use std::marker::Sync;
 use std::sync::Wait;
 use std::thread::Threads;
 
-/// Does what the words ask, and answers the exit status: 0 where it is done, 1 where a value, a text or a line is
-/// refused, 2 where the words are no command line, 3 where a device fails, or memory or a thread is refused. What went
-/// wrong is said on `faults`; whether that can be written changes nothing. Threads are started, and waited for, by the
-/// word `crew` alone.
+/// Executes the command line, and returns the exit status: 0 on success and after help, 1 for an invalid value, text or
+/// line, 2 for an invalid command line, 3 if a device or an allocation fails or a thread cannot be started. Errors are
+/// reported on `errors`; a failure to write them does not change the status. Only the subcommand `crew` starts threads
+/// and waits for them.
+///
+/// Requires that no call of the input or the output has failed before.
 pub fn program<'a, T: Threads + Wait + Sync, S: AsStr, R: Source, W: Sink, E: Sink>(
     rt: &T,
     alloc: Global,
-    words: &'a [S],
+    arguments: &'a [S],
     input: &mut R,
     output: &mut W,
-    faults: &mut E,
+    errors: &mut E,
 ) -> u8
     requires input { R.mark input.old ≡ false }
     requires output { W.mark output.old ≡ false }
@@ -45,72 +48,73 @@ pub fn program<'a, T: Threads + Wait + Sync, S: AsStr, R: Source, W: Sink, E: Si
     // The status is one of `Status`.
     ensures status { result < 4 }
 
-    // 2 is returned only if the words are mistaken. Words that can only be mistaken end with 2; or with 3, and then
-    // `faults` accepts the text of `Memory`, or a prefix of it if `faults` fails. At both, nothing is written to
-    // `output`.
-    ensures refused { result ≡ 2 → AreRefused (map S.text words.entry.now) }
-    ensures mistaken { AreMistaken (map S.text words.entry.now) → (result ≡ 2) ⊎ ((result ≡ 3)
+    // 2 is returned only if the command line is invalid. A command line that can only be invalid ends with 2; or with
+    // 3, and then `errors` accepts the text of `Memory`, or a prefix of it if `errors` fails. In both cases nothing is
+    // written to `output`.
+    ensures failure { result ≡ 2 → AreInvalid (map S.text arguments.entry.now) }
+    ensures mistaken { AreAlwaysInvalid (map S.text arguments.entry.now) → (result ≡ 2) ⊎ ((result ≡ 3)
         × RunsOutOfMemory (W.writing output.old) (W.writing output.new)
-        (E.mark faults.old || E.mark faults.new) (E.writing faults.old) (E.writing faults.new)) }
-    ensures kept { result ≡ 2 → AcceptsNone (W.writing output.old) (W.writing output.new) }
-    ensures explained { result ≡ 2 → ExplainsMistake (map S.text words.entry.now)
-        (E.mark faults.old || E.mark faults.new) (E.writing faults.old) (E.writing faults.new) }
+        (E.mark errors.old || E.mark errors.new) (E.writing errors.old) (E.writing errors.new)) }
+    ensures no_output { result ≡ 2 → AcceptsNone (W.writing output.old) (W.writing output.new) }
+    ensures explained { result ≡ 2 → ReportsUsageError (map S.text arguments.entry.now)
+        (E.mark errors.old || E.mark errors.new) (E.writing errors.old) (E.writing errors.new) }
 
-    // At 0 either the words ask for help, and at least one byte is written, or the action of the words is done, and its
-    // whole output is written. Nothing is written to `faults`.
-    ensures done { result ≡ 0 → (AskForHelp (map S.text words.entry.now)
+    // At 0 either the command line asks for help, and at least one byte is written, or its action succeeded, and the
+    // whole output is written. Nothing is written to `errors`.
+    ensures done { result ≡ 0 → (RequestHelp (map S.text arguments.entry.now)
         × AcceptsSome (W.writing output.old) (W.writing output.new))
-        ⊎ ((action : Action) × AskFor (map S.text words.entry.now) action
+        ⊎ ((action : Action) × RequestAction (map S.text arguments.entry.now) action
         × ActionEnds action
         (R.reading input.old) (R.reading input.new) (W.writing output.old) (W.writing output.new) (Ok tt)) }
-    ensures silent { result ≡ 0 → AcceptsNone (E.writing faults.old) (E.writing faults.new) }
+    ensures silent { result ≡ 0 → AcceptsNone (E.writing errors.old) (E.writing errors.new) }
 
-    // At 1 and 3 the status is that of a fault: `Memory` before any output, `Write` of help, or one with which the
-    // action of the words may end on what was read. A device that the fault blames has failed. The fault's text is
-    // written to `faults`, or a prefix of it if `faults` fails.
-    ensures told { (result ≡ 1) ⊎ (result ≡ 3)
-        → TellsFaultOf result (λ fault. BlamesFailed (R.mark input.new) (W.mark output.new) fault
-        × EndWith (map S.text words.entry.now)
+    // At 1 and 3 the status is that of an error: `Memory` before any output, `Write` of help, or an error with which
+    // the action may end on what was read. A device that the error blames has failed. The text of the error is written
+    // to `errors`, or a prefix of it if `errors` fails.
+    ensures reported { (result ≡ 1) ⊎ (result ≡ 3)
+        → ReportsErrorOf result (λ fault. BlamesFailed (R.mark input.new) (W.mark output.new) fault
+        × CanEndWith (map S.text arguments.entry.now)
         (R.reading input.old) (R.reading input.new) (W.writing output.old) (W.writing output.new) fault)
-        (E.mark faults.old || E.mark faults.new) (E.writing faults.old) (E.writing faults.new) }
+        (E.mark errors.old || E.mark errors.new) (E.writing errors.old) (E.writing errors.new) }
 
-    // A device that failed ends with 3, and at 0 all that was written is flushed.
+    // A failed device ends the program with 3, and at 0 all that was written is flushed.
     ensures input { IsTrue (R.mark input.new) → result ≡ 3 }
     ensures output { IsTrue (W.mark output.new) → result ≡ 3 }
     ensures flushed { result ≡ 0 → IsTrue (W.flushed output.new) }
 {
-    let status = match parse(alloc, words) {
-        Ok(matches) => ended(act(rt, alloc, &matches, input, output), faults),
-        Err(error) => explain(alloc, words, &error, output, faults),
+    let status = match parse(alloc, arguments) {
+        Ok(matches) => report_result(execute_matches(rt, alloc, &matches, input, output), errors),
+        Err(error) => explain(alloc, arguments, &error, output, errors),
     };
     status.code()
 }
 
-/// Tells why the words could not be had, and answers the exit status: 3 for want of memory, and else 2.
-pub fn refuse_words<E: Sink>(error: &io::Error, faults: &mut E) -> u8
+/// Reports why the arguments of the command line are not available, and returns the exit status: 3 if an allocation
+/// failed, else 2.
+pub fn report_argument_error<E: Sink>(error: &io::Error, errors: &mut E) -> u8
     ensures memory { error_kind error.now ≡ IoErrorKind.OutOfMemory → result ≡ 3 }
     ensures not_utf8 { error_kind error.now ≢ IoErrorKind.OutOfMemory → result ≡ 2 }
-    ensures told { result ≡ 3 → WritesUnlessFailed (E.mark faults.old || E.mark faults.new)
-        (fault_text ProgramFault.Memory) (E.writing faults.old) (E.writing faults.new) }
-    ensures explained { result ≡ 2 → WritesUnlessFailed (E.mark faults.old || E.mark faults.new) not_utf8_text
-        (E.writing faults.old) (E.writing faults.new) }
+    ensures reported { result ≡ 3 → WritesUnlessFailed (E.mark errors.old || E.mark errors.new)
+        (error_text ProgramError.Memory) (E.writing errors.old) (E.writing errors.new) }
+    ensures explained { result ≡ 2 → WritesUnlessFailed (E.mark errors.old || E.mark errors.new) not_utf8_text
+        (E.writing errors.old) (E.writing errors.new) }
 {
     if error.kind() == IoErrorKind::OutOfMemory {
-        return ended(Err(ProgramFault::Memory), faults).code();
+        return report_result(Err(ProgramError::Memory), errors).code();
     }
-    let _ = write_all(b"error: a word of the command line is not UTF-8\n", faults);
-    Status::BadWords.code()
+    let _ = write_all(b"error: a word of the command line is not UTF-8\n", errors);
+    Status::BadCommandLine.code()
 }
 
-/// Reads the words.
-fn parse<'a, S: AsStr>(alloc: Global, words: &'a [S]) -> Result<ArgMatches<'a>, Error>
-    ensures read { IfOk result (AreReadAs (map S.text words.entry.now)) }
-    ensures refused { IfErr result (λ e. IsMistake (kind_of e) → AreRefused (map S.text words.entry.now)) }
+/// Parses the command line.
+fn parse<'a, S: AsStr>(alloc: Global, arguments: &'a [S]) -> Result<ArgMatches<'a>, Error>
+    ensures read { IfOk result (AreParsedAs (map S.text arguments.entry.now)) }
+    ensures failure { IfErr result (λ e. IsUsageError (kind_of e) → AreInvalid (map S.text arguments.entry.now)) }
     ensures help { IfErr result (λ e. (kind_of e ≡ ErrorKind.DisplayHelp) ⊎ (kind_of e ≡ ErrorKind.DisplayVersion)
-        → AskForHelp (map S.text words.entry.now)) }
-    ensures taken { OnOk result (AreMistaken (map S.text words.entry.now) → ⊥) }
-    ensures mistaken { IfErr result (λ e. AreMistaken (map S.text words.entry.now)
-        → (kind_of e ≡ ErrorKind.OutOfMemory) ⊎ IsMistake (kind_of e)) }
+        → RequestHelp (map S.text arguments.entry.now)) }
+    ensures taken { OnOk result (AreAlwaysInvalid (map S.text arguments.entry.now) → ⊥) }
+    ensures mistaken { IfErr result (λ e. AreAlwaysInvalid (map S.text arguments.entry.now)
+        → (kind_of e ≡ ErrorKind.OutOfMemory) ⊎ IsUsageError (kind_of e)) }
 {
-    command_line(alloc)?.try_get_matches_from(words)
+    command_line(alloc)?.try_get_matches_from(arguments)
 }

@@ -1,88 +1,93 @@
-//! What is said where the words ask for help, or for nothing that the program does.
+//! Help, and reports of an invalid command line.
 ghost use Rattle.std.specs.Prelude.{◌≡◌, ◌≢◌, ◌⊎◌, ◌||◌, [], false, map, string_bytes, true, IfOk, IsTrue, List, ℕ};
 ghost use Rattle.std.specs.Char.{is_control};
 ghost use Rattle.std.specs.List.{list_any};
 ghost use Rattle.std.specs.Str.{chars};
 ghost use Rattle.moc_devices.specs.Devices.{Accepts, AcceptsNone};
 ghost use Rattle.clap.specs.Words.{kind_of};
-ghost use Rattle.moc_program.specs.Explanations.{IsMistakeText, control_text, has_control};
-ghost use Rattle.moc_program.specs.Outcomes.{AcceptsSome, ExplainsMistake, IsMistake, RunsOutOfMemory, TellsFaultOf};
+ghost use Rattle.moc_program.specs.Explanations.{IsUsageErrorText, control_text, has_control};
+ghost use Rattle.moc_program.specs.Outcomes.{AcceptsSome, ReportsUsageError};
+ghost use Rattle.moc_program.specs.Outcomes.{IsUsageError, RunsOutOfMemory, ReportsErrorOf};
 ghost use Rattle.moc_program.specs.Statuses.{code_of};
 
-use crate::printing::printed;
-use crate::status::{ProgramFault, Status, ended};
+use crate::printing::write_text;
+use crate::status::{ProgramError, Status, report_result};
 use clap::Error;
 use clap::error::ErrorKind;
-use moc_command_line::meant;
+use moc_command_line::suggest;
 use moc_script::{Sink, write_all};
 use std::alloc::{AllocError, Global};
 use std::convert::AsStr;
 
-/// Tells why there are no matches: help goes to the output, a refusal to the faults.
+/// Reports why there are no matches: writes help to the output, and errors to `errors`.
 pub(crate) fn explain<S: AsStr, W: Sink, E: Sink>(
     alloc: Global,
-    words: &[S],
+    arguments: &[S],
     error: &Error,
     output: &mut W,
-    faults: &mut E,
+    errors: &mut E,
 ) -> Status
     requires output { W.mark output.old ≡ false }
-    ensures bad_words { result ≡ Status.BadWords → IsMistake (kind_of error.now) }
-    ensures mistake { IsMistake (kind_of error.now) → (result ≡ Status.BadWords) ⊎ ((result ≡ Status.Broken)
+    ensures bad_command_line { result ≡ Status.BadCommandLine → IsUsageError (kind_of error.now) }
+    ensures mistake { IsUsageError (kind_of error.now) → (result ≡ Status.BadCommandLine) ⊎ ((result ≡ Status.Failed)
         × RunsOutOfMemory (W.writing output.old) (W.writing output.new)
-        (E.mark faults.old || E.mark faults.new) (E.writing faults.old) (E.writing faults.new)) }
-    ensures memory { kind_of error.now ≡ ErrorKind.OutOfMemory → (result ≡ Status.Broken)
+        (E.mark errors.old || E.mark errors.new) (E.writing errors.old) (E.writing errors.new)) }
+    ensures memory { kind_of error.now ≡ ErrorKind.OutOfMemory → (result ≡ Status.Failed)
         × RunsOutOfMemory (W.writing output.old) (W.writing output.new)
-        (E.mark faults.old || E.mark faults.new) (E.writing faults.old) (E.writing faults.new) }
-    ensures explained { result ≡ Status.BadWords → ExplainsMistake (map S.text words.now)
-        (E.mark faults.old || E.mark faults.new) (E.writing faults.old) (E.writing faults.new) }
-    ensures kept { result ≡ Status.BadWords → AcceptsNone (W.writing output.old) (W.writing output.new) }
-    ensures output { IsTrue (W.mark output.new) → result ≡ Status.Broken }
-    ensures flushed { result ≡ Status.Done → IsTrue (W.flushed output.new) }
-    ensures help { result ≡ Status.Done
+        (E.mark errors.old || E.mark errors.new) (E.writing errors.old) (E.writing errors.new) }
+    ensures explained { result ≡ Status.BadCommandLine → ReportsUsageError (map S.text arguments.now)
+        (E.mark errors.old || E.mark errors.new) (E.writing errors.old) (E.writing errors.new) }
+    ensures no_output { result ≡ Status.BadCommandLine → AcceptsNone (W.writing output.old) (W.writing output.new) }
+    ensures output { IsTrue (W.mark output.new) → result ≡ Status.Failed }
+    ensures flushed { result ≡ Status.Success → IsTrue (W.flushed output.new) }
+    ensures help { result ≡ Status.Success
         → (kind_of error.now ≡ ErrorKind.DisplayHelp) ⊎ (kind_of error.now ≡ ErrorKind.DisplayVersion) }
-    ensures written { result ≡ Status.Done → AcceptsSome (W.writing output.old) (W.writing output.new) }
-    ensures silent { result ≡ Status.Done → AcceptsNone (E.writing faults.old) (E.writing faults.new) }
-    ensures told { (code_of result ≡ 1) ⊎ (code_of result ≡ 3)
-        → TellsFaultOf (code_of result) (λ fault.
-        ((fault ≡ ProgramFault.Memory) × AcceptsNone (W.writing output.old) (W.writing output.new))
-        ⊎ ((fault ≡ ProgramFault.Write) × IsTrue (W.mark output.new)
+    ensures written { result ≡ Status.Success → AcceptsSome (W.writing output.old) (W.writing output.new) }
+    ensures silent { result ≡ Status.Success → AcceptsNone (E.writing errors.old) (E.writing errors.new) }
+    ensures reported { (code_of result ≡ 1) ⊎ (code_of result ≡ 3)
+        → ReportsErrorOf (code_of result) (λ fault.
+        ((fault ≡ ProgramError.Memory) × AcceptsNone (W.writing output.old) (W.writing output.new))
+        ⊎ ((fault ≡ ProgramError.Write) × IsTrue (W.mark output.new)
         × ((kind_of error.now ≡ ErrorKind.DisplayHelp) ⊎ (kind_of error.now ≡ ErrorKind.DisplayVersion))
         × ((front : List ℕ) × Accepts (W.writing output.old) (W.writing output.new) front)))
-        (E.mark faults.old || E.mark faults.new) (E.writing faults.old) (E.writing faults.new) }
+        (E.mark errors.old || E.mark errors.new) (E.writing errors.old) (E.writing errors.new) }
 {
     if error.kind() == ErrorKind::OutOfMemory {
-        return ended(Err(ProgramFault::Memory), faults);
+        return report_result(Err(ProgramError::Memory), errors);
     }
-    let Ok(text) = explanation(alloc, words, error) else {
-        return ended(Err(ProgramFault::Memory), faults);
+    let Ok(text) = explanation(alloc, arguments, error) else {
+        return report_result(Err(ProgramError::Memory), errors);
     };
     if error.use_stderr() {
-        let _ = write_all(text.as_bytes(), faults);
-        return Status::BadWords;
+        let _ = write_all(text.as_bytes(), errors);
+        return Status::BadCommandLine;
     }
-    ended(printed(text.as_str(), output), faults)
+    report_result(write_text(text.as_str(), output), errors)
 }
 
-/// The text of help; of a mistake `clap`'s text too, but where a word has a control character, which is not shown, or
-/// where it is no word and is meant for one.
-fn explanation<S: AsStr>(alloc: Global, words: &[S], error: &Error) -> Result<String, AllocError>
+/// Returns the text of help or of an error: `clap`'s text, except that an argument with a control character is not
+/// shown, and that a word which is not a subcommand may have a suggestion.
+fn explanation<S: AsStr>(
+    alloc: Global,
+    arguments: &[S],
+    error: &Error,
+) -> Result<String, AllocError>
     ensures some { IfOk result (λ text. string_bytes text ≢ []) }
-    ensures mistake { IfOk result (λ text. IsMistake (kind_of error.now)
-        → IsMistakeText (map S.text words.now) (string_bytes text)) }
+    ensures mistake { IfOk result (λ text. IsUsageError (kind_of error.now)
+        → IsUsageErrorText (map S.text arguments.now) (string_bytes text)) }
 {
-    if error.use_stderr() && has_control_character(words) {
+    if error.use_stderr() && has_control_character(arguments) {
         return String::from_str(
             alloc,
             "error: a word of the command line has a control character\n",
         );
     }
     if error.kind() == ErrorKind::InvalidSubcommand
-        && let Some(word) = asked_for(words)
-        && let Some(meant) = meant(word)
+        && let Some(word) = named_subcommand(arguments)
+        && let Some(suggest) = suggest(word)
     {
         return format!(in alloc;
-            "error: unrecognized subcommand '{word}'\n\n  tip: what does it is '{meant}'\n\n\
+            "error: unrecognized subcommand '{word}'\n\n  tip: what does it is '{suggest}'\n\n\
              Usage: moc <COMMAND>\n\nFor more information, try '--help'.\n"
         );
     }
@@ -103,29 +108,29 @@ fn text_of_error(alloc: Global, error: &Error) -> Result<String, AllocError>
     Ok(text)
 }
 
-/// The word that is asked for, or whose help is.
-fn asked_for<S: AsStr>(words: &[S]) -> Option<&str> {
-    match words {
+/// Returns the subcommand that the command line names, also after `help`.
+fn named_subcommand<S: AsStr>(arguments: &[S]) -> Option<&str> {
+    match arguments {
         [help, word, ..] if help.as_str() == "help" => Some(word.as_str()),
         [word, ..] => Some(word.as_str()),
         [] => None,
     }
 }
 
-/// Whether a word has a control character.
-fn has_control_character<S: AsStr>(words: &[S]) -> bool
-    ensures { result ≡ list_any has_control (map S.text words.now) }
+/// Returns whether an argument has a control character.
+fn has_control_character<S: AsStr>(arguments: &[S]) -> bool
+    ensures { result ≡ list_any has_control (map S.text arguments.now) }
 {
-    for word in words {
-        if is_controlled(word.as_str()) {
+    for word in arguments {
+        if contains_control(word.as_str()) {
             return true;
         }
     }
     false
 }
 
-/// Whether a text has a control character.
-fn is_controlled(text: &str) -> bool
+/// Returns whether a text has a control character.
+fn contains_control(text: &str) -> bool
     ensures { result ≡ list_any is_control (chars text.now) }
 {
     for character in text.chars() {

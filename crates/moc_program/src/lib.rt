@@ -1,12 +1,12 @@
-//! What the program `moc` does with its words: a command line in, an exit status out.
+//! The program `moc` as a function from command-line arguments, input and output to an exit status.
 #![tactic(auto)]
 
 mod action;
 mod dispatch;
+mod execution;
 mod explaining;
 mod number_lines;
-mod performing;
 mod printing;
 mod status;
 
-pub use dispatch::{program, refuse_words};
+pub use dispatch::{program, report_argument_error};

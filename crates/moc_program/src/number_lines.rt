@@ -1,42 +1,42 @@
-//! The lines of converted numbers.
+//! The output of number conversions.
 ghost use Rattle.std.specs.Prelude.{◌≡◌, ◌++◌, ◌∷◌, [], false, IfErr, IfOk, IsErrOf, IsTrue, OnOk};
 ghost use Rattle.std.specs.String.{string_bytes};
 ghost use Rattle.moc_sphere.specs.Touching.{touching_cells};
 ghost use Rattle.moc_program.specs.Actions.{PrintsText};
-ghost use Rattle.moc_program.specs.Numbers.{IsNumberFault, IsNumberLine, IsNumberRefusal, number_list};
-ghost use Rattle.moc_program.specs.Private.Ending.{end_of};
+ghost use Rattle.moc_program.specs.Numbers.{IsNumberError, IsNumberLine, IsConversionError, number_list};
+ghost use Rattle.moc_program.specs.Private.Ending.{status_of_result};
 ghost use Rattle.moc_program.specs.Private.NumberCells.{IsCellOf};
 
 use crate::action::Number;
-use crate::printing::printed;
-use crate::status::{ProgramFault, Status};
+use crate::printing::write_text;
+use crate::status::{ProgramError, Status};
 use moc_script::Sink;
 use moc_sphere::{Cell, CellError};
 use std::alloc::{AllocError, Global};
 use std::fmt::Write;
 
-/// Writes the line of a converted number.
+/// Converts a number and writes the line of the result.
 #[tactic(auto, using(crate::proofs::Writing::sent_writes))]
-pub(crate) fn numbered<W: Sink>(
+pub(crate) fn write_number<W: Sink>(
     alloc: Global,
     number: Number,
     output: &mut W,
-) -> Result<(), ProgramFault>
+) -> Result<(), ProgramError>
     requires { W.mark output.old ≡ false }
-    ensures ends { PrintsText (IsNumberLine number) (IsNumberRefusal number)
+    ensures ends { PrintsText (IsNumberLine number) (IsConversionError number)
         (W.writing output.old) (W.writing output.new) result }
     ensures flushed { OnOk result (IsTrue (W.flushed output.new)) }
-    ensures write { IsErrOf result ProgramFault.Write → IsTrue (W.mark output.new) }
-    ensures output { IsTrue (W.mark output.new) → end_of result ≡ Status.Broken }
+    ensures write { IsErrOf result ProgramError.Write → IsTrue (W.mark output.new) }
+    ensures output { IsTrue (W.mark output.new) → status_of_result result ≡ Status.Failed }
 {
     let line = number_line(alloc, number)?;
-    printed(line.as_str(), output)
+    write_text(line.as_str(), output)
 }
 
-/// The line of a converted number.
-fn number_line(alloc: Global, number: Number) -> Result<String, ProgramFault>
+/// Returns the line of a converted number.
+fn number_line(alloc: Global, number: Number) -> Result<String, ProgramError>
     ensures line { IfOk result (λ text. IsNumberLine number (string_bytes text)) }
-    ensures fault { IfErr result (IsNumberRefusal number) }
+    ensures error { IfErr result (IsConversionError number) }
 {
     let cell = cell_of(number)?;
     let text = match number {
@@ -49,10 +49,10 @@ fn number_line(alloc: Global, number: Number) -> Result<String, ProgramFault>
     Ok(text?)
 }
 
-/// The cell that a number is of.
+/// Returns the cell of a number.
 fn cell_of(number: Number) -> Result<Cell, CellError>
     ensures cell { IfOk result (λ cell. IsCellOf number cell) }
-    ensures fault { IfErr result (λ error. IsNumberFault number error) }
+    ensures error { IfErr result (λ error. IsNumberError number error) }
 {
     match number {
         Number::Ring(order, index) | Number::Uniq(order, index) | Number::Near(order, index) => {
@@ -63,7 +63,7 @@ fn cell_of(number: Number) -> Result<Cell, CellError>
     }
 }
 
-/// The line of the cells that touch a cell.
+/// Returns the line of the cells that touch a cell.
 fn near_line(alloc: Global, cell: Cell) -> Result<String, AllocError>
     ensures { IfOk result (λ text. string_bytes text ≡ number_list (touching_cells cell.order cell.index) ++ 10 ∷ []) }
 {
@@ -73,7 +73,7 @@ fn near_line(alloc: Global, cell: Cell) -> Result<String, AllocError>
     Ok(line)
 }
 
-/// Puts numbers on an empty line, with a blank between any two.
+/// Writes numbers to an empty line, separated by blanks.
 #[tactic(auto, using(crate::proofs::NumberLines::spaced_more, crate::proofs::NumberLines::spaced_all))]
 fn push_numbers(numbers: &[u64], line: &mut String) -> Result<(), AllocError>
     requires { string_bytes line.old ≡ [] }

@@ -2,34 +2,34 @@
 ghost use Rattle.std.specs.Prelude.{◌≡◌, false, Err, IsErrAnd, IsErrOf, IsTrue, MatchResult, OnOk, is_err};
 ghost use Rattle.moc_devices.specs.Devices.{AcceptsNone};
 ghost use Rattle.std.specs.String.{string_bytes};
-ghost use Rattle.moc_program.specs.Private.Ending.{end_of};
+ghost use Rattle.moc_program.specs.Private.Ending.{status_of_result};
 ghost use Rattle.moc_program.specs.Private.Writing.{IsSent};
 
-use crate::status::{ProgramFault, Status};
-use moc_conversion::{Complaint, InputFault};
+use crate::status::{ProgramError, Status};
+use moc_conversion::{InputDiagnostic, InputError};
 use moc_script::{Sink, write_all};
 
-/// Writes a text that was made of the input; else the fault is that of the complaint.
-pub(crate) fn answered<W: Sink>(
-    text: Result<String, Complaint>,
+/// Writes a text that was built from the input, or returns its error.
+pub(crate) fn write_result<W: Sink>(
+    text: Result<String, InputDiagnostic>,
     output: &mut W,
-) -> Result<(), ProgramFault>
+) -> Result<(), ProgramError>
     requires { W.mark output.old ≡ false }
     ensures sent { MatchResult text
         (λ t. IsSent (string_bytes t) (W.writing output.old) (W.writing output.new) result)
-        (λ c. (result ≡ Err (ProgramFault.Input c)) × AcceptsNone (W.writing output.old) (W.writing output.new)) }
-    ensures write { IsErrOf result ProgramFault.Write → IsTrue (W.mark output.new) }
+        (λ c. (result ≡ Err (ProgramError.Input c)) × AcceptsNone (W.writing output.old) (W.writing output.new)) }
+    ensures write { IsErrOf result ProgramError.Write → IsTrue (W.mark output.new) }
     ensures flushed { OnOk result (IsTrue (W.flushed output.new)) }
-    ensures input { IsErrAnd text (λ c. c.fault ≡ InputFault.Read) → end_of result ≡ Status.Broken }
-    ensures output { IsTrue (W.mark output.new) → end_of result ≡ Status.Broken }
+    ensures input { IsErrAnd text (λ c. c.fault ≡ InputError.Read) → status_of_result result ≡ Status.Failed }
+    ensures output { IsTrue (W.mark output.new) → status_of_result result ≡ Status.Failed }
 {
     let text = text?;
-    printed(text.as_str(), output)
+    write_text(text.as_str(), output)
 }
 
-/// Writes a text, whole, and sends it on.
+/// Writes a text whole, and flushes the output.
 #[tactic(auto, using(crate::proofs::Writing::sent_on, crate::proofs::Writing::sent_front))]
-pub(crate) fn printed<W: Sink>(text: &str, output: &mut W) -> Result<(), ProgramFault>
+pub(crate) fn write_text<W: Sink>(text: &str, output: &mut W) -> Result<(), ProgramError>
     requires { W.mark output.old ≡ false }
     ensures sent { IsSent text.now (W.writing output.old) (W.writing output.new) result }
     ensures flushed { OnOk result (IsTrue (W.flushed output.new)) }

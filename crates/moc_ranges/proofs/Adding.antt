@@ -1,4 +1,4 @@
--- A list in blocks with one range more.
+-- A list of blocks with one range inserted.
 use Rattle.std.proofs.Common.{◌≡◌, ℕ, ◌+◌, ◌-◌, ◌<◌, ◌≤◌, Bool, true, false, ◌||◌, ◌&&◌, inl, inr, List, [], ◌∷◌}
 use Rattle.std.proofs.Common.{length, get_or, refl, sym, ap, subst, ◌∙◌, arith}
 use Rattle.std.specs.Prelude.{nat_le, nat_lt, not, Option, Some, MatchOption}
@@ -11,19 +11,19 @@ use Rattle.moc_blocks.specs.RangeList.{IsNormal, set_of, NumberSet, numbers}
 use Rattle.moc_blocks.specs.Lemmas.Members.{in_range, in_ranges, contains-set_of, contains-numbers, same_members}
 use Rattle.moc_blocks.specs.Lemmas.Sizes.{len_parts}
 use Rattle.moc_blocks.specs.Private.Blocks.{width_of}
-use Rattle.moc_blocks.specs.Private.Added.{HasGrown}
+use Rattle.moc_blocks.specs.Private.Added.{IsInsertion}
 use Rattle.moc_ranges.proofs.Views.{range_view}
 use Rattle.moc_operations.proofs.Walking.{and_swap}
 use Rattle.moc_blocks.proofs.Adding.{grown_width}
 
 -- ---- sets
 
-pub grown_set : (from to added : ℕ) (old new : List (ℕ × ℕ)) → HasGrown from to old new added → set_of new ≡ set.union (set_of old) (numbers from to)
+pub grown_set : (from to added : ℕ) (old new : List (ℕ × ℕ)) → IsInsertion from to old new added → set_of new ≡ set.union (set_of old) (numbers from to)
 grown_set from to added old new g = same_members _ _ (λ q.
     contains-set_of new q ∙ g.same q ∙ (λ i. sym (contains-set_of old q) i || sym (contains-numbers from to q) i)
     ∙ sym (set.contains-union nat_cmp_total (set_of old) (numbers from to) q))
 
-pub grown_count : (from to added : ℕ) (old new : List (ℕ × ℕ)) → IsNormal old → IsNormal new → HasGrown from to old new added → added ≡ set.len (set.difference (numbers from to) (set_of old))
+pub grown_count : (from to added : ℕ) (old new : List (ℕ × ℕ)) → IsNormal old → IsNormal new → IsInsertion from to old new added → added ≡ set.len (set.difference (numbers from to) (set_of old))
 grown_count from to added old new normal normal' g = omega (arith, grown_width from to old new normal normal' g.same, g.more)
 
 old_or : (o n : Bool) → (n ≡ true → o ≡ true) → (o || n) ≡ o
@@ -61,7 +61,7 @@ common_fewer a b =
     let swapped : set.intersection a b ≡ set.intersection b a = same_members _ _ (λ q. set.contains-intersection nat_cmp_total a b q ∙ and_swap (set.contains a q) (set.contains b q) ∙ sym (set.contains-intersection nat_cmp_total b a q)) in
     omega (arith, len_parts b a, ap set.len swapped)
 
--- where none of b is new, a has all of it
+-- if no number of b is new, a contains b
 pub none_new : (a b : NumberSet) → set.len (set.difference b a) ≡ 0 → (q : ℕ) → set.contains b q ≡ true → set.contains a q ≡ true
 none_new a b none q has = elim (cases_Bool (set.contains a q)) [
   | inl there ↦ there
@@ -81,10 +81,10 @@ pub match_some : {X : Type 0} (P : X → Type 0) (Q : Type 0) (o : Option X) (x 
 match_some {X} P Q o x is holds = subst (λ (p : Option X). MatchOption p Q P) is holds
 
 one_item : (xs : List (ℕ × ℕ)) → 1 ≤ length xs → length xs < 2 → xs ≡ get_or xs 0 (0, 0) ∷ []
-one_item [] some few = absurd (omega arith)
-one_item (x ∷ []) some few = refl
-one_item (x ∷ (y ∷ ys)) some few = absurd (omega arith)
+one_item [] some slice = absurd (omega arith)
+one_item (x ∷ []) some slice = refl
+one_item (x ∷ (y ∷ ys)) some slice = absurd (omega arith)
 
--- the set of one range
-pub only_range : (xs few : List (ℕ × ℕ)) (a : NumberSet) → set_of xs ≡ a → few ≡ xs → 1 ≤ length few → length few < 2 → a ≡ numbers (get_or few 0 (0, 0)).0 (get_or few 0 (0, 0)).1
-only_range xs few a is same some short = sym is ∙ ap set_of (sym same ∙ one_item few some short) ∙ range_view (get_or few 0 (0, 0)).0 (get_or few 0 (0, 0)).1
+-- the set of a single range
+pub only_range : (xs slice : List (ℕ × ℕ)) (a : NumberSet) → set_of xs ≡ a → slice ≡ xs → 1 ≤ length slice → length slice < 2 → a ≡ numbers (get_or slice 0 (0, 0)).0 (get_or slice 0 (0, 0)).1
+only_range xs slice a is same some short = sym is ∙ ap set_of (sym same ∙ one_item slice some short) ∙ range_view (get_or slice 0 (0, 0)).0 (get_or slice 0 (0, 0)).1

@@ -1,4 +1,4 @@
--- What is built, block by block.
+-- The state of a list builder, block by block.
 use Rattle.std.proofs.Common.{◌≡◌, ℕ, ◌+◌, ◌<◌, ◌≤◌, ◌||◌, List, [], ◌∷◌, ◌++◌, length, get_or}
 use Rattle.std.proofs.Common.{take, max, sym, ap, subst, ◌∙◌, arith}
 use Rattle.std.proofs.lemmas.List.{take_more, take_all, take_more_set, length-set}
@@ -11,7 +11,7 @@ use Rattle.moc_blocks.proofs.Blocking.{IsNormal-suffix}
 use Rattle.moc_blocks.proofs.Building.{longer_normal, last_of-last, longer_range, last_filled}
 use Rattle.moc_ranges.proofs.Sorting.{IsSortedFrom-less}
 
--- the last range of some, made longer in its place
+-- the last range of a list, extended in its place
 pub last_split : (rs : List (ℕ × ℕ)) (i : ℕ) (last : ℕ × ℕ) → i + 1 ≡ length rs → last ≡ get_or rs i last → rs ≡ take i rs ++ last ∷ []
 last_split rs i last at is =
     sym (take_all (i + 1) rs (omega arith)) ∙ take_more rs i last (omega arith) ∙ ap (λ (r : ℕ × ℕ). take i rs ++ r ∷ []) (sym is)
@@ -37,7 +37,7 @@ lengthened_same rs i last from to end normal at is longer begins reached filled 
     ∙ longer_range last.0 last.1 from to q (in_ranges (take i rs) q) begins b ab filled
     ∙ ap (λ x. x || in_range (from, to) q) (sym (in_ranges-append (take i rs) (last ∷ []) q) ∙ ap (λ (l : List (ℕ × ℕ)). in_ranges l q) (sym split))
 
--- how far ranges are joined behind what is built, of which some are still to come
+-- the invariant of merging the remaining ranges into the result
 pub record IsLengthened (ks : List (ℕ × ℕ)) (last : ℕ × ℕ) (rest whole : List (ℕ × ℕ)) : Type 0 where
   pub opened : IsNormal (ks ++ last ∷ [])
   pub sorted : IsSortedFrom last.0 rest

@@ -1,4 +1,5 @@
--- Which orders the cells of a set can have: none whose cells are wider than its widest range, and none whose parents' sizes divide all bounds.
+-- The possible orders of the cells of a set: no cell is wider than the widest range, and no parent's size divides all
+-- bounds.
 use Rattle.std.proofs.Common.{◌≡◌, ℕ, zero, suc, ◌+◌, ◌-◌, ◌*◌, ◌/◌, ◌%◌, ◌^◌, ◌<◌, ◌≤◌, Bool, true, false, not, ◌&&◌}
 use Rattle.std.proofs.Common.{◌||◌, List, [], ◌∷◌, ◌++◌, min, max, refl, sym, ap, subst, ◌∙◌, inl, inr, arith, map}
 use Rattle.std.proofs.Common.{append-nil, ◌⊎◌}
@@ -30,9 +31,9 @@ abbrev pub AllNarrow : ℕ → List (ℕ × ℕ) → Type 0
 AllNarrow n [] = ⊤
 AllNarrow n (r ∷ rs) = (r.1 ≤ r.0 + n) × AllNarrow n rs
 
--- ---- what the scan keeps
+-- ---- the invariant of the scan
 
--- the width of the widest range, and a number with the bits of all bounds, as far as a scan of the ranges has come
+-- the width of the widest range, and a number with the bits of all bounds, for the ranges that the scan has read
 pub record Scanning (ends widest : ℕ) (rest whole : List (ℕ × ℕ)) : Type 0 where
   pub normal : IsNormal rest
   pub multiples : (s : ℕ) → ends % 2 ^ s ≡ 0 → AllMultiples (2 ^ s) rest → AllMultiples (2 ^ s) whole
@@ -74,7 +75,7 @@ any_fits k i (r ∷ rs) is = elim (or_cases (part_at k i r) (list_any (part_at k
   | inr later ↦ or_right _ _ (any_fits k i rs later)
 ]
 
--- a power of two that is at most n has no higher exponent than n's
+-- a power of two that is at most n has at most the exponent of n
 exponent_le : (e l n : ℕ) → 2 ^ e ≤ n → n < 2 * 2 ^ l → e ≤ l
 exponent_le e l n low high = elim (cases_lt l e) [
   | inl above ↦
@@ -94,7 +95,7 @@ first_order k l n small le high =
 pub multiple_of : (a n : ℕ) → a % n ≡ 0 → a ≡ a / n * n
 multiple_of a n none = omega (arith, div-add-mod' a n)
 
--- where both bounds are multiples of the parent's size, the parent of a cell in a range lies in it too
+-- if both bounds are multiples of the parent's size, the parent of a cell inside a range is inside it too
 parent_in : (w i : ℕ) (r : ℕ × ℕ) → 0 < w → r.0 % (w * 4) ≡ 0 → r.1 % (w * 4) ≡ 0 → fits w r i ≡ true → fits (w * 4) r (i / 4) ≡ true
 parent_in w i r pos low high is =
     let parts = fits_parts w r i is in
@@ -126,7 +127,7 @@ no_deeper k i rs small all =
     (λ n. list_any (is_part (cell_size (suc k)) ((ap cell_size before ∙ four) n) (top n) i (i / 4)) rs)
     ∙ no_parts (cell_size (suc k)) i rs (cell_size-positive (suc k)) (subst (λ (w : ℕ). AllMultiples w rs) four all)
 
--- the bits below a number's trailing zeros are zeros
+-- the trailing zeros of a number are zero bits
 pub low_zeros : (n j : ℕ) → n < 2 ^ 64 → j ≤ trailing_zeros w64 n → n % 2 ^ j ≡ 0
 low_zeros zero j fits_in le = zero_mod j
   where
@@ -152,7 +153,7 @@ last_order (suc k) i ends widest rs s fits_in small is =
           absurd (false≢true (sym (no_deeper k i rs (omega arith) (subst (λ (w : ℕ). AllMultiples w rs) (two_pow k) all)) ∙ is))
     ]
 
--- what a finished scan says
+-- the result of a finished scan
 pub scan_end : (ends widest l : ℕ) (rs : List (ℕ × ℕ)) → Scanning ends widest [] rs → IsNormal rs → ends < 2 ^ 64 → widest < 2 * 2 ^ l → HasOrders (set_of rs) (29 - min (l / 2) 29) (30 - min (trailing_zeros w64 ends / 2) 29)
 scan_end ends widest l rs s normal fits_in high = record {
   each = λ k i small lt is.
@@ -163,7 +164,7 @@ scan_end ends widest l rs s normal fits_in high = record {
   last_in_range = omega arith;
 }
 
--- a set with no wide range at all has no cell
+-- a set without a range that is wide enough has no cell
 pub scan_nothing : (ends : ℕ) (rs : List (ℕ × ℕ)) → Scanning ends 0 [] rs → IsNormal rs → HasOrders (set_of rs) 0 0
 scan_nothing ends rs s normal = record {
   each = λ k i small lt is.
@@ -175,9 +176,9 @@ scan_nothing ends rs s normal = record {
   last_in_range = omega arith;
 }
 
--- ---- order after order
+-- ---- order by order
 
--- the cells of the orders below one more
+-- the cells of one more order
 pub cells_step : (a : NumberSet) (k : ℕ) → filter (is_cell_of a) (cells_below (suc k)) ≡ filter (is_cell_of a) (cells_below k) ++ cells_at a k
 unfolding cells_below cells_at
 cells_step a k = filter-append (is_cell_of a) (cells_below k) (map (cell_number k) (range_with_len 0 (cell_count k)))
@@ -197,13 +198,13 @@ all_orders : (a : NumberSet) → filter (is_cell_of a) (cells_below 30) ≡ cell
 unfolding cells_of
 all_orders a = refl
 
--- no cells before the first order
+-- the orders before the first have no cells
 pub cells_before : (a : NumberSet) (first last k : ℕ) → HasOrders a first last → k ≤ first → k ≤ 30 → filter (is_cell_of a) (cells_below k) ≡ []
 cells_before a first last zero has le small = none_yet a
 cells_before a first last (suc k) has le small =
     cells_step a k ∙ (λ s. cells_before a first last k has (omega arith) (omega arith) s ++ none_at a first last k has (omega arith) (inl (omega arith)) s)
 
--- all cells from the last order on
+-- the orders from the last on have no cells
 pub cells_after : (a : NumberSet) (first last k n : ℕ) → HasOrders a first last → last ≤ k → k + n ≡ 30 → filter (is_cell_of a) (cells_below k) ≡ cells_of a
 cells_after a first last k zero has past all = ap (λ orders. filter (is_cell_of a) (cells_below orders)) (omega arith) ∙ all_orders a
 cells_after a first last k (suc n) has past all =

@@ -1,4 +1,4 @@
--- The cells of an order of ranges are those of their pieces, which are a normal list.
+-- The cells of an order of ranges are the cells of their pieces, and the pieces are a normal list.
 use Rattle.std.proofs.Common.{◌≡◌, ℕ, zero, suc, ◌+◌, ◌-◌, ◌*◌, ◌/◌, ◌<◌, ◌≤◌, Bool, true, false, cond, ◌&&◌, List, []}
 use Rattle.std.proofs.Common.{◌∷◌, ◌++◌, length, take, get_or, map, refl, sym, ap, subst, ◌∙◌, inl, inr, arith}
 use Rattle.std.proofs.Common.{append-nil, append_assoc, eqb}
@@ -11,11 +11,11 @@ use Rattle.std.proofs.lemmas.Nat.{div-add-mod', mod_below, div_below}
 use Rattle.moc_sphere.specs.CellNumber.{CellNumber, cell_number, cell_count, cell_size, IsCell}
 use Rattle.moc_sphere.specs.Lemmas.{cell_size-positive}
 use Rattle.moc_blocks.specs.RangeList.{NumberSet, pixel_count, set_of, IsNormal, BeginsAfter}
-use Rattle.moc_ranges.specs.Cells.{AreOfOrders, cells_in, cells_of, cells_of_range, cells_below, is_cell_of}
+use Rattle.moc_ranges.specs.Cells.{HaveOrders, cells_in, cells_of, cells_of_range, cells_below, is_cell_of}
 use Rattle.moc_ranges.specs.Lemmas.Cells.{cells_are, four_parts}
-use Rattle.moc_ranges.specs.Private.CellRuns.{ahead_of, around_parents, AreWhole, HasOrders, cells_at, filled}
-use Rattle.moc_ranges.specs.Private.CellRuns.{pieces_along, pieces_of, whole_in}
-use Rattle.moc_operations.specs.Private.Meeting.{kept_if}
+use Rattle.moc_ranges.specs.Private.CellRuns.{remaining_ranges, around_parents, AreInnerCells, HasOrders, cells_at, nonempty_range}
+use Rattle.moc_ranges.specs.Private.CellRuns.{pieces_along, pieces_of, inner_cells_of}
+use Rattle.moc_operations.specs.Private.Meeting.{list_if}
 use Rattle.moc_ranges.proofs.CellRuns.{cells_split, count_bound, four_children, no_cells, run_one, run_top, run_two}
 use Rattle.moc_ranges.proofs.CellRuns.{whole_is}
 use Rattle.moc_ranges.proofs.CellOrders.{cells_step}
@@ -33,21 +33,21 @@ nothing_between k first last le =
     let none : last - first ≡ 0 = omega arith in
     ap (λ n. map (cell_number k) (range_with_len first n)) none
 
-filled_cells : (k first last : ℕ) → cells_in k (filled (first, last)) ≡ cells_of_range k (first, last)
+filled_cells : (k first last : ℕ) → cells_in k (nonempty_range (first, last)) ≡ cells_of_range k (first, last)
 filled_cells k first last = elim (cases_lt first last) [
-  | inl lt ↦ ap (λ b. cells_in k (kept_if b (first, last))) (lt-ltb first last lt) ∙ append-nil (cells_of_range k (first, last))
-  | inr le ↦ ap (λ b. cells_in k (kept_if b (first, last))) (le-ltb first last le) ∙ sym (nothing_between k first last le)
+  | inl lt ↦ ap (λ b. cells_in k (list_if b (first, last))) (lt-ltb first last lt) ∙ append-nil (cells_of_range k (first, last))
+  | inr le ↦ ap (λ b. cells_in k (list_if b (first, last))) (le-ltb first last le) ∙ sym (nothing_between k first last le)
 ]
 
 -- the cells of both pieces
 abbrev both : ℕ → (ℕ × ℕ) × (ℕ × ℕ) → List CellNumber
-both k p = cells_in k (filled p.0 ++ filled p.1)
+both k p = cells_in k (nonempty_range p.0 ++ nonempty_range p.1)
 
 both_cells : (k : ℕ) (p : (ℕ × ℕ) × (ℕ × ℕ)) → both k p ≡ cells_of_range k p.0 ++ cells_of_range k p.1
-both_cells k p = cells_in-append k (filled p.0) (filled p.1) ∙ (λ i. filled_cells k p.0.0 p.0.1 i ++ filled_cells k p.1.0 p.1.1 i)
+both_cells k p = cells_in-append k (nonempty_range p.0) (nonempty_range p.1) ∙ (λ i. filled_cells k p.0.0 p.0.1 i ++ filled_cells k p.1.0 p.1.1 i)
 
--- the parents that lie whole in the range
-parents_are : (k from to first last : ℕ) → 0 < k → k ≤ 29 → AreWhole k from to first last → AreWhole (k - 1) from to ((first + 3) / 4) (last / 4)
+-- the parents that are inside the range
+parents_are : (k from to first last : ℕ) → 0 < k → k ≤ 29 → AreInnerCells k from to first last → AreInnerCells (k - 1) from to ((first + 3) / 4) (last / 4)
 parents_are zero from to first last some small whole = absurd (omega arith)
 parents_are (suc k) from to first last some small whole =
     record { each = λ j. (there j, back j); in_range = below }
@@ -81,8 +81,8 @@ parents_are (suc k) from to first last some small whole =
     below : last / 4 ≤ cell_count (suc k - 1)
     below = omega (arith, whole.in_range, four_children (suc k) (omega arith))
 
--- the pieces of a run of whole cells are the range's cells
-around_cells : (k from to first last : ℕ) → k ≤ 29 → from < to → to ≤ pixel_count → AreWhole k from to first last → both k (around_parents k (first, last)) ≡ cells_at (set_of ((from, to) ∷ [])) k
+-- the pieces of a run of cells inside a range have the range's cells of the order
+around_cells : (k from to first last : ℕ) → k ≤ 29 → from < to → to ≤ pixel_count → AreInnerCells k from to first last → both k (around_parents k (first, last)) ≡ cells_at (set_of ((from, to) ∷ [])) k
 around_cells zero from to first last small some fits whole =
     both_cells 0 ((first, last), (last, last)) ∙ ap (λ l. cells_of_range 0 (first, last) ++ l) (nothing_between 0 last last (omega arith)) ∙ append-nil (cells_of_range 0 (first, last))
     ∙ sym (run_top 0 from to first last refl some fits whole)
@@ -107,25 +107,25 @@ around_cells (suc k) from to first last small some fits whole =
           ∙ sym (run_one (suc k) from to first last low high (omega arith) small some fits whole parents (omega arith))
     ]
 
-whole_in-is : (k from to : ℕ) → k ≤ 29 → to ≤ pixel_count → AreWhole k from to (whole_in k (from, to)).0 (whole_in k (from, to)).1
-whole_in-is k from to small fits = whole_is k (cell_size k) from to refl small fits
+inner_cells_of-is : (k from to : ℕ) → k ≤ 29 → to ≤ pixel_count → AreInnerCells k from to (inner_cells_of k (from, to)).0 (inner_cells_of k (from, to)).1
+inner_cells_of-is k from to small fits = whole_is k (cell_size k) from to refl small fits
 
 -- the pieces of ranges have the cells of the order
 pub pieces_cells : (k : ℕ) (rs : List (ℕ × ℕ)) → IsNormal rs → k ≤ 29 → cells_in k (pieces_along k rs) ≡ cells_at (set_of rs) k
 pieces_cells k [] normal small = sym (no_cells k small)
 pieces_cells k (r ∷ rs) normal small =
     let p = pieces_of k r in
-    let first = cells_in k (filled p.0) in
-    let second = cells_in k (filled p.1) in
+    let first = cells_in k (nonempty_range p.0) in
+    let second = cells_in k (nonempty_range p.1) in
     let rest = cells_in k (pieces_along k rs) in
-    cells_in-append k (filled p.0) (filled p.1 ++ pieces_along k rs)
-    ∙ ap (λ l. first ++ l) (cells_in-append k (filled p.1) (pieces_along k rs))
+    cells_in-append k (nonempty_range p.0) (nonempty_range p.1 ++ pieces_along k rs)
+    ∙ ap (λ l. first ++ l) (cells_in-append k (nonempty_range p.1) (pieces_along k rs))
     ∙ sym (append_assoc first second rest)
-    ∙ ap (λ l. l ++ rest) (sym (cells_in-append k (filled p.0) (filled p.1)))
-    ∙ (λ i. around_cells k r.0 r.1 (whole_in k r).0 (whole_in k r).1 small normal.0 normal.1 (whole_in-is k r.0 r.1 small normal.1) i ++ pieces_cells k rs normal.3 small i)
+    ∙ ap (λ l. l ++ rest) (sym (cells_in-append k (nonempty_range p.0) (nonempty_range p.1)))
+    ∙ (λ i. around_cells k r.0 r.1 (inner_cells_of k r).0 (inner_cells_of k r).1 small normal.0 normal.1 (inner_cells_of-is k r.0 r.1 small normal.1) i ++ pieces_cells k rs normal.3 small i)
     ∙ sym (cells_split r rs k normal small)
 
--- ---- they are a normal list
+-- ---- the pieces are a normal list
 
 record Parts (first last : ℕ) (p : (ℕ × ℕ) × (ℕ × ℕ)) : Type 0 where
   starts : p.0.0 ≡ first
@@ -148,21 +148,21 @@ begins_sooner : (x y : ℕ) (l : List (ℕ × ℕ)) → x ≤ y → BeginsAfter 
 begins_sooner x y [] le after = tt
 begins_sooner x y (r ∷ rs) le after = omega (arith, after)
 
-begins_filled : (x : ℕ) (a : ℕ × ℕ) (l : List (ℕ × ℕ)) → (a.0 < a.1 → x < a.0) → BeginsAfter x l → BeginsAfter x (filled a ++ l)
+begins_filled : (x : ℕ) (a : ℕ × ℕ) (l : List (ℕ × ℕ)) → (a.0 < a.1 → x < a.0) → BeginsAfter x l → BeginsAfter x (nonempty_range a ++ l)
 begins_filled x a l here later =
-    elim (nat_lt a.0 a.1) as (λ b. nat_lt a.0 a.1 ≡ b → BeginsAfter x (kept_if b a ++ l)) [
+    elim (nat_lt a.0 a.1) as (λ b. nat_lt a.0 a.1 ≡ b → BeginsAfter x (list_if b a ++ l)) [
       | true ↦ λ e. here (ltb-true a.0 a.1 e)
       | false ↦ λ e. later
     ] refl
 
-normal_filled : (a : ℕ × ℕ) (l : List (ℕ × ℕ)) → a.1 ≤ pixel_count → (a.0 < a.1 → BeginsAfter a.1 l) → IsNormal l → IsNormal (filled a ++ l)
+normal_filled : (a : ℕ × ℕ) (l : List (ℕ × ℕ)) → a.1 ≤ pixel_count → (a.0 < a.1 → BeginsAfter a.1 l) → IsNormal l → IsNormal (nonempty_range a ++ l)
 normal_filled a l fits after normal =
-    elim (nat_lt a.0 a.1) as (λ b. nat_lt a.0 a.1 ≡ b → IsNormal (kept_if b a ++ l)) [
+    elim (nat_lt a.0 a.1) as (λ b. nat_lt a.0 a.1 ≡ b → IsNormal (list_if b a ++ l)) [
       | true ↦ λ e. let lt = ltb-true a.0 a.1 e in (lt, fits, after lt, normal)
       | false ↦ λ e. normal
     ] refl
 
--- the first whole cell begins behind what ends before the range
+-- the first cell inside a range begins after everything that ends before the range
 first_behind : (k y from : ℕ) → y < from → y / cell_size k < (from + (cell_size k - 1)) / cell_size k
 first_behind k y from lt =
     let w = cell_size k in
@@ -178,22 +178,22 @@ pieces_begin k y [] normal after = tt
 pieces_begin k y (r ∷ rs) normal after =
     let x = y / cell_size k in
     let p = pieces_of k r in
-    let is = parts k (whole_in k r).0 (whole_in k r).1 in
+    let is = parts k (inner_cells_of k r).0 (inner_cells_of k r).1 in
     let first = first_behind k y r.0 after in
     let rest = pieces_begin k y rs normal.3 (begins_sooner y r.1 rs (omega (arith, after, normal.0)) normal.2) in
-    begins_filled x p.0 (filled p.1 ++ pieces_along k rs) (λ some. omega (arith, first, is.starts))
+    begins_filled x p.0 (nonempty_range p.1 ++ pieces_along k rs) (λ some. omega (arith, first, is.starts))
     (begins_filled x p.1 (pieces_along k rs) (λ some. omega (arith, first, (is.gap some).1)) rest)
 
 pub pieces_normal : (k : ℕ) (rs : List (ℕ × ℕ)) → IsNormal rs → k ≤ 29 → IsNormal (pieces_along k rs)
 pieces_normal k [] normal small = tt
 pieces_normal k (r ∷ rs) normal small =
     let p = pieces_of k r in
-    let last = (whole_in k r).1 in
-    let is = parts k (whole_in k r).0 last in
-    let fits : last ≤ pixel_count = omega (arith, (whole_in-is k r.0 r.1 small normal.1).in_range, count_bound k small) in
+    let last = (inner_cells_of k r).1 in
+    let is = parts k (inner_cells_of k r).0 last in
+    let fits : last ≤ pixel_count = omega (arith, (inner_cells_of-is k r.0 r.1 small normal.1).in_range, count_bound k small) in
     let rest = pieces_begin k r.1 rs normal.3 normal.2 in
     let after : BeginsAfter p.0.1 (pieces_along k rs) = begins_sooner p.0.1 last (pieces_along k rs) is.within rest in
-    normal_filled p.0 (filled p.1 ++ pieces_along k rs) (omega (arith, fits, is.within)) (λ some. begins_filled p.0.1 p.1 (pieces_along k rs) (λ more. (is.gap more).0) after)
+    normal_filled p.0 (nonempty_range p.1 ++ pieces_along k rs) (omega (arith, fits, is.within)) (λ some. begins_filled p.0.1 p.1 (pieces_along k rs) (λ more. (is.gap more).0) after)
     (normal_filled p.1 (pieces_along k rs) (omega (arith, fits, is.ends)) (λ some. begins_sooner p.1.1 last (pieces_along k rs) (omega (arith, is.ends)) rest) (pieces_normal k rs normal.3 small))
 
 -- ---- the cells of one order among all
@@ -252,18 +252,18 @@ each_kept P p (c ∷ cells) are has =
       | false ↦ λ e all. each_kept P p cells all has
     ] refl are
 
-pub orders_of_cells : (a : NumberSet) (first last : ℕ) → HasOrders a first last → AreOfOrders first last (cells_of a)
+pub orders_of_cells : (a : NumberSet) (first last : ℕ) → HasOrders a first last → HaveOrders first last (cells_of a)
 unfolding cells_of
 orders_of_cells a first last has =
     each_kept (λ c. (first ≤ c.order) × (c.order < last)) (is_cell_of a) (cells_below 30) (cells_are a) (λ c is of_it. has.each c.order c.index is.order_in_range is.index_in_range of_it)
 
--- ---- runs that are made ahead
+-- ---- the buffer of runs
 
--- the next of them is given
-pub ahead_next : (made rest : List (ℕ × ℕ)) (given count : ℕ) → given < count → count ≤ length made → ahead_of made given count ++ rest ≡ get_or made given (0, 0) ∷ (ahead_of made (given + 1) count ++ rest)
+-- the next run of the buffer is returned
+pub ahead_next : (made rest : List (ℕ × ℕ)) (given count : ℕ) → given < count → count ≤ length made → remaining_ranges made given count ++ rest ≡ get_or made given (0, 0) ∷ (remaining_ranges made (given + 1) count ++ rest)
 ahead_next made rest given count lt fits =
     ap (λ (l : List (ℕ × ℕ)). l ++ rest) (drop_more (take count made) given (0, 0) (omega (arith, length-take-le count made fits)))
-    ∙ ap (λ (x : ℕ × ℕ). x ∷ (ahead_of made (given + 1) count ++ rest)) (get_or-take count made given (0, 0) lt)
+    ∙ ap (λ (x : ℕ × ℕ). x ∷ (remaining_ranges made (given + 1) count ++ rest)) (get_or-take count made given (0, 0) lt)
 
 -- ---- the cells of runs are cells
 
@@ -294,9 +294,9 @@ order_cells a k = kept (cells_of a) (cells_are a)
           | false ↦ kept cells are.1
         ]
 
--- ---- how many they are
+-- ---- the number of runs
 
-kept_one : (b : Bool) (range : ℕ × ℕ) → length (kept_if b range) ≤ 1
+kept_one : (b : Bool) (range : ℕ × ℕ) → length (list_if b range) ≤ 1
 kept_one true range = omega arith
 kept_one false range = omega arith
 
@@ -306,15 +306,15 @@ pieces_count k (r ∷ rs) =
     let p = pieces_of k r in
     omega (
       arith,
-      length-append (filled p.0) (filled p.1 ++ pieces_along k rs),
-      length-append (filled p.1) (pieces_along k rs),
+      length-append (nonempty_range p.0) (nonempty_range p.1 ++ pieces_along k rs),
+      length-append (nonempty_range p.1) (pieces_along k rs),
       kept_one (nat_lt p.0.0 p.0.1) p.0,
       kept_one (nat_lt p.1.0 p.1.1) p.1,
       pieces_count k rs,
     )
 
--- those that are made and not given yet, and the others behind them
+-- the runs in the buffer that are not returned yet, and the others after them
 pub ahead_count : (made rest : List (ℕ × ℕ)) (given count : ℕ) → count ≤ length made
-    → length (ahead_of made given count ++ rest) ≡ (count - given) + length rest
+    → length (remaining_ranges made given count ++ rest) ≡ (count - given) + length rest
 ahead_count made rest given count fits =
-    omega (arith, length-append (ahead_of made given count) rest, length-drop given (take count made), length-take-le count made fits)
+    omega (arith, length-append (remaining_ranges made given count) rest, length-drop given (take count made), length-take-le count made fits)

@@ -1,4 +1,4 @@
--- The cells of one order of a set are, range after range, those that lie whole in the range while their parent does not.
+-- The cells of one order of a set are, range by range, those that are inside the range while their parent is not.
 use Rattle.std.proofs.Common.{◌≡◌, ℕ, zero, suc, ◌+◌, ◌-◌, ◌*◌, ◌/◌, ◌^◌, ◌<◌, ◌≤◌, Bool, true, false, cond, not, ◌&&◌}
 use Rattle.std.proofs.Common.{◌||◌, List, [], ◌∷◌, ◌++◌, map, refl, sym, ap, ◌∙◌, inl, inr, arith}
 use Rattle.std.specs.Prelude.{nat_eq, nat_le, nat_lt}
@@ -18,12 +18,12 @@ use Rattle.moc_sphere.specs.Lemmas.{cell_size-positive, cell_size-fills}
 use Rattle.moc_blocks.specs.RangeList.{pixel_count, set_of, IsNormal, BeginsAfter}
 use Rattle.moc_blocks.specs.Lemmas.Members.{contains-set_of, in_ranges}
 use Rattle.moc_ranges.specs.Lemmas.Members.{contains-span, same_truth}
-use Rattle.moc_ranges.specs.Lemmas.Ranges.{LiesInOne, lies_in_one}
+use Rattle.moc_ranges.specs.Lemmas.Ranges.{IsInsideOne, inside_one}
 use Rattle.moc_ranges.specs.Cells.{cells_of_range, span, is_cell_of}
 use Rattle.moc_ranges.specs.Lemmas.Cells.{in_span, four_parts, in_cell_range}
-use Rattle.moc_ranges.specs.Private.CellRuns.{cells_at, AreWhole}
+use Rattle.moc_ranges.specs.Private.CellRuns.{cells_at, AreInnerCells}
 
--- ---- filters of numbers in a row
+-- ---- filters of consecutive numbers
 
 pub filter-map : {X Y : Type 0} (p : Y → Bool) (f : X → Y) (xs : List X) → filter p (map f xs) ≡ map f (filter (λ x. p (f x)) xs)
 filter-map p f [] = refl
@@ -46,7 +46,7 @@ filter_same : (p q : ℕ → Bool) (from n : ℕ) → ((i : ℕ) → from ≤ i 
 filter_same p q from zero same = refl
 filter_same p q from (suc n) same = λ k. cond (same from (omega arith) (omega arith) k) (from ∷ filter_same p q (from + 1) n (λ i low high. same i (omega arith) (omega arith)) k) (filter_same p q (from + 1) n (λ i low high. same i (omega arith) (omega arith)) k)
 
--- a filter that keeps just the numbers from `low` up to `high`
+-- a filter that keeps exactly the numbers from `low` up to `high`
 pub filter_run : (p : ℕ → Bool) (low high from n : ℕ) → from ≤ low → high ≤ from + n → ((i : ℕ) → from ≤ i → i < from + n → p i ≡ (nat_le low i && nat_lt i high)) → filter p (range_with_len from n) ≡ range_with_len low (high - low)
 filter_run p low high from zero begins ends is = let none : high - low ≡ 0 = omega arith in ap (range_with_len low) (sym none)
 filter_run p low high from (suc n) begins ends is = elim (cases_lt from low) [
@@ -78,7 +78,7 @@ filter_run p low high from (suc n) begins ends is = elim (cases_lt from low) [
     later : (low high from i : ℕ) → low ≤ from → from + 1 ≤ i → (nat_le low i && nat_lt i high) ≡ (nat_le (from + 1) i && nat_lt i high)
     later low high from i le above = grind (arith, nat_tests)
 
--- what one of two tests keeps, where the first keeps nothing from `middle` on, and the second nothing before
+-- a filter by either of two tests, if the first passes nothing from `middle` on, and the second nothing before
 pub filter_parts : (s p q : ℕ → Bool) (middle from n : ℕ) → ((i : ℕ) → from ≤ i → i < from + n → s i ≡ (p i || q i)) → ((i : ℕ) → middle ≤ i → i < from + n → p i ≡ false) → ((i : ℕ) → i < middle → i < from + n → q i ≡ false)
     → filter s (range_with_len from n) ≡ filter p (range_with_len from n) ++ filter q (range_with_len from n)
 filter_parts s p q middle from zero is low high = refl
@@ -95,13 +95,13 @@ filter_parts s p q middle from (suc n) is low high = elim (cases_lt from middle)
       ∙ ap (λ l. l ++ filter q (range_with_len from (suc n))) (sym (filter_none p from (suc n) (λ i above lt. low i (omega arith) lt)))
 ]
 
--- ---- whole cells in ranges
+-- ---- cells inside ranges
 
--- the cell i of size w lies whole in a range
+-- the cell i of size w is inside a range
 abbrev pub fits : ℕ → ℕ × ℕ → ℕ → Bool
 fits w r i = nat_le r.0 (i * w) && nat_le ((i + 1) * w) r.1
 
--- the cell i of size w lies whole in a range of the list
+-- the cell i of size w is inside a range of the list
 abbrev pub fits_any : ℕ → List (ℕ × ℕ) → ℕ → Bool
 fits_any w rs i = list_any (λ r. fits w r i) rs
 
@@ -114,7 +114,7 @@ fits_parts w r i is = let parts = and_parts (nat_le r.0 (i * w)) (nat_le ((i + 1
 next_cell : (i w : ℕ) → (i + 1) * w ≡ i * w + w
 next_cell i w = omega arith
 
-fits_one : (w i : ℕ) (rs : List (ℕ × ℕ)) → LiesInOne (i * w) ((i + 1) * w) rs → fits_any w rs i ≡ true
+fits_one : (w i : ℕ) (rs : List (ℕ × ℕ)) → IsInsideOne (i * w) ((i + 1) * w) rs → fits_any w rs i ≡ true
 fits_one w i [] lies = absurd lies
 fits_one w i (r ∷ rs) lies = elim lies [
   | inl here ↦ or_left _ _ (fits_from w r i here.0 here.1)
@@ -130,21 +130,21 @@ fits_has w i (r ∷ rs) q is low high = elim (or_cases (fits w r i) (fits_any w 
   | inr later ↦ or_right _ _ (fits_has w i rs q later low high)
 ]
 
--- a cell is within a set where it lies whole in one of its ranges
+-- a cell is in a set if it is inside one of its ranges
 pub subset_fits : (rs : List (ℕ × ℕ)) (k i : ℕ) → IsNormal rs → k ≤ 29 → i < cell_count k → set.is_subset (span k i) (set_of rs) ≡ fits_any (cell_size k) rs i
 subset_fits rs k i normal small lt =
     let w = cell_size k in
     let pos = cell_size-positive k in
     let some : i * w < (i + 1) * w = omega arith in
     same_truth _ _
-    (λ sub. fits_one w i rs (lies_in_one (i * w) ((i + 1) * w) rs some normal (λ q low high.
+    (λ sub. fits_one w i rs (inside_one (i * w) ((i + 1) * w) rs some normal (λ q low high.
     sym (contains-set_of rs q) ∙ set.is_subset-contains nat_cmp_total (span k i) (set_of rs) sub q (in_span k i q small lt (and_from _ _ (le-leb (i * w) q low) (lt-ltb q ((i + 1) * w) high))))))
     (λ one. set.contains-is_subset nat_cmp_total (span k i) (set_of rs) (λ q has.
     let of_it : q / w ≡ i = eqb-true (q / w) i (and_parts (nat_lt q pixel_count) (nat_eq (q / w) i) (sym (contains-span k i q) ∙ has)).1 in
     let parts = and_parts (nat_le (i * w) q) (nat_lt q ((i + 1) * w)) (in_cell_range i w q pos of_it) in
     contains-set_of rs q ∙ fits_has w i rs q one (leb-true (i * w) q parts.0) (ltb-true q ((i + 1) * w) parts.1)))
 
--- no range after x has a cell that begins up to x
+-- no range after x contains a cell that begins at or before x
 none_later : (x w i : ℕ) (rs : List (ℕ × ℕ)) → IsNormal rs → BeginsAfter x rs → i * w ≤ x → fits_any w rs i ≡ false
 none_later x w i [] normal after le = refl
 none_later x w i (r ∷ rs) normal after le =
@@ -162,7 +162,7 @@ any_step true a false c d false no_c no_d down rest = ap not (no_c refl)
 any_step false a true c d z no_c no_d down rest = absurd (false≢true (down refl))
 any_step false a false c d z no_c no_d down rest = rest refl
 
--- the cell i lies in a range, and its parent j, if it has one, does not
+-- the cell i is inside a range, and its parent j, if it has one, is not
 abbrev pub is_part : ℕ → ℕ → Bool → ℕ → ℕ → ℕ × ℕ → Bool
 is_part w w4 top i j r = fits w r i && (top || not (fits w4 r j))
 
@@ -179,7 +179,7 @@ parts_any w w4 i j top (r ∷ rs) pos low high normal =
     (fits_down w w4 i j r low high)
     (λ other. parts_any w w4 i j top rs pos low high normal.3)
 
--- where the parent of the cell i of order k is
+-- the position of the parent of cell i of order k
 parent_around : (k i : ℕ) → 0 < k → k ≤ 29 → (i / 4 * cell_size (k - 1) ≤ i * cell_size k) × ((i + 1) * cell_size k ≤ (i / 4 + 1) * cell_size (k - 1))
 parent_around zero i some small = absurd (omega arith)
 parent_around (suc k) i some small =
@@ -195,7 +195,7 @@ parent_around (suc k) i some small =
 
 -- ---- the cells of an order, range by range
 
--- the cell i of order k is one of a range's
+-- the cell i of order k is one of the cells of a range
 abbrev pub part_at : ℕ → ℕ → ℕ × ℕ → Bool
 part_at k i r = is_part (cell_size k) (cell_size (k - 1)) (nat_eq k 0) i (i / 4) r
 
@@ -243,21 +243,21 @@ cells_split r rs k normal small =
 
 -- ---- the cells of one range
 
-whole_tests : (k from to first last i : ℕ) → AreWhole k from to first last → fits (cell_size k) (from, to) i ≡ (nat_le first i && nat_lt i last)
+whole_tests : (k from to first last i : ℕ) → AreInnerCells k from to first last → fits (cell_size k) (from, to) i ≡ (nat_le first i && nat_lt i last)
 whole_tests k from to first last i whole = same_truth _ _
     (λ is. let at = (whole.each i).1 (fits_parts (cell_size k) (from, to) i is) in and_from _ _ (le-leb first i at.0) (lt-ltb i last at.1))
     (λ is. let parts = and_parts (nat_le first i) (nat_lt i last) is in
     let at = (whole.each i).0 (leb-true first i parts.0, ltb-true i last parts.1) in fits_from (cell_size k) (from, to) i at.0 at.1)
 
--- no parent lies in the range
+-- no parent is inside the range
 one_test : (first last low high i : ℕ) → high ≤ low → (((nat_le first i && nat_lt i last) && (false || not (nat_le low (i / 4) && nat_lt (i / 4) high))) || false) ≡ (nat_le first i && nat_lt i last)
 one_test first last low high i none = let j = i / 4 in grind (arith, nat_tests)
 
--- the parents from `low` up to `high` lie in the range
+-- the parents from `low` up to `high` are inside the range
 two_tests : (first last low high i : ℕ) → low < high → first ≤ 4 * low → 4 * high ≤ last → (((nat_le first i && nat_lt i last) && (false || not (nat_le low (i / 4) && nat_lt (i / 4) high))) || false) ≡ ((nat_le first i && nat_lt i (4 * low)) || (nat_le (4 * high) i && nat_lt i last))
 two_tests first last low high i some a b = grind (arith, nat_tests)
 
-pub run_top : (k from to first last : ℕ) → k ≡ 0 → from < to → to ≤ pixel_count → AreWhole k from to first last → cells_at (set_of ((from, to) ∷ [])) k ≡ cells_of_range k (first, last)
+pub run_top : (k from to first last : ℕ) → k ≡ 0 → from < to → to ≤ pixel_count → AreInnerCells k from to first last → cells_at (set_of ((from, to) ∷ [])) k ≡ cells_of_range k (first, last)
 run_top zero from to first last top some fits_in whole =
     cells_at_any ((from, to) ∷ []) 0 (some, fits_in, tt, tt) (omega arith)
     ∙ ap (map (cell_number 0)) (filter_run (λ i. list_any (part_at 0 i) ((from, to) ∷ [])) first last 0 (cell_count 0) (omega arith) (omega (arith, whole.in_range))
@@ -271,26 +271,26 @@ run_top (suc k) from to first last top some fits_in whole = absurd (omega arith)
 not_top : (k : ℕ) → nat_eq (suc k) 0 ≡ false
 not_top k = ne_eqb (suc k) 0 (λ e. omega arith)
 
-part_tests : (k from to first last low high i : ℕ) → AreWhole (suc k) from to first last → AreWhole (suc k - 1) from to low high
+part_tests : (k from to first last low high i : ℕ) → AreInnerCells (suc k) from to first last → AreInnerCells (suc k - 1) from to low high
     → list_any (part_at (suc k) i) ((from, to) ∷ []) ≡ (((nat_le first i && nat_lt i last) && (false || not (nat_le low (i / 4) && nat_lt (i / 4) high))) || false)
 part_tests k from to first last low high i whole parents =
     (λ n. (whole_tests (suc k) from to first last i whole n && (not_top k n || not (whole_tests (suc k - 1) from to low high (i / 4) parents n))) || false)
 
-pub run_one : (k from to first last low high : ℕ) → 0 < k → k ≤ 29 → from < to → to ≤ pixel_count → AreWhole k from to first last → AreWhole (k - 1) from to low high → high ≤ low → cells_at (set_of ((from, to) ∷ [])) k ≡ cells_of_range k (first, last)
+pub run_one : (k from to first last low high : ℕ) → 0 < k → k ≤ 29 → from < to → to ≤ pixel_count → AreInnerCells k from to first last → AreInnerCells (k - 1) from to low high → high ≤ low → cells_at (set_of ((from, to) ∷ [])) k ≡ cells_of_range k (first, last)
 run_one zero from to first last low high deep small some fits_in whole parents none = absurd (omega arith)
 run_one (suc k) from to first last low high deep small some fits_in whole parents none =
     cells_at_any ((from, to) ∷ []) (suc k) (some, fits_in, tt, tt) small
     ∙ ap (map (cell_number (suc k))) (filter_run (λ i. list_any (part_at (suc k) i) ((from, to) ∷ [])) first last 0 (cell_count (suc k)) (omega arith) (omega (arith, whole.in_range))
     (λ i above lt. part_tests k from to first last low high i whole parents ∙ one_test first last low high i none))
 
--- the four cells of a parent lie in the range too
-child_in : (k from to first last low high i : ℕ) → k ≤ 28 → AreWhole (suc k) from to first last → AreWhole (suc k - 1) from to low high → low ≤ i / 4 → i / 4 < high → (first ≤ i) × (i < last)
+-- the four cells of a parent are inside the range too
+child_in : (k from to first last low high i : ℕ) → k ≤ 28 → AreInnerCells (suc k) from to first last → AreInnerCells (suc k - 1) from to low high → low ≤ i / 4 → i / 4 < high → (first ≤ i) × (i < last)
 child_in k from to first last low high i small whole parents a b =
     let around = parent_around (suc k) i (omega arith) (omega arith) in
     let at = (parents.each (i / 4)).0 (a, b) in
     (whole.each i).1 (omega arith, omega arith)
 
-pub run_two : (k from to first last low high : ℕ) → 0 < k → k ≤ 29 → from < to → to ≤ pixel_count → AreWhole k from to first last → AreWhole (k - 1) from to low high → low < high
+pub run_two : (k from to first last low high : ℕ) → 0 < k → k ≤ 29 → from < to → to ≤ pixel_count → AreInnerCells k from to first last → AreInnerCells (k - 1) from to low high → low < high
     → cells_at (set_of ((from, to) ∷ [])) k ≡ cells_of_range k (first, 4 * low) ++ cells_of_range k (4 * high, last)
 run_two zero from to first last low high deep small some fits_in whole parents more = absurd (omega arith)
 run_two (suc k) from to first last low high deep small some fits_in whole parents more =
@@ -315,7 +315,7 @@ run_two (suc k) from to first last low high deep small some fits_in whole parent
     not_after : (low high i : ℕ) → i < low → (nat_le low i && nat_lt i high) ≡ false
     not_after low high i lt = grind (arith, nat_tests)
 
--- ---- the code's first and last whole cell
+-- ---- the first and the last cell inside a range, as the code computes them
 
 pub two_pow : (k : ℕ) → 2 ^ (2 * (29 - k)) ≡ cell_size k
 unfolding cell_size
@@ -327,7 +327,7 @@ two_pow k = four_pow (29 - k)
         let e : 2 * suc k ≡ suc (suc (2 * k)) = omega arith in
         rw e (omega (arith, pow-succ' 2 (suc (2 * k)), pow-succ' 2 (2 * k), pow-succ' 4 k, four_pow k))
 
-pub whole_is : (k w from to : ℕ) → w ≡ cell_size k → k ≤ 29 → to ≤ pixel_count → AreWhole k from to ((from + (w - 1)) / w) (to / w)
+pub whole_is : (k w from to : ℕ) → w ≡ cell_size k → k ≤ 29 → to ≤ pixel_count → AreInnerCells k from to ((from + (w - 1)) / w) (to / w)
 whole_is k w from to is small fits_in =
     rw is (record { each = λ i. (there i, back i); in_range = below })
   where
@@ -361,7 +361,7 @@ whole_is k w from to is small fits_in =
         let a = div_below to (cell_size k) (cell_count k + 1) pos (omega arith) in
         omega arith
 
--- ---- runs of cells, as the code pushes them
+-- ---- runs of cells, as the code appends them
 
 pub run_more : (k first i : ℕ) → first ≤ i → cells_of_range k (first, i + 1) ≡ cells_of_range k (first, i) ++ cell_number k i ∷ []
 run_more k first i le =
@@ -386,6 +386,6 @@ four_children (suc k) some =
     let four : 4 ^ suc k ≡ 4 * 4 ^ k = pow-succ' 4 k in
     rw before (omega arith)
 
--- no range has no cell
+-- a list without ranges has no cell
 pub no_cells : (k : ℕ) → k ≤ 29 → cells_at (set_of []) k ≡ []
 no_cells k small = cells_at_any [] k tt small ∙ ap (map (cell_number k)) (filter_none (λ i. false) 0 (cell_count k) (λ i low high. refl))

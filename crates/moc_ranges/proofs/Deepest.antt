@@ -1,4 +1,4 @@
--- The least order of whose cells a set is a union: the least whose cells' size divides all bounds.
+-- The least order at which a set is a union of cells: the least order whose cell size divides all bounds.
 use Rattle.std.proofs.Common.{◌≡◌, ℕ, zero, suc, ◌+◌, ◌-◌, ◌*◌, ◌/◌, ◌%◌, ◌^◌, ◌<◌, ◌≤◌, true, List, [], ◌∷◌, min, leb}
 use Rattle.std.proofs.Common.{ltb, refl, sym, ap, subst, ◌∙◌, inl, inr, arith, map}
 use Rattle.std.specs.Prelude.{bit_or}
@@ -18,11 +18,11 @@ use Rattle.moc_ranges.specs.Lemmas.Ranges.{in_first, not_before, at_end}
 use Rattle.moc_ranges.specs.Private.Widen.{widen}
 use Rattle.moc_ranges.proofs.CellRuns.{two_pow}
 use Rattle.moc_ranges.proofs.CellOrders.{AllMultiples, multiple_of, or_multiple, low_zeros}
-use Rattle.moc_ranges.proofs.Widening.{degraded, in_widened, rises, same_quotient}
+use Rattle.moc_ranges.proofs.Widening.{degraded, in_widened, increases, same_quotient}
 
 -- ---- a set whose bounds are multiples of a cell size is a union of such cells
 
--- the multiple of w before the last number below a multiple
+-- the multiple of w below a multiple is the start of the last number's cell
 last_floor : (w t : ℕ) → 0 < w → 0 < t → t % w ≡ 0 → (t - 1) / w * w + w ≡ t
 last_floor w t pos some none =
     let c = t / w - 1 in
@@ -54,20 +54,20 @@ degrade_of_multiples k rs small normal all = same_members _ _ (λ q.
     ∙ ap (λ (ss : List (ℕ × ℕ)). in_ranges ss q) (map-widen (cell_size k) rs (cell_size-positive k) normal all)
     ∙ sym (contains-set_of rs q))
 
--- ---- and no other set is
+-- ---- no other set is such a union
 
--- with a number, the ranges have all of its cell of size w
+-- with a number, the ranges contain all of its cell of size w
 abbrev HaveWholeCells : ℕ → List (ℕ × ℕ) → Type 0
 HaveWholeCells w rs = (p q : ℕ) → in_ranges rs p ≡ true → p / w ≡ q / w → in_ranges rs q ≡ true
 
-whole_cells : (k : ℕ) (rs : List (ℕ × ℕ)) → k ≤ 29 → IsNormal rs → degrade (set_of rs) k ≡ set_of rs → HaveWholeCells (cell_size k) rs
-whole_cells k rs small normal same = λ p q has cell.
+inner_cells : (k : ℕ) (rs : List (ℕ × ℕ)) → k ≤ 29 → IsNormal rs → degrade (set_of rs) k ≡ set_of rs → HaveWholeCells (cell_size k) rs
+inner_cells k rs small normal same = λ p q has cell.
     sym (contains-set_of rs q)
     ∙ ap (λ (a : NumberSet). set.contains a q) (sym same)
     ∙ sym (degraded k rs (set_of rs) q small normal refl)
     ∙ in_widened (cell_size k) rs p q (cell_size-positive k) has cell
 
--- a number that is no multiple lies in the cell of the one before
+-- a number that is not a multiple is in the cell of the number before it
 same_before : (w n : ℕ) → 0 < w → 0 < n % w → (n - 1) / w ≡ n / w
 same_before w n pos some =
     let parts = div-add-mod' n w in
@@ -97,15 +97,15 @@ module _ (w : ℕ) (r : ℕ × ℕ) (rs : List (ℕ × ℕ)) (pos : 0 < w) (norm
         absurd (false≢true (sym (at_end r rs normal) ∙ has))
   ]
 
-  -- no cell reaches over the gap behind a range
+  -- no cell extends across the gap after a range
   later_whole : HaveWholeCells w rs
   later_whole = λ p q has cell. elim (or_cases (in_range r q) (in_ranges rs q) (whole p q (or_right (in_range r p) (in_ranges rs p) has) cell)) [
     | inl here ↦
         elim (cases_lt r.1 p) [
           | inl past ↦
               let inside = range_below r q here in
-              let a = rises w q r.1 pos (omega arith) in
-              let b = rises w r.1 p pos (omega arith) in
+              let a = increases w q r.1 pos (omega arith) in
+              let b = increases w r.1 p pos (omega arith) in
               let between : p / w ≡ r.1 / w = omega arith in
               absurd (false≢true (sym (at_end r rs normal) ∙ whole p r.1 (or_right (in_range r p) (in_ranges rs p) has) between))
           | inr le ↦ absurd (false≢true (sym (later_only r.1 p rs normal.3 normal.2 le) ∙ has))
@@ -120,11 +120,11 @@ all_multiples w (r ∷ rs) pos normal whole =
 
 pub multiples_of_degrade : (k : ℕ) (rs : List (ℕ × ℕ)) → k ≤ 29 → IsNormal rs → degrade (set_of rs) k ≡ set_of rs → AllMultiples (cell_size k) rs
 multiples_of_degrade k rs small normal same =
-    all_multiples (cell_size k) rs (cell_size-positive k) normal (whole_cells k rs small normal same)
+    all_multiples (cell_size k) rs (cell_size-positive k) normal (inner_cells k rs small normal same)
 
--- ---- what the scan keeps
+-- ---- the invariant of the scan
 
--- a power of two divides a number and the bounds to come just where it divides all bounds
+-- a power of two divides the scanned number and the remaining bounds exactly if it divides all bounds
 pub record Bounding (ends : ℕ) (rest whole : List (ℕ × ℕ)) : Type 0 where
   pub multiples : (s : ℕ) → ends % 2 ^ s ≡ 0 → AllMultiples (2 ^ s) rest → AllMultiples (2 ^ s) whole
   pub divided : (s : ℕ) → AllMultiples (2 ^ s) whole → (ends % 2 ^ s ≡ 0) × AllMultiples (2 ^ s) rest
@@ -149,9 +149,9 @@ bounding_step ends r rest whole b = record {
       (both_multiples ends (bit_or r.0 r.1) s d.0 (both_multiples r.0 r.1 s d.1.0 d.1.1), d.1.2);
 }
 
--- ---- the order that the trailing zeros tell
+-- ---- the order from the trailing zeros
 
--- a power of two that divides a number has no greater exponent than the number has trailing zeros
+-- a power of two that divides a number has at most the exponent of its trailing zeros
 zeros_at_least : (n j : ℕ) → 0 < n → n < 2 ^ 64 → n % 2 ^ j ≡ 0 → j ≤ trailing_zeros w64 n
 zeros_at_least n j some fits none = elim (cases_lt (trailing_zeros w64 n) j) [
   | inl less ↦

@@ -1,4 +1,4 @@
--- What look-ups in a set find.
+-- The results of searches in a set.
 use Rattle.std.proofs.Common.{◌≡◌, ℕ, ◌+◌, ◌<◌, ◌≤◌, ◌*◌, ◌/◌, Bool, true, false, not, ◌&&◌, ◌||◌, ◌⊎◌, List, [], ◌∷◌}
 use Rattle.std.proofs.Common.{◌++◌, nat_eq, nat_le, nat_lt, max, Option, None, Some, MatchOption, inl, inr, refl, sym}
 use Rattle.std.proofs.Common.{ap, subst, ◌∙◌, arith}
@@ -14,27 +14,27 @@ use Rattle.moc_blocks.specs.RangeList.{NumberSet, numbers, pixel_count, IsNormal
 use Rattle.moc_blocks.specs.Lemmas.Members.{contains-numbers, same_members, in_ranges, contains-set_of, in_ranges-append, and_false}
 use Rattle.moc_ranges.specs.Lemmas.Members.{meets-some, meets-none, contains-part_of, contains-pixels}
 use Rattle.moc_ranges.specs.Operations.{base_pixel_size, pixels, meets, part_of}
-use Rattle.moc_blocks.specs.Private.Walks.{EndsBy, IsFirstPast}
+use Rattle.moc_blocks.specs.Private.Walks.{EndsBy, IsFirstAfter}
 use Rattle.moc_blocks.specs.Lemmas.Ranges.{later_only}
-use Rattle.moc_ranges.specs.Private.Walks.{IsNextRange, HasNoneFrom}
+use Rattle.moc_ranges.specs.Private.Walks.{IsNextRange, IsEmptyFrom}
 use Rattle.moc_ranges.specs.Lemmas.Ranges.{at_end}
 use Rattle.moc_blocks.proofs.Blocking.{IsNormal-suffix}
 use Rattle.moc_blocks.proofs.Basics.{none_ended}
 use Rattle.moc_ranges.proofs.Views.{and_no, none_in_part, in_base}
 
--- the ranges that a search has passed
+-- the ranges that a search has skipped
 pub record IsSearching (limit : ℕ) (rest whole : List (ℕ × ℕ)) : Type 0 where
-  pub gone : List (ℕ × ℕ)
-  pub parts : whole ≡ gone ++ rest
-  pub ended : EndsBy limit gone
+  pub removed : List (ℕ × ℕ)
+  pub parts : whole ≡ removed ++ rest
+  pub ended : EndsBy limit removed
   pub normal : IsNormal whole
 
 left_in : (limit q : ℕ) (rest whole : List (ℕ × ℕ)) → IsSearching limit rest whole → limit ≤ q → in_ranges whole q ≡ in_ranges rest q
 left_in limit q rest whole i le =
-    ap (λ (l : List (ℕ × ℕ)). in_ranges l q) i.parts ∙ in_ranges-append i.gone rest q
-    ∙ ap (λ b. b || in_ranges rest q) (none_ended limit q i.gone i.ended le)
+    ap (λ (l : List (ℕ × ℕ)). in_ranges l q) i.parts ∙ in_ranges-append i.removed rest q
+    ∙ ap (λ b. b || in_ranges rest q) (none_ended limit q i.removed i.ended le)
 
-pub search_none : (limit : ℕ) (whole : List (ℕ × ℕ)) → EndsBy limit whole → HasNoneFrom limit (set_of whole)
+pub search_none : (limit : ℕ) (whole : List (ℕ × ℕ)) → EndsBy limit whole → IsEmptyFrom limit (set_of whole)
 search_none limit whole ended = record { none = λ q le. contains-set_of whole q ∙ none_ended limit q whole ended le }
 
 first_has : (range : ℕ × ℕ) (rest : List (ℕ × ℕ)) (q : ℕ) → IsNormal (range ∷ rest) → q < range.1 → in_ranges (range ∷ rest) q ≡ nat_le range.0 q
@@ -42,7 +42,7 @@ first_has range rest q normal lt = let later = later_only range.1 q rest normal.
 
 search_some : (limit : ℕ) (range : ℕ × ℕ) (s rest whole : List (ℕ × ℕ)) → IsSearching limit s whole → s ≡ range ∷ rest → limit < range.1 → IsNextRange limit (set_of whole) range
 search_some limit range s rest whole i e lt =
-    let left : IsNormal (range ∷ rest) = subst IsNormal e (IsNormal-suffix i.gone s (subst IsNormal i.parts i.normal)) in
+    let left : IsNormal (range ∷ rest) = subst IsNormal e (IsNormal-suffix i.removed s (subst IsNormal i.parts i.normal)) in
     record {
       past = lt;
       filled = left.0;
@@ -52,16 +52,16 @@ search_some limit range s rest whole i e lt =
     }
 
 -- the first range that ends after the limit, of a normal list
-pub search_found : (limit : ℕ) (range : ℕ × ℕ) (whole : List (ℕ × ℕ)) → IsNormal whole → IsFirstPast limit (range ∷ []) whole → IsNextRange limit (set_of whole) range
+pub search_found : (limit : ℕ) (range : ℕ × ℕ) (whole : List (ℕ × ℕ)) → IsNormal whole → IsFirstAfter limit (range ∷ []) whole → IsNextRange limit (set_of whole) range
 search_found limit range whole normal f =
-    search_some limit range (range ∷ f.later) f.later whole (record { gone = f.gone; parts = f.parts; ended = f.ended; normal = normal }) refl f.past
+    search_some limit range (range ∷ f.later) f.later whole (record { removed = f.removed; parts = f.parts; ended = f.ended; normal = normal }) refl f.past
 
 -- the same for the set of a list
-pub search_set : (limit : ℕ) (range : Option (ℕ × ℕ)) (found whole : List (ℕ × ℕ)) (a : NumberSet) → set_of whole ≡ a → IsNormal whole → whole ≡ found → MatchOption range (EndsBy limit found) (λ (r : ℕ × ℕ). IsFirstPast limit (r ∷ []) found) → MatchOption range (HasNoneFrom limit a) (IsNextRange limit a)
-search_set limit None found whole a is normal e f = subst (HasNoneFrom limit) is (search_none limit whole (subst (EndsBy limit) (sym e) f))
-search_set limit (Some r) found whole a is normal e f = subst (λ (s : NumberSet). IsNextRange limit s r) is (search_found limit r whole normal (subst (λ (l : List (ℕ × ℕ)). IsFirstPast limit (r ∷ []) l) (sym e) f))
+pub search_set : (limit : ℕ) (range : Option (ℕ × ℕ)) (found whole : List (ℕ × ℕ)) (a : NumberSet) → set_of whole ≡ a → IsNormal whole → whole ≡ found → MatchOption range (EndsBy limit found) (λ (r : ℕ × ℕ). IsFirstAfter limit (r ∷ []) found) → MatchOption range (IsEmptyFrom limit a) (IsNextRange limit a)
+search_set limit None found whole a is normal e f = subst (IsEmptyFrom limit) is (search_none limit whole (subst (EndsBy limit) (sym e) f))
+search_set limit (Some r) found whole a is normal e f = subst (λ (s : NumberSet). IsNextRange limit s r) is (search_found limit r whole normal (subst (λ (l : List (ℕ × ℕ)). IsFirstAfter limit (r ∷ []) l) (sym e) f))
 
--- ---- what the next range says of a set
+-- ---- the next range, in terms of the set
 
 next_has : (limit q : ℕ) (a : NumberSet) (range : ℕ × ℕ) → IsNextRange limit a range → limit ≤ q → range.0 ≤ q → q < range.1 → set.contains a q ≡ true
 next_has limit q a range n low from to = n.has q low to ∙ grind (arith, nat_tests)
@@ -84,7 +84,7 @@ meets_no a from to none = meets-none a (numbers from to) (λ q. elim (cases_Bool
 ])
 
 pub meets_next : (a : NumberSet) (from to : ℕ) (range : ℕ × ℕ) → IsNextRange from a range → from < to → meets a (numbers from to) ≡ nat_lt range.0 to
-meets_next a from to range n rising = elim (cases_lt range.0 to) [
+meets_next a from to range n ascending = elim (cases_lt range.0 to) [
   | inl lt ↦
       let q : ℕ = max from range.0 in
       let filled = n.filled in
@@ -93,13 +93,13 @@ meets_next a from to range n rising = elim (cases_lt range.0 to) [
   | inr ge ↦ meets_no a from to (λ q low high. next_lacks from q a range n low (omega arith)) ∙ grind (arith, nat_tests)
 ]
 
-pub meets_none_left : (a : NumberSet) (from to : ℕ) → HasNoneFrom from a → meets a (numbers from to) ≡ false
+pub meets_none_left : (a : NumberSet) (from to : ℕ) → IsEmptyFrom from a → meets a (numbers from to) ≡ false
 meets_none_left a from to n = meets_no a from to (λ q low high. n.none q low)
 
 pub covers_next : (a : NumberSet) (from to : ℕ) (range : ℕ × ℕ) → IsNextRange from a range → from < to → set.is_subset (numbers from to) a ≡ (nat_le range.0 from && nat_le to range.1)
-covers_next a from to range n rising = elim (cases_lt from range.0) [
+covers_next a from to range n ascending = elim (cases_lt from range.0) [
   | inl before ↦
-      false_from_ne_true _ (λ all. false≢true (sym (next_lacks from from a range n (omega arith) before) ∙ set.is_subset-contains nat_cmp_total (numbers from to) a all from (in_numbers from to from (omega arith) rising)))
+      false_from_ne_true _ (λ all. false≢true (sym (next_lacks from from a range n (omega arith) before) ∙ set.is_subset-contains nat_cmp_total (numbers from to) a all from (in_numbers from to from (omega arith) ascending)))
       ∙ grind (arith, nat_tests)
   | inr begun ↦ elim (cases_lt range.1 to) [
     | inl short ↦
@@ -112,13 +112,13 @@ covers_next a from to range n rising = elim (cases_lt from range.0) [
   ]
 ]
 
-pub covers_none_left : (a : NumberSet) (from to : ℕ) → HasNoneFrom from a → from < to → set.is_subset (numbers from to) a ≡ false
-covers_none_left a from to n rising =
-    false_from_ne_true _ (λ all. false≢true (sym (n.none from (omega arith)) ∙ set.is_subset-contains nat_cmp_total (numbers from to) a all from (in_numbers from to from (omega arith) rising)))
+pub covers_none_left : (a : NumberSet) (from to : ℕ) → IsEmptyFrom from a → from < to → set.is_subset (numbers from to) a ≡ false
+covers_none_left a from to n ascending =
+    false_from_ne_true _ (λ all. false≢true (sym (n.none from (omega arith)) ∙ set.is_subset-contains nat_cmp_total (numbers from to) a all from (in_numbers from to from (omega arith) ascending)))
 
 -- ---- base pixels
 
--- a set has a pixel of a base pixel where it meets that base pixel's numbers
+-- a set has a pixel in a base pixel if it meets the numbers of this base pixel
 pub meets_base : (a : NumberSet) (b : ℕ) → meets a (numbers (b * base_pixel_size) (b * base_pixel_size + base_pixel_size)) ≡ nat_lt 0 (set.len (part_of a b))
 unfolding meets
 meets_base a b = ap (λ c. nat_lt 0 (set.len c)) (same_members _ _ (λ q.
@@ -135,7 +135,7 @@ base_members b q l = contains-part_of pixels b q ∙ (λ i. contains-pixels q i 
 same_part : (b : ℕ) → nat_eq b b ≡ true
 same_part b = grind (arith, nat_tests)
 
--- a pixel that a set has lies in a part that is not empty
+-- a pixel of a set is in a part that is not empty
 pub some_in_part : (a : NumberSet) (p : ℕ) → set.contains a p ≡ true → nat_lt 0 (set.len (part_of a (p / base_pixel_size))) ≡ true
 some_in_part a p has = elim (cases_lt 0 (set.len (part_of a (p / base_pixel_size)))) [
   | inl lt ↦ lt-ltb 0 _ lt
@@ -147,7 +147,7 @@ some_in_part a p has = elim (cases_lt 0 (set.len (part_of a (p / base_pixel_size
 apart : (m n : ℕ) → (m < n) ⊎ (n < m) → nat_eq m n ≡ false
 apart m n cases = elim cases [ inl lt ↦ grind (arith, nat_tests) | inr gt ↦ grind (arith, nat_tests) ]
 
--- the part of the first pixel from a base pixel on is the first that is not empty
+-- the part of the first pixel from a base pixel on is the first part that is not empty
 pub first_part : (a : NumberSet) (low p b : ℕ) → ((q : ℕ) → low * base_pixel_size ≤ q → set.contains a q ≡ true → p ≤ q) → low ≤ b → nat_lt 0 (set.len (part_of a b)) ≡ true → p / base_pixel_size ≤ b
 first_part a low p b first le some = elim (cases_lt b (p / base_pixel_size)) [
   | inl lt ↦
@@ -161,7 +161,7 @@ first_part a low p b first le some = elim (cases_lt b (p / base_pixel_size)) [
   | inr ge ↦ ge
 ]
 
--- and all are empty where there is no such pixel
+-- all parts from a base pixel on are empty without such a pixel
 pub no_parts : (a : NumberSet) (low b : ℕ) → ((q : ℕ) → low * base_pixel_size ≤ q → set.contains a q ≡ true → ⊥) → low ≤ b → nat_lt 0 (set.len (part_of a b)) ≡ true → ⊥
 no_parts a low b first le some =
     let p : ℕ = (b + 1) * base_pixel_size in

@@ -34,10 +34,10 @@ same_quotient w c p some low high =
     let lt = div_below p w (c + 1) some (omega arith) in
     omega arith
 
-pub rises : (w x y : ℕ) → 0 < w → x ≤ y → x / w ≤ y / w
-rises w x y some le = le-div (x / w) y w some (omega (arith, floor_le w x))
+pub increases : (w x y : ℕ) → 0 < w → x ≤ y → x / w ≤ y / w
+increases w x y some le = le-div (x / w) y w some (omega (arith, floor_le w x))
 
--- a number inside a widened range shares its cell with one inside the range
+-- a number inside a widened range has the same cell as a number inside the range
 widened_from : (w f t q : ℕ) → 0 < w → f < t → f / w * w ≤ q → q < (t - 1) / w * w + w → (p : ℕ) × (f ≤ p) × (p < t) × (p / w ≡ q / w)
 widened_from w f t q some lt low high =
     let c = q / w in
@@ -49,11 +49,11 @@ widened_from w f t q some lt low high =
     let over_f = floor_gt w f some in
     (max f (c * w), omega arith, omega arith, same_quotient w c (max f (c * w)) some (omega arith) (omega arith))
 
--- a number that shares its cell with one inside a range is inside the widened range
+-- a number with the same cell as a number inside a range is inside the widened range
 widened_has : (w f t p q : ℕ) → 0 < w → f ≤ p → p < t → p / w ≡ q / w → (f / w * w ≤ q) × (q < (t - 1) / w * w + w)
 widened_has w f t p q some low high same =
-    let from : f / w ≤ q / w = omega (arith, rises w f p some low) in
-    let to : q / w ≤ (t - 1) / w = omega (arith, rises w p (t - 1) some (omega arith)) in
+    let from : f / w ≤ q / w = omega (arith, increases w f p some low) in
+    let to : q / w ≤ (t - 1) / w = omega (arith, increases w p (t - 1) some (omega arith)) in
     let a = mul-le-mul_right w from in
     let b = mul-le-mul_right w to in
     (omega (arith, floor_le w q), omega (arith, floor_gt w q some))
@@ -83,11 +83,11 @@ in_widened w (r ∷ rs) p q some e same = elim (or_cases (in_range r p) (in_rang
 begins_after : (x : ℕ) (rs : List (ℕ × ℕ)) (s : ℕ × ℕ) (rest : List (ℕ × ℕ)) → rs ≡ s ∷ rest → BeginsAfter x rs → {y : ℕ} → y ≤ x → y ≤ s.0
 begins_after x rs s rest e after {y} le = let at = subst (λ (l : List (ℕ × ℕ)). BeginsAfter x l) e after in omega arith
 
--- widened ranges are in order, and stay in the pixels where these are whole cells
+-- widened ranges are sorted, and are within the pixels if the pixels are whole cells
 pub IsSortedFrom-widened : (w m x : ℕ) (rs : List (ℕ × ℕ)) → 0 < w → m * w ≡ pixel_count → IsNormal rs → ((r : ℕ × ℕ) (rest : List (ℕ × ℕ)) → rs ≡ r ∷ rest → x ≤ r.0) → IsSortedFrom (x / w * w) (map (widen w) rs)
 IsSortedFrom-widened w m x [] some whole normal after = tt
 IsSortedFrom-widened w m x (r ∷ rs) some whole normal after =
-    let le = mul-le-mul_right w (rises w x r.0 some (after r rs refl)) in
+    let le = mul-le-mul_right w (increases w x r.0 some (after r rs refl)) in
     let below = div_below (r.1 - 1) w m some (omega (arith, normal.0, normal.1)) in
     let room : ((r.1 - 1) / w + 1) * w ≤ m * w = mul-le-mul_right w (omega arith) in (
       le,
@@ -131,9 +131,9 @@ degraded order rs a q le normal is =
           none ∙ sym (contains-degrade a order q ∙ ap (λ b. ltb q pixel_count && b) apart ∙ and_false (ltb q pixel_count))
     ]
 
--- ---- the code's masks
+-- ---- the masks that the code uses
 
--- the bits above a cell's
+-- the bits above those of a cell
 pub masked : (size n : ℕ) → IsCellSize size → n < 2 ^ 64 → bit_and n (18446744073709551615 - (size - 1)) ≡ n / size * size
 masked size n is lt =
     let s = 2 * (29 - is.order) in
@@ -146,7 +146,7 @@ masked size n is lt =
     let high : n < 2 ^ (j + s) = omega (arith, ap (λ e. 2 ^ e) sum) in
     ap (bit_and n) mask ∙ and_high n j s ∙ ap (λ m. m * 2 ^ s) (mod-eq_of_lt (shr_below n j s high)) ∙ ap (λ w. n / w * w) pow
 
--- a pixel's cell ends within the pixels
+-- a pixel's cell is within the pixels
 pub wide_room : (size p : ℕ) → IsCellSize size → p < pixel_count → p / size * size + size ≤ pixel_count
 wide_room size p is lt =
     let order = is.order in

@@ -36,12 +36,12 @@ union-assoc a b c = same_members _ _ (λ q.
     ∙ or_assoc (set.contains a q) (set.contains b q) (set.contains c q)
     ∙ ap (λ t. set.contains a q || t) (sym (in_union b c q)) ∙ sym (in_union a (set.union b c) q))
 
--- the empty set and a set
+-- the union of the empty set and a set
 pub empty-union : (a : NumberSet) → set.union set.empty a ≡ a
 empty-union a =
     same_members _ _ (λ q. in_union set.empty a q ∙ ap (λ t. t || set.contains a q) (set.contains-empty nat_cmp q))
 
--- a set and the empty set
+-- the union of a set and the empty set
 pub union-empty : (a : NumberSet) → set.union a set.empty ≡ a
 union-empty a = same_members _ _ (λ q.
     in_union a set.empty q
@@ -50,12 +50,12 @@ union-empty a = same_members _ _ (λ q.
 
 -- ---- base pixels
 
--- each pixel lies in one of the twelve base pixels
+-- each pixel is in one of the twelve base pixels
 pub in_base_pixels : (q : ℕ) → nat_lt q pixel_count ≡ true → q / base_pixel_size < 12
 in_base_pixels q lt =
     (div-lt_iff_lt-mul {k = base_pixel_size} {x = q} {y = 12} (omega arith)).1 (grind (arith, nat_tests))
 
--- what lies in one of them is a pixel
+-- a number in one of the base pixels is a pixel
 pub is_pixel : (q : ℕ) → q / base_pixel_size < 12 → nat_lt q pixel_count ≡ true
 is_pixel q lt =
     let below = (div-lt_iff_lt-mul {k = base_pixel_size} {x = q} {y = 12} (omega arith)).0 lt in
@@ -89,12 +89,12 @@ ends last w q i low high = elim (cases_lt last i) [
       grind (arith, nat_tests)
 ]
 
--- a number is in a run of cells where its cell is
+-- a number is in a run of cells if its cell is
 in_run : (first last w q i : ℕ) → i * w ≤ q → q < i * w + w
     → in_range (first * w, (last + 1) * w) q ≡ (nat_le first i && nat_le i last)
 in_run first last w q i low high = (λ j. starts first w q i low high j && ends last w q i low high j)
 
--- the cells of an order lie below the last pixel
+-- the cells of an order are within the pixels
 run_within : (k last q : ℕ) → k ≤ 29 → last < cell_count k → nat_le (q / cell_size k) last ≡ true
     → nat_lt q pixel_count ≡ true
 run_within k last q small fits in_run =
@@ -114,7 +114,7 @@ below_all true false false say = refl
 below_all false false true say = refl
 below_all false false false say = refl
 
--- the pixels of the cells of a run
+-- the pixels of a run of cells
 pub run_of_cells : (k first last q : ℕ) → k ≤ 29 → last < cell_count k
     → in_range (first * cell_size k, (last + 1) * cell_size k) q ≡ set.contains (spans k first last) q
 run_of_cells k first last q small fits =
@@ -135,7 +135,7 @@ spans-one order index = same_members _ _ (λ q.
     ∙ ap (λ b. nat_lt q pixel_count && b) (between index (q / cell_size order))
     ∙ sym (contains-span order index q))
 
--- the pixels of the cells of two lists
+-- the pixels of two concatenated lists of cells
 pub pixels_of-append : (xs ys : List CellNumber) → pixels_of (xs ++ ys) ≡ set.union (pixels_of xs) (pixels_of ys)
 unfolding pixels_of
 pixels_of-append [] ys = sym (empty-union (pixels_of ys))
@@ -157,6 +157,6 @@ unfolding pixels_of set_of
 pixels_of-ranges [] are = refl
 pixels_of-ranges (c ∷ cells) are = (λ i. set.union (span_numbers c are.0 i) (pixels_of-ranges cells are.1 i))
 
--- the cells of a set of pixels fill it
+-- the cells of a set of pixels have all its pixels
 pub cells_fill : (a : NumberSet) → IsWithin a pixels → pixels_of (cells_of a) ≡ a
 cells_fill a within = pixels_of-ranges (cells_of a) (cells_are a) ∙ by_ranges.cells_fill a within

@@ -1,7 +1,7 @@
--- What serves the contracts of private functions alone.
+-- Definitions for private contracts, views, invariants and lemmas. Only this crate uses them.
 pub mod Sorted
 pub mod Widen
 pub mod CellRuns
 pub mod Walks
-pub mod Gathered
-pub mod RisingCells
+pub mod Collected
+pub mod SortedCells

@@ -1,4 +1,4 @@
-//! From runs to cells, and the orders that cells of ranges can have.
+//! Cells from runs of indices, and the possible orders of the cells of ranges.
 ghost use Rattle.std.specs.Prelude.{◌≡◌, ◌++◌, ◌<◌, ◌≤◌, ℕ, OnOk};
 ghost use Rattle.std.specs.List.{AllByRecursion};
 ghost use Rattle.moc_sphere.specs.CellNumber.{cell_count, IsCell};
@@ -11,9 +11,9 @@ use moc_lists::Ranges;
 use moc_sphere::{Cell, Order};
 use std::alloc::AllocError;
 
-/// The orders that the cells of ranges can have: the first, and the one after the last.
+/// Returns the possible orders of the cells of ranges: the first, and the one after the last.
 ///
-/// A cell is no wider than the widest range, and the size of its parent does not divide all bounds.
+/// A cell is not wider than the widest range, and the size of its parent does not divide all bounds.
 pub fn orders_with_cells(ranges: Ranges<'_>) -> (u8, u8)
     requires { IsNormal ranges }
     ensures { HasOrders (set_of ranges.entry) result.0 result.1 }
@@ -32,7 +32,7 @@ pub fn orders_with_cells(ranges: Ranges<'_>) -> (u8, u8)
     (29 - above as u8, 30 - below as u8)
 }
 
-/// The least order of whose cells the set of ranges is a union: the size of its cells divides all bounds.
+/// Returns the least order at which the set of ranges is a union of cells: the size of these cells divides all bounds.
 pub fn deepest_order(ranges: Ranges<'_>) -> Order
     requires { IsNormal ranges }
     ensures whole { degrade (set_of ranges.entry) result ≡ set_of ranges.entry }
@@ -46,7 +46,7 @@ pub fn deepest_order(ranges: Ranges<'_>) -> Order
     Order::of(29 - below as u8)
 }
 
-/// Adds the cells of an order from one index up to, not including, another.
+/// Appends the cells of an order with indices from `first` up to, but not including, `end`.
 #[inline]
 fn push_run(cells: &mut Vec<Cell>, order: Order, first: u64, end: u64) -> Result<(), AllocError>
     requires { first < end → end ≤ cell_count order }
@@ -58,7 +58,7 @@ fn push_run(cells: &mut Vec<Cell>, order: Order, first: u64, end: u64) -> Result
     Ok(())
 }
 
-/// Adds the cells of runs of an order.
+/// Appends the cells of runs of an order.
 pub fn push_runs(
     cells: &mut Vec<Cell>,
     order: Order,

@@ -1,13 +1,13 @@
-//! Sets of pixels, and how one is made and asked.
+//! Coverages: sets of pixels, their construction and queries.
 ghost use Rattle.std.specs.Prelude.{◌≡◌, ℕ, true, not, IfSome, MatchOption, ◌<◌, ◌≤◌, ◌↔◌, IsTrue, List, length};
 ghost use Rattle.std.specs.Prelude.{IfOk, IfErr, OnOk, None, unwrap_or};
-ghost use Rattle.moc_ranges.specs.Faults.{first_fault};
+ghost use Rattle.moc_ranges.specs.Faults.{first_error};
 ghost use Rattle.std.specs.Cmp.{partial_equiv_from_equiv};
 ghost use Rattle.std.specs.FinSet as set;
 ghost use Rattle.moc_blocks.specs.RangeList.{IsNormal, AreRangesOf, set_of, pixel_count, numbers};
 ghost use Rattle.moc_ranges.specs.Operations.{meets, IsWithin, pixels};
-ghost use Rattle.moc_blocks.specs.Blocks.{joining, AreBlocks, IsSearchOf};
-ghost use Rattle.moc_ranges.specs.Private.Walks.{IsNextRange, HasNoneFrom};
+ghost use Rattle.moc_blocks.specs.Blocks.{concat, AreBlocks, IsSearchOf};
+ghost use Rattle.moc_ranges.specs.Private.Walks.{IsNextRange, IsEmptyFrom};
 
 mod base_pixels;
 mod cells;
@@ -15,19 +15,20 @@ mod inserting;
 mod sets;
 
 use crate::errors::{Memory, RangesError};
-use crate::from_ranges::{build, filled_by_start, refuse_faulty};
+use crate::from_ranges::{build, check_pairs, sort_nonempty};
 use crate::pixels::PIXEL_COUNT;
 use moc_lists::{Chunks, RangeList, Ranges, Steps};
 use std::alloc::{AllocError, Global};
 use std::fmt;
 use std::marker::Model;
 
-/// A set of pixels of order 29, by their nested numbers: a coverage of MOC 2.0.
+/// A coverage of MOC 2.0: a set of order-29 pixels in the nested numbering.
 ///
-/// It holds its ranges (from, to) in rising order, none touching the next: up to 128 in one list,
-/// and more in blocks of 1 to 128, of which two side by side have together more than 128. Nodes have
-/// 1 to 16 blocks, and two side by side together more than 16. Copies and results share the blocks
-/// that they have in common. Below, n and m are the numbers of ranges of the sets that a call takes.
+/// The set is stored as its normal list: ranges (from, to) in ascending order, none touching the next. Up to 128 ranges
+/// can be stored in one list. All others are stored in blocks of 1 to 128 ranges, where two adjacent blocks together
+/// have more than 128. Blocks are stored in nodes of 1 to 16 blocks, where two adjacent nodes together have more than
+/// 16. Copies and results share the blocks that they have in common. Below, n and m are the numbers of ranges of the
+/// operands.
 #[derive(Drop)]
 pub struct Coverage {
     list: RangeList,
@@ -47,7 +48,7 @@ impl Model for Coverage {
 }
 
 impl Coverage {
-    /// The empty set. Takes no memory.
+    /// Returns the empty set. Does not allocate.
     pub fn empty(alloc: Global) -> Self
         ensures { result ≡ set.empty }
     {
@@ -56,36 +57,36 @@ impl Coverage {
         }
     }
 
-    /// Whether the set has the pixel of this number; it has none above the last pixel. O(log n).
+    /// Returns whether the set contains the pixel. It contains no number after the last pixel. O(log n).
     pub fn contains(&self, pixel: u64) -> bool
         ensures { result ≡ set.contains self.now pixel }
     {
-        match self.first_past(pixel) {
+        match self.first_ending_after(pixel) {
             Some((from, _)) => from <= pixel,
             None => false,
         }
     }
 
-    /// Whether the set has this pixel, and the first pixel behind it with which that changes; where it does not change
-    /// any more, a number above all pixels. So pixels that rise are looked up once for each range or gap that they come
-    /// to. O(log n), takes no memory.
+    /// Returns whether the set contains the pixel, and the first pixel after it for which the answer differs; if there
+    /// is none, a number above all pixels. So ascending pixels need one search for each range or gap that they are in.
+    /// O(log n), does not allocate.
     pub fn contains_until(&self, pixel: u64) -> (bool, u64)
         ensures found { result.0 ≡ set.contains self.now pixel }
-        ensures behind { pixel ≤ result.1 }
+        ensures after { pixel ≤ result.1 }
         ensures same { (q : ℕ) → pixel ≤ q → q < result.1 → set.contains self.now q ≡ result.0 }
         ensures changes { result.1 < pixel_count → set.contains self.now result.1 ≡ not result.0 }
     {
-        match self.first_past(pixel) {
+        match self.first_ending_after(pixel) {
             Some((from, to)) if from <= pixel => (true, to),
             Some((from, _)) => (false, from),
             None => (false, u64::MAX),
         }
     }
 
-    /// Returns what `contains` returns, and counts each comparison of the pixel with the bounds of a range or a chunk.
-    /// There are at most 8 more comparisons than the number of chunks has binary digits, for some way to keep the set
-    /// in chunks. Comparisons of the numbers of chunks are not counted. O((log n)²), allocates nothing. `steps` has to
-    /// have counted fewer than 2^63.
+    /// Returns the result of `contains`, and adds the number of comparisons of the pixel with the bounds of a range or
+    /// a chunk to `steps`. There are at most 8 more comparisons than the number of chunks has binary digits, for some
+    /// partition of the set into chunks. Comparisons of positions of chunks are not counted. O((log n)²), does not
+    /// allocate. Requires that `steps` is less than 2^63.
     pub fn contains_counting(&self, pixel: u64, steps: &mut Steps) -> bool
         requires { steps.old < 9223372036854775808 }
         ensures found { result ≡ set.contains self.now pixel }
@@ -94,17 +95,18 @@ impl Coverage {
         self.list.contains_counting(pixel, steps)
     }
 
-    /// The ranges of the set as it keeps them, in chunks of 1 to 128, of which two side by side have together more than
-    /// 128. One after the other they are what `ranges` gives. Takes no memory. O(1) to begin, O(n) to the end.
+    /// Returns an iterator over the ranges of the set in chunks of 1 to 128, as they are stored. Two adjacent chunks
+    /// together have more than 128 ranges. The concatenated chunks are the list of `ranges`. Does not allocate. O(1)
+    /// for the first, O(n) for all.
     pub fn chunks(&self) -> Chunks<'_>
-        ensures normal { IsNormal (joining result) }
-        ensures set { set_of (joining result) ≡ self.now }
+        ensures normal { IsNormal (concat result) }
+        ensures set { set_of (concat result) ≡ self.now }
         ensures sized { AreBlocks result }
     {
         self.list.chunks()
     }
 
-    /// Whether the set has no pixel. O(1).
+    /// Returns whether the set has no pixel. O(1).
     pub fn is_empty(&self) -> bool
         ensures empty { IsTrue result ↔ (self.now ≡ set.empty) }
         ensures within { IsWithin self.now pixels }
@@ -112,8 +114,8 @@ impl Coverage {
         self.ranges().next().is_none()
     }
 
-    /// The ranges of the set, rising, none empty, and none touching the next: the one normal list of this set. Takes no
-    /// memory. O(1) to begin, O(n) to the end.
+    /// Returns an iterator over the ranges of the set: its normal list, in ascending order, none empty and none
+    /// touching the next. Does not allocate. O(1) for the first, O(n) for all.
     pub fn ranges(&self) -> Ranges<'_>
         ensures normal { IsNormal result }
         ensures set { set_of result ≡ self.now }
@@ -122,46 +124,48 @@ impl Coverage {
         self.list.ranges()
     }
 
-    /// How many pixels of order 29 the set has. O(1), but up to 128 ranges are added up where the set has no more.
-    /// Takes no memory.
+    /// Returns the number of order-29 pixels in the set. O(1), but the widths of up to 128 ranges are added up. Does
+    /// not allocate.
     pub fn count(&self) -> u64
         ensures size { result ≡ set.len self.now }
         ensures bounded { result ≤ pixel_count }
         ensures within { IsWithin self.now pixels }
     {
-        self.list.measure()
+        self.list.total_width()
     }
 
-    /// The pixels in any of the pairs (from, to), `to` not included. They may come in any order,
-    /// overlap or be empty.
+    /// Returns the set of the pixels in the given half-open ranges (from, to), which may come in any order, overlap or
+    /// be empty.
     ///
-    /// Refused with `Backwards` where `to < from`, and else with `PixelTooLarge` where `to` is
-    /// above the pixel count, at the first faulty pair; with `Memory` where no pair is faulty and
-    /// memory runs out. O(n) where the pairs rise by their starts, and else O(n log n).
+    /// # Errors
+    ///
+    /// At the first invalid pair, fails with `Backwards` if `to < from`, and with `PixelTooLarge` if `to` is above the
+    /// number of pixels. Fails with `Memory` if no pair is invalid and an allocation fails.
+    ///
+    /// # Complexity
+    ///
+    /// O(n) if the pairs are sorted by their starts, and otherwise O(n log n).
     pub fn from_ranges(alloc: Global, pairs: &[(u64, u64)]) -> Result<Coverage, RangesError>
         ensures union { IfOk result (λ c. c ≡ set_of pairs.now) }
-        ensures accepted { OnOk result (first_fault pairs.now ≡ None) }
-        ensures refused { IfErr result (λ e. e ≡ unwrap_or (first_fault pairs.now) RangesError.Memory) }
+        ensures accepted { OnOk result (first_error pairs.now ≡ None) }
+        ensures failure { IfErr result (λ e. e ≡ unwrap_or (first_error pairs.now) RangesError.Memory) }
     {
-        refuse_faulty(pairs)?;
-        Ok(Coverage::from_faultless(alloc, pairs)?)
+        check_pairs(pairs)?;
+        Ok(Coverage::from_valid(alloc, pairs)?)
     }
 
-    /// The pixels in any of the pairs, none of which is faulty.
-    pub(crate) fn from_faultless(
-        alloc: Global,
-        pairs: &[(u64, u64)],
-    ) -> Result<Coverage, AllocError>
-        requires { first_fault pairs.now ≡ None }
+    /// Returns the set of the pixels in the given pairs. Requires that no pair is invalid.
+    pub(crate) fn from_valid(alloc: Global, pairs: &[(u64, u64)]) -> Result<Coverage, AllocError>
+        requires { first_error pairs.now ≡ None }
         ensures { IfOk result (λ c. c ≡ set_of pairs.now) }
     {
-        let pairs = filled_by_start(alloc, pairs)?;
+        let pairs = sort_nonempty(alloc, pairs)?;
         Ok(Coverage {
             list: build(alloc, &pairs)?,
         })
     }
 
-    /// The pixels in the ranges of a list.
+    /// Returns the set of a list of ranges.
     #[inline]
     pub(crate) fn of(list: RangeList) -> Coverage
         ensures { result ≡ set_of list }
@@ -169,64 +173,72 @@ impl Coverage {
         Coverage { list }
     }
 
-    /// How many ranges the set has in its one normal list. O(1), takes no memory.
+    /// Returns the number of ranges of the normal list of the set. O(1), does not allocate.
     pub fn range_count(&self) -> usize
         ensures { (ranges : List (ℕ × ℕ)) × AreRangesOf self.now ranges × (result ≡ length ranges) }
     {
         self.list.count()
     }
 
-    /// The first pixel of the set from this one on, if there is one. O(log n), takes no memory.
+    /// Returns the first pixel of the set at or after `from`, if any. O(log n), does not allocate.
     pub fn next_pixel(&self, from: u64) -> Option<u64>
         ensures found { IfSome result (λ p. (from ≤ p) × (p < pixel_count) × (set.contains self.now p ≡ true)) }
         ensures first { (q : ℕ) → from ≤ q → set.contains self.now q ≡ true → MatchOption result ⊥ (λ p. p ≤ q) }
     {
-        let (start, _) = self.first_past(from)?;
+        let (start, _) = self.first_ending_after(from)?;
         Some(start.max(from))
     }
 
-    /// The first range of the set that ends after the limit, if there is one.
+    /// Returns the first range of the set that ends after the limit, if any.
     #[inline]
-    fn first_past(&self, limit: u64) -> Option<(u64, u64)>
-        ensures { MatchOption result (HasNoneFrom limit self.now) (IsNextRange limit self.now) }
+    fn first_ending_after(&self, limit: u64) -> Option<(u64, u64)>
+        ensures { MatchOption result (IsEmptyFrom limit self.now) (IsNextRange limit self.now) }
     {
-        self.list.first_past(limit)
+        self.list.first_ending_after(limit)
     }
 
-    /// Whether the set has a pixel from one up to, not including, another.
+    /// Returns whether the set has a pixel in a half-open range.
     fn meets_range(&self, from: u64, to: u64) -> bool
-        requires rising { from < to }
+        requires ascending { from < to }
         requires within { to ≤ pixel_count }
         ensures { result ≡ meets self.now (numbers from to) }
     {
-        match self.first_past(from) {
+        match self.first_ending_after(from) {
             Some((start, _)) => start < to,
             None => false,
         }
     }
 
-    /// Whether the set has every pixel from one up to, not including, another.
+    /// Returns whether the set contains every pixel of a half-open range.
     fn covers_range(&self, from: u64, to: u64) -> bool
-        requires rising { from < to }
+        requires ascending { from < to }
         requires within { to ≤ pixel_count }
         ensures { result ≡ set.is_subset (numbers from to) self.now }
     {
-        match self.first_past(from) {
+        match self.first_ending_after(from) {
             Some((start, end)) => start <= from && to <= end,
             None => false,
         }
     }
 
-    /// The set of all pixels of the sky; refused where memory runs out. O(1).
+    /// Returns the set of all pixels of the sky. O(1).
+    ///
+    /// # Errors
+    ///
+    /// Fails with `Memory` if an allocation fails.
     pub fn full(alloc: Global) -> Result<Coverage, Memory>
         ensures { IfOk result (λ c. c ≡ pixels) }
     {
-        let list = RangeList::of_range(alloc, 0, PIXEL_COUNT)?;
+        let list = RangeList::from_range(alloc, 0, PIXEL_COUNT)?;
         Ok(Coverage { list })
     }
 
-    /// A copy of the set, which shares its blocks: O(n) for up to 128 ranges, and else for its nodes
-    /// alone. Refused where memory runs out.
+    /// Returns a copy of the set, which shares its blocks. Copies up to 128 ranges, or otherwise only the list of
+    /// nodes.
+    ///
+    /// # Errors
+    ///
+    /// Fails with `Memory` if an allocation fails.
     pub fn try_copy(&self, alloc: Global) -> Result<Coverage, Memory>
         ensures same { IfOk result (λ c. c ≡ self.now) }
         ensures within { IsWithin self.now pixels }
@@ -255,7 +267,7 @@ impl Eq for Coverage {
     ghost laws = { is_same-equivalence };
 }
 
-/// Its ranges, as `{0..4, 6..8}`.
+/// Writes the ranges, such as `{0..4, 6..8}`.
 impl fmt::Debug for Coverage {
     fn fmt<W: fmt::Write>(&self, f: &mut fmt::Formatter<W>) -> fmt::Result {
         write!(f, "{:?}", self.ranges())

@@ -1,4 +1,4 @@
--- A crew's lines and its answers are as many.
+-- A crew has as many answers as lines.
 use Rattle.std.proofs.Common.{◌≡◌, inl, inr, ℕ, suc, ◌%◌, ◌≤◌, ◌==◌, Bool, true, false, if◌then◌else◌, List, [], ◌∷◌}
 use Rattle.std.proofs.Common.{length, refl, sym, ap, ◌∙◌, arith}
 use Rattle.std.specs.FinSet as set
@@ -8,7 +8,7 @@ use Rattle.moc_script.specs.Crews.{InLane, in_lane, dealt, answers_in, CrewsAnsw
 use Rattle.moc_script.proofs.LaneLists.{next_left}
 
 module _ {S : Type 0} (rules : Rules S) where
-  -- lines that are done in some order have as many answers in each lane
+  -- lines that are applied in some order have as many answers in each lane
   as_many_in : (lane : ℕ) (s : S) (order : List (InLane (List ℕ))) → length (in_lane lane (answers_in rules s order)) ≡ length (in_lane lane order)
   as_many_in lane s [] = refl
   as_many_in lane s (x ∷ xs) = by (x.lane == lane) (as_many_in lane (rules.after s x.it) xs)
@@ -21,7 +21,7 @@ module _ {S : Type 0} (rules : Rules S) where
       by true rest = ap suc rest
       by false rest = rest
 
--- a list that has as much in each lane is no shorter
+-- a list with as many elements in each lane is not shorter
 no_shorter : {A B : Type 0} (lanes : ℕ) (xs : List A) (ys : List B) → ((lane : ℕ) → length (in_lane lane (dealt lanes xs)) ≡ length (in_lane lane (dealt lanes ys))) → length ys ≤ length xs
 no_shorter lanes xs ys same = elim (cases_lt (length xs) (length ys)) [
   | inl low ↦ absurd (let more = next_left lanes (length xs % lanes) xs ys low refl in let here = same (length xs % lanes) in omega (arith, more, here))
@@ -29,9 +29,9 @@ no_shorter lanes xs ys same = elim (cases_lt (length xs) (length ys)) [
 ]
 
 pub all_answered : CrewsAnswerEachLine
-all_answered lanes lines text some told =
-    let same : (lane : ℕ) → length (in_lane lane (dealt lanes told.answers)) ≡ length (in_lane lane (dealt lanes lines)) =
-    λ lane. sym (ap length (told.answered lane)) ∙ as_many_in script_rules lane set.empty told.order ∙ ap length (told.merged lane) in
-    let a = no_shorter lanes told.answers lines same in
-    let b = no_shorter lanes lines told.answers (λ lane. sym (same lane)) in
+all_answered lanes lines text some reported =
+    let same : (lane : ℕ) → length (in_lane lane (dealt lanes reported.answers)) ≡ length (in_lane lane (dealt lanes lines)) =
+    λ lane. sym (ap length (reported.answered lane)) ∙ as_many_in script_rules lane set.empty reported.order ∙ ap length (reported.merged lane) in
+    let a = no_shorter lanes reported.answers lines same in
+    let b = no_shorter lanes lines reported.answers (λ lane. sym (same lane)) in
     omega (arith, a, b)

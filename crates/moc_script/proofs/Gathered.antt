@@ -1,20 +1,20 @@
--- The lanes' ends, put together.
+-- Collection of the results of the lanes.
 use Rattle.std.proofs.Common.{◌≡◌, inr, ℕ, ◌+◌, ◌<◌, List, [], ◌∷◌, ◌++◌, length, map, get_or, Contains, Option, Some, None, Result, Ok, Err, refl, sym, ap, subst, arith, below_more}
 use Rattle.std.specs.Prelude.{IfErr, IsErrAnd}
 use Rattle.std.proofs.lemmas.List.Elements.{Contains-append_left, Contains-append_right}
 use Rattle.std.proofs.lemmas.List.{get_or_push, get_or_append_left}
-use Rattle.moc_script.specs.declared.crews.lane.LaneEnd.{LaneEnd}
+use Rattle.moc_script.specs.declared.crews.lane.LaneOutput.{LaneOutput}
 use Rattle.moc_shared.specs.declared.client.Client.{Client}
 use Rattle.moc_shared.specs.declared.map.SharedMap.{SharedMap}
 use Rattle.moc_shared.specs.Batches.{BatchRecord}
 use Rattle.moc_shared.specs.Clients.{record_of, IsClientOf, TakesIn}
 use Rattle.moc_script.specs.Private.Input.{lane_lines}
 use Rattle.moc_script.specs.Private.LaneEnds.{IsLaneEnd, AreLaneEnds}
-use Rattle.moc_script.specs.declared.crews.lane.Unfinished.{Unfinished}
+use Rattle.moc_script.specs.declared.crews.lane.LaneFailure.{LaneFailure}
 use Rattle.moc_script.specs.declared.crews.threads.LanesError.{LanesError}
 use Rattle.moc_script.specs.declared.crews.threads.LanesError.TheVariants as fault
 use Rattle.moc_text.specs.Lines.{lines_of}
-use Rattle.moc_script.specs.Crews.{IsSaidLine}
+use Rattle.moc_script.specs.Crews.{IsNonblankLine}
 use Rattle.moc_script.specs.Private.Gathering.{CallsMade, HasBoth, HasLane, IsGathered, NamesFirst, NamesLine}
 
 pub has_both : (map : SharedMap) (a b r : BatchRecord) → TakesIn map a b r → (q : CallsMade) → (Contains a.own q → Contains r.own q) × (Contains b.own q → Contains r.own q)
@@ -25,27 +25,27 @@ has_both map a b r taken q =
     )
 
 -- the lane of the client itself
-pub lane_of_end : (map : SharedMap) (lanes : ℕ) (input : List ℕ) (lane : ℕ) (end : LaneEnd) → IsLaneEnd map lanes input lane (Ok end)
+pub lane_of_end : (map : SharedMap) (lanes : ℕ) (input : List ℕ) (lane : ℕ) (end : LaneOutput) → IsLaneEnd map lanes input lane (Ok end)
     → HasLane (record_of end.client) lane (lane_lines lanes input lane) end.answers
 lane_of_end map lanes input lane end is =
     let m = is.2 in (m.0, subst (λ (l : List CallsMade). Contains l (record { client = lane; made = m.0 })) (sym m.1) (0, omega arith, refl), m.2)
 
--- the line that a fault of the lanes names is not blank
-pub first_named : (map : SharedMap) (lanes : ℕ) (input : List ℕ) (ends : List (Result LaneEnd Unfinished)) (e : LanesError) → AreLaneEnds map lanes input ends
+-- the line that an error of the lanes names is not blank
+pub first_named : (map : SharedMap) (lanes : ℕ) (input : List ℕ) (ends : List (Result LaneOutput LaneFailure)) (e : LanesError) → AreLaneEnds map lanes input ends
     → NamesFirst ends e → NamesLine input e
 first_named map lanes input ends (fault.Memory line) are named =
     let first = named.0 in
     let here = named.1.0 in
     let low : here.0 < lanes = omega (arith, are.0, here.1) in
     let ended : IsLaneEnd map lanes input here.0 (Err first) = subst (IsLaneEnd map lanes input here.0) here.2 (are.1 here.0 (Err first) low) in
-    inr (subst (λ (n : ℕ). IsSaidLine n (lines_of input)) (sym named.2) ended)
-first_named map lanes input ends fault.MemoryBehind are named = tt
+    inr (subst (λ (n : ℕ). IsNonblankLine n (lines_of input)) (sym named.2) ended)
+first_named map lanes input ends fault.MemoryAfterLast are named = tt
 first_named map lanes input ends fault.Spawn are named = tt
 
--- a fault that is handed on
-pub handed_on : {T : Type 0} (r : Result T LanesError) (e : LanesError) (Q : LanesError → Type 0) → IsErrAnd r (λ f. f ≡ e) → Q e → IfErr r Q
-handed_on (Ok x) e Q same told = tt
-handed_on (Err f) e Q same told = subst Q (sym same) told
+-- an error that is passed on
+pub passed_on : {T : Type 0} (r : Result T LanesError) (e : LanesError) (Q : LanesError → Type 0) → IsErrAnd r (λ f. f ≡ e) → Q e → IfErr r Q
+passed_on (Ok x) e Q same reported = tt
+passed_on (Err f) e Q same reported = subst Q (sym same) reported
 
 abbrev Texts : Type 0
 Texts = List (List ℕ)

@@ -1,4 +1,4 @@
--- The answers of the lanes, joined in turn.
+-- The answers of the lanes, merged in turn.
 use Rattle.std.proofs.Common.{◌≡◌, ◌⊎◌, inl, inr, ℕ, zero, suc, ◌+◌, ◌-◌, ◌%◌, ◌<◌, ◌≤◌, List, [], ◌∷◌, ◌++◌, length}
 use Rattle.std.proofs.Common.{set, get_or, Result, Ok, Err, refl, sym, ap, ◌∙◌, subst, arith, append_assoc}
 use Rattle.std.proofs.Common.{append-nil, length-append, length-set}
@@ -13,23 +13,23 @@ use Rattle.moc_script.specs.Crews.{in_lane, dealt}
 use Rattle.std.specs.List.{concat}
 use Rattle.moc_devices.specs.Lemmas.{Accepts-nil, Accepts-trans}
 use Rattle.moc_devices.specs.Devices.{Sends}
-use Rattle.moc_script.specs.Private.Joining.{AreForLines, IsJoined, SendsTurns, JoinsTo}
+use Rattle.moc_script.specs.Private.Joining.{AreForLines, IsMerged, SendsTurns, MergesTo}
 use Rattle.moc_script.proofs.LaneLists.{dealt-alone, dealt-here, dealt-else, next_left, next_rest}
 use Rattle.moc_script.proofs.Sending.{Sends-front, Sends-fault, Sends-ok, on_err}
 
 abbrev Texts : Type 0
 Texts = List (List ℕ)
 
-joining-push : (texts : List (List ℕ)) (text : List ℕ) → concat (texts ++ text ∷ []) ≡ concat texts ++ text
-joining-push [] text = append-nil text
-joining-push (t ∷ texts) text = ap (λ l. t ++ l) (joining-push texts text) ∙ sym (append_assoc t (concat texts) text)
+merging-push : (texts : List (List ℕ)) (text : List ℕ) → concat (texts ++ text ∷ []) ≡ concat texts ++ text
+merging-push [] text = append-nil text
+merging-push (t ∷ texts) text = ap (λ l. t ++ l) (merging-push texts text) ∙ sym (append_assoc t (concat texts) text)
 
 -- one more answer
-pub join_more : (lanes lane count : ℕ) (all left : List Texts) (new : Texts) (text answer : List ℕ) → IsJoined lanes all left count text → lane < lanes
-    → count % lanes ≡ lane → get_or left lane [] ≡ answer ∷ new → IsJoined lanes all (set left lane new) (count + 1) (text ++ answer)
+pub join_more : (lanes lane count : ℕ) (all left : List Texts) (new : Texts) (text answer : List ℕ) → IsMerged lanes all left count text → lane < lanes
+    → count % lanes ≡ lane → get_or left lane [] ≡ answer ∷ new → IsMerged lanes all (set left lane new) (count + 1) (text ++ answer)
 join_more lanes lane count all left new text answer was low turn here = record {
   done = was.done ++ answer ∷ [];
-  text_is = ap (λ l. l ++ answer) was.text_is ∙ sym (joining-push was.done answer);
+  text_is = ap (λ l. l ++ answer) was.text_is ∙ sym (merging-push was.done answer);
   count_is = length-append was.done (answer ∷ []) ∙ ap (λ n. n + 1) was.count_is;
   wide = length-set left lane new ∙ was.wide;
   parts = λ m inside. cases m inside (ℕ_discrete m lane);
@@ -49,11 +49,11 @@ join_more lanes lane count all left new text answer was low turn here = record {
         was.parts m inside ∙ ap (λ l. l ++ get_or left m []) (sym (dealt-else lanes m was.done answer (λ q. other (q ∙ at))))
         ∙ ap (λ (q : Texts). in_lane m (dealt lanes (was.done ++ answer ∷ [])) ++ q) (sym (get_or-set_other left lane m new [] other))
 
-module _ (lanes count turn : ℕ) (all left : List Texts) (text : List ℕ) (some : 0 < lanes) (for : AreForLines lanes all count) (was : IsJoined lanes all left turn text) where
+module _ (lanes count turn : ℕ) (all left : List Texts) (text : List ℕ) (some : 0 < lanes) (for : AreForLines lanes all count) (was : IsMerged lanes all left turn text) where
   long : (lane : ℕ) → lane < lanes → length (get_or all lane []) ≡ length (in_lane lane (dealt lanes was.done)) + length (get_or left lane [])
   long lane low = ap length (was.parts lane low) ∙ length-append (in_lane lane (dealt lanes was.done)) (get_or left lane [])
 
-  -- no more answers are joined than there are lines
+  -- there are not more merged answers than lines
   pub not_more : turn ≤ count
   not_more = elim (cases_lt count turn) [
     | inl more ↦ let lane : ℕ = count % lanes in let low : lane < lanes = mod-lt count some in
@@ -61,7 +61,7 @@ module _ (lanes count turn : ℕ) (all left : List Texts) (text : List ℕ) (som
     | inr few ↦ few
   ]
 
-  -- while answers are to come, the next lane has one
+  -- while answers remain, the next lane has one
   pub some_left : turn < count → get_or left (turn % lanes) [] ≡ [] → ⊥
   some_left less none =
       let lane : ℕ = turn % lanes in
@@ -69,46 +69,46 @@ module _ (lanes count turn : ℕ) (all left : List Texts) (text : List ℕ) (som
       let more = next_left lanes lane was.done for.0 (omega (arith, was.count_is, for.1)) (ap (λ n. n % lanes) was.count_is) in
       omega (arith, long lane low, ap length none, for.2 lane low, more)
 
-  -- where the next lane has none left, all are joined
-  pub all_joined : get_or left (turn % lanes) [] ≡ [] → turn ≡ count
-  all_joined none = elim (cases_lt turn count) [ inl less ↦ absurd (some_left less none) | inr past ↦ let few = not_more in omega (arith, few) ]
+  -- if the next lane has none left, all are merged
+  pub all_merged : get_or left (turn % lanes) [] ≡ [] → turn ≡ count
+  all_merged none = elim (cases_lt turn count) [ inl less ↦ absurd (some_left less none) | inr past ↦ let few = not_more in omega (arith, few) ]
 
--- the answers that are still to come
-pub rest_of : (k lanes count turn : ℕ) (all left : List Texts) (text : List ℕ) → 0 < lanes → AreForLines lanes all count → IsJoined lanes all left turn text → turn + k ≡ count
-    → (rest : List ℕ) × (left' : List Texts) × IsJoined lanes all left' count (text ++ rest)
+-- the answers that remain
+pub rest_of : (k lanes count turn : ℕ) (all left : List Texts) (text : List ℕ) → 0 < lanes → AreForLines lanes all count → IsMerged lanes all left turn text → turn + k ≡ count
+    → (rest : List ℕ) × (left' : List Texts) × IsMerged lanes all left' count (text ++ rest)
 rest_of zero lanes count turn all left text some for was sum =
     let same : turn ≡ count = omega arith in
-    ([], left, subst (λ (n : ℕ). IsJoined lanes all left n (text ++ [])) same (subst (λ (t : List ℕ). IsJoined lanes all left turn t) (sym (append-nil text)) was))
+    ([], left, subst (λ (n : ℕ). IsMerged lanes all left n (text ++ [])) same (subst (λ (t : List ℕ). IsMerged lanes all left turn t) (sym (append-nil text)) was))
 rest_of (suc k) lanes count turn all left text some for was sum =
     by (get_or left (turn % lanes) []) refl (λ answer new is.
     let more = join_more lanes (turn % lanes) turn all left new text answer was (mod-lt turn some) refl is in
     let rest = rest_of k lanes count (turn + 1) all (set left (turn % lanes) new) (text ++ answer) some for more (omega arith) in
-    (answer ++ rest.0, rest.1, subst (λ (t : List ℕ). IsJoined lanes all rest.1 count t) (append_assoc text answer rest.0) rest.2))
+    (answer ++ rest.0, rest.1, subst (λ (t : List ℕ). IsMerged lanes all rest.1 count t) (append_assoc text answer rest.0) rest.2))
   where
     Rest : Type 0
-    Rest = (rest : List ℕ) × (left' : List Texts) × IsJoined lanes all left' count (text ++ rest)
+    Rest = (rest : List ℕ) × (left' : List Texts) × IsMerged lanes all left' count (text ++ rest)
 
     by : (here : Texts) → get_or left (turn % lanes) [] ≡ here → ((answer : List ℕ) (new : Texts) → get_or left (turn % lanes) [] ≡ answer ∷ new → Rest) → Rest
     by [] none next = absurd (some_left lanes count turn all left text some for was (omega arith) none)
     by (answer ∷ new) is next = next answer new is
 
--- what is joined so far, is written but for what is pending
+-- what is merged so far is written except for what is pending
 pub record Turns (all walks : List Texts) (turn : ℕ) (written written' : Writing) (pending : List ℕ) : Type 0 where
   pub count : ℕ
   pub text : List ℕ
   pub sent : List ℕ
-  pub joined : IsJoined (length all) all walks count text
+  pub merge : IsMerged (length all) all walks count text
   pub at : count % length all ≡ turn
   pub appended : Accepts written written' sent
   pub parts : text ≡ sent ++ pending
 
--- nothing is joined yet
+-- nothing is merged yet
 pub Turns-start : (all : List Texts) (written : Writing) → 0 < length all → Turns all all 0 written written []
 Turns-start all written some = record {
   count = 0;
   text = [];
   sent = [];
-  joined = record { done = []; text_is = refl; count_is = refl; wide = refl; parts = λ lane low. refl };
+  merge = record { done = []; text_is = refl; count_is = refl; wide = refl; parts = λ lane low. refl };
   at = mod-eq_of_lt some;
   appended = Accepts-nil written;
   parts = refl;
@@ -123,7 +123,7 @@ module _ (all walks : List Texts) (turn : ℕ) (w0 w w' : Writing) (pending : Li
     count = t.count + 1;
     text = t.text ++ answer;
     sent = t.sent ++ s.sent;
-    joined = join_more (length all) turn t.count all walks new t.text answer t.joined low t.at here;
+    merge = join_more (length all) turn t.count all walks new t.text answer t.merge low t.at here;
     at = elim (next_rest (length all) t.count (omega arith)) [
       | inl n ↦ elim next [ inl f ↦ omega (arith, n.1, f.1, t.at) | inr f ↦ absurd (omega (arith, n.0, f.0, t.at)) ]
       | inr n ↦ elim next [ inl f ↦ absurd (omega (arith, n.0, f.0, t.at)) | inr f ↦ n.1 ∙ sym f.1 ]
@@ -138,9 +138,9 @@ module _ (all walks : List Texts) (turn : ℕ) (w0 w w' : Writing) (pending : Li
     sent = t.sent;
     appended = t.appended;
     whole = λ count for.
-        let same : t.count ≡ count = all_joined (length all) count t.count all walks t.text some for t.joined (ap (λ n. get_or walks n []) t.at ∙ none) in (
+        let same : t.count ≡ count = all_merged (length all) count t.count all walks t.text some for t.merge (ap (λ n. get_or walks n []) t.at ∙ none) in (
           pending,
-          record { left = walks; joined = subst (λ (n : ℕ). IsJoined (length all) all walks n (t.sent ++ pending)) same (subst (λ (x : List ℕ). IsJoined (length all) all walks t.count x) t.parts t.joined) },
+          record { left = walks; merge = subst (λ (n : ℕ). IsMerged (length all) all walks n (t.sent ++ pending)) same (subst (λ (x : List ℕ). IsMerged (length all) all walks t.count x) t.parts t.merge) },
           refl,
         );
   }
@@ -153,31 +153,31 @@ module _ (all walks : List Texts) (turn : ℕ) (w0 w w' : Writing) (pending : Li
     appended = Accepts-trans w0 w w' t.sent s.sent t.appended s.appended;
     whole = λ count for.
         let some : 0 < length all = omega arith in
-        let more = join_more (length all) turn t.count all walks new t.text answer t.joined low t.at here in
+        let more = join_more (length all) turn t.count all walks new t.text answer t.merge low t.at here in
         let few = not_more (length all) count (t.count + 1) all (set walks turn new) (t.text ++ answer) some for more in
         let rest = rest_of (count - (t.count + 1)) (length all) count (t.count + 1) all (set walks turn new) (t.text ++ answer) some for more (omega (arith, few)) in
         let whole : (t.text ++ answer) ++ rest.0 ≡ (t.sent ++ s.sent) ++ (s.rest ++ rest.0) =
         ap (λ l. (l ++ answer) ++ rest.0) t.parts ∙ ap (λ l. l ++ rest.0) (append_assoc t.sent pending answer ∙ ap (λ l. t.sent ++ l) s.parts ∙ sym (append_assoc t.sent s.sent s.rest))
         ∙ append_assoc (t.sent ++ s.sent) s.rest rest.0 in
-        (s.rest ++ rest.0, record { left = rest.1; joined = subst (λ (x : List ℕ). IsJoined (length all) all rest.1 count x) whole rest.2 }, on_err _ r' is);
+        (s.rest ++ rest.0, record { left = rest.1; merge = subst (λ (x : List ℕ). IsMerged (length all) all rest.1 count x) whole rest.2 }, on_err _ r' is);
   }
 
--- the writer failed before the text behind the answers
-pub joins_fail : {E F : Type 0} (all : List Texts) (behind pending : List ℕ) (w w' : Writing) (r : Result (Unit {0}) E) (r' : Result (Unit {0}) F) → IsErr r' → SendsTurns {E = E} all w pending w' r → JoinsTo {E = F} all behind w w' r'
-joins_fail all behind pending w w' r r' is turns count for =
+-- the writer failed before the text after the answers
+pub joins_fail : {E F : Type 0} (all : List Texts) (following pending : List ℕ) (w w' : Writing) (r : Result (Unit {0}) E) (r' : Result (Unit {0}) F) → IsErr r' → SendsTurns {E = E} all w pending w' r → MergesTo {E = F} all following w w' r'
+joins_fail all following pending w w' r r' is turns count for =
     let h = turns.whole count for in
-    (turns.sent ++ h.0, h.1, record { sent = turns.sent; rest = h.0 ++ behind; parts = append_assoc turns.sent h.0 behind; appended = turns.appended; pending = on_err _ r' is })
+    (turns.sent ++ h.0, h.1, record { sent = turns.sent; rest = h.0 ++ following; parts = append_assoc turns.sent h.0 following; appended = turns.appended; pending = on_err _ r' is })
 
--- the text behind the answers is sent, with what is pending of them
-pub joins_then : {E F : Type 0} (all : List Texts) (behind pending : List ℕ) (a b c : Writing) (r : Result (Unit {0}) F) → SendsTurns {E = E} all a pending b (Ok tt)
-    → Sends {E = F} (pending ++ behind) b [] c r → JoinsTo {E = F} all behind a c r
-joins_then all behind pending a b c r turns sends count for =
+-- the text after the answers is sent, with their pending bytes
+pub joins_then : {E F : Type 0} (all : List Texts) (following pending : List ℕ) (a b c : Writing) (r : Result (Unit {0}) F) → SendsTurns {E = E} all a pending b (Ok tt)
+    → Sends {E = F} (pending ++ following) b [] c r → MergesTo {E = F} all following a c r
+joins_then all following pending a b c r turns sends count for =
     let h = turns.whole count for in
-    let whole : turns.sent ++ (pending ++ behind) ≡ (turns.sent ++ h.0) ++ behind = ap (λ l. turns.sent ++ (l ++ behind)) (sym h.2) ∙ sym (append_assoc turns.sent h.0 behind) in
-    (turns.sent ++ h.0, h.1, subst (λ (l : List ℕ). Sends l a [] c r) whole (Sends-front turns.sent (pending ++ behind) [] a b c r turns.appended sends))
+    let whole : turns.sent ++ (pending ++ following) ≡ (turns.sent ++ h.0) ++ following = ap (λ l. turns.sent ++ (l ++ following)) (sym h.2) ∙ sym (append_assoc turns.sent h.0 following) in
+    (turns.sent ++ h.0, h.1, subst (λ (l : List ℕ). Sends l a [] c r) whole (Sends-front turns.sent (pending ++ following) [] a b c r turns.appended sends))
 
--- the texts of a lane that is alone are joined as they stand
-pub join_alone : (texts : Texts) (text : List ℕ) (count : ℕ) (all : List Texts) → all ≡ texts ∷ [] → AreForLines 1 all count → text ≡ concat texts → IsJoined 1 all ([] ∷ []) count text
+-- the texts of a single lane are already merged
+pub join_alone : (texts : Texts) (text : List ℕ) (count : ℕ) (all : List Texts) → all ≡ texts ∷ [] → AreForLines 1 all count → text ≡ concat texts → IsMerged 1 all ([] ∷ []) count text
 join_alone texts text count all alone (lines, many, shared) is =
     let here : get_or all 0 [] ≡ texts = ap (λ l. get_or l 0 []) alone in
     record {
@@ -196,32 +196,32 @@ only_one [] d one = absurd (omega arith)
 only_one (x ∷ []) d one = refl
 only_one (x ∷ y ∷ xs) d one = absurd (omega arith)
 
--- the same, written with the text behind them
-pub joins_alone : {E : Type 0} (all : List Texts) (text behind : List ℕ) (a b : Writing) (r : Result (Unit {0}) E) → length all ≡ 1 → text ≡ concat (get_or all 0 [])
-    → Sends {E = E} (text ++ behind) a [] b r → JoinsTo {E = E} all behind a b r
-joins_alone all text behind a b r one is sends count for = (
+-- the same, written with the text after them
+pub joins_alone : {E : Type 0} (all : List Texts) (text following : List ℕ) (a b : Writing) (r : Result (Unit {0}) E) → length all ≡ 1 → text ≡ concat (get_or all 0 [])
+    → Sends {E = E} (text ++ following) a [] b r → MergesTo {E = E} all following a b r
+joins_alone all text following a b r one is sends count for = (
   text,
   record {
     left = [] ∷ [];
-    joined = subst (λ (n : ℕ). IsJoined n all ([] ∷ []) count text) (sym one) (join_alone (get_or all 0 []) text count all (only_one all [] one) (subst (λ (n : ℕ). AreForLines n all count) one for) is);
+    merge = subst (λ (n : ℕ). IsMerged n all ([] ∷ []) count text) (sym one) (join_alone (get_or all 0 []) text count all (only_one all [] one) (subst (λ (n : ℕ). AreForLines n all count) one for) is);
   },
   sends,
 )
 
--- the same outcome, whatever its fault is called
-pub joins_ok : {E F : Type 0} (all : List Texts) (behind : List ℕ) (a b : Writing) → JoinsTo {E = E} all behind a b (Ok tt) → JoinsTo {E = F} all behind a b (Ok tt)
-joins_ok all behind a b joins count for = let h = joins count for in (h.0, h.1, Sends-ok (h.0 ++ behind) [] a b h.2)
+-- the same result, with another type of its error
+pub joins_ok : {E F : Type 0} (all : List Texts) (following : List ℕ) (a b : Writing) → MergesTo {E = E} all following a b (Ok tt) → MergesTo {E = F} all following a b (Ok tt)
+joins_ok all following a b joins count for = let h = joins count for in (h.0, h.1, Sends-ok (h.0 ++ following) [] a b h.2)
 
-pub joins_fault : {E F : Type 0} (all : List Texts) (behind : List ℕ) (a b : Writing) (e : E) (f : F) → JoinsTo {E = E} all behind a b (Err e) → JoinsTo {E = F} all behind a b (Err f)
-joins_fault all behind a b e f joins count for = let h = joins count for in (h.0, h.1, Sends-fault (h.0 ++ behind) [] [] a b (Err e) (Err f) refl h.2)
+pub merges_error : {E F : Type 0} (all : List Texts) (following : List ℕ) (a b : Writing) (e : E) (f : F) → MergesTo {E = E} all following a b (Err e) → MergesTo {E = F} all following a b (Err f)
+merges_error all following a b e f joins count for = let h = joins count for in (h.0, h.1, Sends-fault (h.0 ++ following) [] [] a b (Err e) (Err f) refl h.2)
 
--- the same where a fault is handed on
-pub joins_handed : {E F : Type 0} (all : List Texts) (behind : List ℕ) (a b : Writing) (e : E) (f : F) (r : Result (Unit {0}) F) → IsErrAnd r (λ g. g ≡ f)
-    → JoinsTo {E = E} all behind a b (Err e) → JoinsTo {E = F} all behind a b r
-joins_handed all behind a b e f (Ok u) given joins = absurd given
-joins_handed all behind a b e f (Err g) given joins = joins_fault all behind a b e g joins
+-- the same if an error is passed on
+pub joins_handed : {E F : Type 0} (all : List Texts) (following : List ℕ) (a b : Writing) (e : E) (f : F) (r : Result (Unit {0}) F) → IsErrAnd r (λ g. g ≡ f)
+    → MergesTo {E = E} all following a b (Err e) → MergesTo {E = F} all following a b r
+joins_handed all following a b e f (Ok u) given joins = absurd given
+joins_handed all following a b e f (Err g) given joins = merges_error all following a b e g joins
 
--- what the next lane has
+-- the texts of the next lane
 pub next_has : (walks : List Texts) (turn : ℕ) (old new : Texts) (answer : List ℕ) → turn < length walks → old ≡ get_or walks turn old → old ≡ answer ∷ new → get_or walks turn [] ≡ answer ∷ new
 next_has walks turn old new answer low here some = sym (here ∙ get_or_default walks turn old [] low) ∙ some
 

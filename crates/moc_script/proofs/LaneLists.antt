@@ -10,7 +10,7 @@ use Rattle.std.specs.List.{enumerate_from}
 use Rattle.std.specs.Prelude.{map}
 use Rattle.moc_script.specs.Private.Input.{in_turn}
 
--- the next number's rest is one more, or 0 behind the greatest
+-- the remainder of the next number is one more, or 0 after the greatest
 pub next_rest : (n j : ℕ) → 0 < n → ((j % n + 1 < n) × ((j + 1) % n ≡ j % n + 1)) ⊎ ((j % n + 1 ≡ n) × ((j + 1) % n ≡ 0))
 next_rest n j some =
     let low : j % n < n = mod-lt j some in
@@ -44,7 +44,7 @@ module _ {A : Type 0} where
   pub dealt-push : (lanes : ℕ) (xs : List A) (x : A) → dealt lanes (xs ++ x ∷ []) ≡ dealt lanes xs ++ put_in_lane (length xs % lanes) x ∷ []
   dealt-push lanes xs x = let same : 0 + length xs ≡ length xs = omega arith in dealt_from-push lanes 0 xs x ∙ ap (λ (n : ℕ). dealt lanes xs ++ put_in_lane (n % lanes) x ∷ []) same
 
-  -- a lane that is alone has all
+  -- a single lane has all elements
   pub dealt-alone : (j : ℕ) (xs : List A) → in_lane 0 (dealt_from 1 j xs) ≡ xs
   dealt-alone j [] = refl
   dealt-alone j (x ∷ xs) =
@@ -74,7 +74,7 @@ module _ {A : Type 0} where
       ap (λ (b : Bool). if b then x ∷ in_lane lane (dealt_from lanes (j + 1) xs) else in_lane lane (dealt_from lanes (j + 1) xs)) (ne_eqb (j % lanes) lane other)
       ∙ none_from lanes (j + 1) lane xs some high
 
-  -- nothing goes to a lane that there is not
+  -- a lane that does not exist has no elements
   pub none_above : (lanes lane : ℕ) (xs : List A) → 0 < lanes → lanes ≤ lane → in_lane lane (dealt lanes xs) ≡ []
   none_above lanes lane xs some high = none_from lanes 0 lane xs some high
 
@@ -90,7 +90,7 @@ module _ {A B : Type 0} where
       by true rest = ap suc rest
       by false rest = rest
 
-  -- lists of one length leave lanes of one length
+  -- lists of the same length give lanes of the same length
   pub as_long : (lanes lane : ℕ) (xs : List A) (ys : List B) → length xs ≡ length ys → length (in_lane lane (dealt lanes xs)) ≡ length (in_lane lane (dealt lanes ys))
   as_long lanes lane xs ys same = as_long_from lanes 0 lane xs ys same
 
@@ -104,7 +104,7 @@ module _ {A : Type 0} where
       by true rest = omega arith
       by false rest = rest
 
-  -- while there are more elements, the next lane has more of them
+  -- while elements remain, the next lane gets one more
   pub more_left : (lanes lane : ℕ) (front back : List A) (x : A) → length front % lanes ≡ lane → length (in_lane lane (dealt lanes front)) < length (in_lane lane (dealt lanes (front ++ x ∷ back)))
   more_left lanes lane front back x is =
       let longer = ap length (dealt-here lanes lane front x is) ∙ length-append (in_lane lane (dealt lanes front)) (x ∷ []) in
@@ -112,7 +112,7 @@ module _ {A : Type 0} where
       let less = grows_from lanes 0 lane (front ++ x ∷ []) back in
       omega (arith, longer, whole, less)
 
-  -- the same, where the lists are known by their lengths
+  -- the same for lists with given lengths
   pub next_left : {B : Type 0} (lanes lane : ℕ) (done : List B) (all : List A) → length done < length all → length done % lanes ≡ lane → length (in_lane lane (dealt lanes done)) < length (in_lane lane (dealt lanes all))
   next_left lanes lane done all less is = by (drop (length done) all) refl
     where
@@ -154,7 +154,8 @@ module _ {A : Type 0} where
       turns_from others (j + 1) lane turn xs (omega arith) low next
       ∙ ap (λ (b : Bool). if b then x ∷ in_lane lane (dealt_from (suc others) (j + 1) xs) else in_lane lane (dealt_from (suc others) (j + 1) xs)) (sym (ne_eqb (j % suc others) lane other))
 
-  -- what is dealt to a lane comes once the lanes before it have had one, and then each time all others have
+  -- the first element of a lane comes after one of each lane before it, and each other element after one of all other
+  -- lanes
   pub turns_of_lane : (lanes lane : ℕ) (xs : List A) → lane < lanes → in_turn (lanes - 1) lane xs ≡ in_lane lane (dealt lanes xs)
   turns_of_lane lanes lane xs low =
       let all : suc (lanes - 1) ≡ lanes = omega arith in

@@ -1,4 +1,4 @@
--- The lines of a lane by their numbers, and those at which memory is refused.
+-- The lines of a lane by their numbers, and those at which an allocation fails.
 use Rattle.std.proofs.Common.{◌≡◌, ◌∙◌, inl, inr, ℕ, suc, ◌+◌, ◌-◌, ◌<◌, ◌≤◌, ◌⊎◌, Bool, true, false, cond, not}
 use Rattle.std.proofs.Common.{if◌then◌else◌, List, [], ◌∷◌, ◌++◌, length, take, get_or, Contains, Option, None, Some}
 use Rattle.std.proofs.Common.{Result, Ok, Err, sym, ap, subst, arith, append_assoc, length-append}
@@ -7,20 +7,20 @@ use Rattle.std.proofs.lemmas.List.{get_or-append_right, take_more}
 use Rattle.std.proofs.lemmas.List.Elements.{Contains-append_left, Contains-push, Contains-push_cases}
 use Rattle.moc_text.specs.Lines.{is_line_feed, lines_of}
 use Rattle.moc_lines.specs.Language.{is_blank_text}
-use Rattle.moc_script.specs.Crews.{IsSaidLine, said_lines}
+use Rattle.moc_script.specs.Crews.{IsNonblankLine, nonblank_lines}
 use Rattle.moc_script.specs.Private.Input.{HasPassed, Passes, in_turn}
-use Rattle.moc_script.specs.Private.Gathering.{IsFirstUnfinished}
-use Rattle.moc_script.specs.Private.LaneEnds.{GoesBefore}
+use Rattle.moc_script.specs.Private.Gathering.{IsFirstFailure}
+use Rattle.moc_script.specs.Private.LaneEnds.{Precedes}
 use Rattle.moc_script.specs.declared.crews.lines.LaneLines.{LaneLines}
-use Rattle.moc_script.specs.declared.crews.lane.LaneEnd.{LaneEnd}
-use Rattle.moc_script.specs.declared.crews.lane.Unfinished.{Unfinished}
-use Rattle.moc_script.specs.declared.crews.lane.Unfinished.TheVariants.{Refused, Stopped}
+use Rattle.moc_script.specs.declared.crews.lane.LaneOutput.{LaneOutput}
+use Rattle.moc_script.specs.declared.crews.lane.LaneFailure.{LaneFailure}
+use Rattle.moc_script.specs.declared.crews.lane.LaneFailure.TheVariants.{OutOfMemory, Stopped}
 
-onto_few : (b : ℕ) (lines : List (List ℕ)) → length (onto_first b lines) ≤ suc (length lines)
-onto_few b [] = omega arith
-onto_few b (line ∷ lines) = omega arith
+onto_short : (b : ℕ) (lines : List (List ℕ)) → length (onto_first b lines) ≤ suc (length lines)
+onto_short b [] = omega arith
+onto_short b (line ∷ lines) = omega arith
 
--- a text has no more lines than bytes
+-- a text does not have more lines than bytes
 pub lines_few : (text : List ℕ) → length (lines_of text) ≤ length text
 lines_few [] = omega arith
 lines_few (b ∷ text) =
@@ -32,7 +32,7 @@ lines_few (b ∷ text) =
     ]
   where
     by : (lines : List (List ℕ)) → length lines ≤ length text → length (onto_first b lines) ≤ suc (length text)
-    by lines few = omega (arith, few, onto_few b lines)
+    by lines few = omega (arith, few, onto_short b lines)
 
 -- no line is passed yet
 pub passed_none : (text bytes : List ℕ) (count : ℕ) → bytes ≡ text → count ≡ 0 → HasPassed text count bytes
@@ -54,44 +54,44 @@ module _ (text : List ℕ) (old new : LaneLines) (number : ℕ) (line : List ℕ
   }
 
   -- a line that is not blank has its number
-  pub said_line : is_blank_text line ≡ false → IsSaidLine number (lines_of text)
-  said_line said =
+  pub nonblank_line : is_blank_text line ≡ false → IsNonblankLine number (lines_of text)
+  nonblank_line nonblank =
       let front = was.passed ++ next.more in
-      let behind : (number - 1) - (number - 1) ≡ 0 = omega arith in
+      let following : (number - 1) - (number - 1) ≡ 0 = omega arith in
       let here : get_or (lines_of text) (number - 1) [] ≡ line =
       ap (λ l. get_or l (number - 1) []) all_lines ∙ get_or-append_right front (line ∷ lines_of new.bytes.now) (number - 1) (number - 1) [] place (omega arith)
-      ∙ ap (λ n. get_or (line ∷ lines_of new.bytes.now) n []) behind in
+      ∙ ap (λ n. get_or (line ∷ lines_of new.bytes.now) n []) following in
       record {
         some = omega (arith, next.number_is);
         within = omega (arith, place, next.number_is, ap length all_lines, length-append front (line ∷ lines_of new.bytes.now));
-        said = ap is_blank_text here ∙ said;
+        nonblank = ap is_blank_text here ∙ nonblank;
       }
 
 abbrev Ends : Type 0
-Ends = List (Result LaneEnd Unfinished)
+Ends = List (Result LaneOutput LaneFailure)
 
-err_of : (x y : Unfinished) → (let end : Result LaneEnd Unfinished = Err x in end ≡ Err y) → x ≡ y
+err_of : (x y : LaneFailure) → (let end : Result LaneOutput LaneFailure = Err x in end ≡ Err y) → x ≡ y
 err_of x y same = cc
 
-no_end : (end : LaneEnd) (e : Unfinished) → (let it : Result LaneEnd Unfinished = Ok end in it ≡ Err e) → ⊥
+no_end : (end : LaneOutput) (e : LaneFailure) → (let it : Result LaneOutput LaneFailure = Ok end in it ≡ Err e) → ⊥
 no_end end e same = cc
 
--- one goes before another, and that before a third
-goes_on : (a b c : Unfinished) → GoesBefore a b → GoesBefore b c → GoesBefore a c
-goes_on (Refused a) (Refused b) (Refused c) first second = omega (arith, first, second)
-goes_on (Refused a) (Refused b) (Stopped c) first second = tt
-goes_on (Refused a) (Stopped b) (Refused c) first second = absurd second
-goes_on (Refused a) (Stopped b) (Stopped c) first second = tt
-goes_on (Stopped a) (Refused b) c first second = absurd first
-goes_on (Stopped a) (Stopped b) (Refused c) first second = absurd second
+-- precedence is transitive
+goes_on : (a b c : LaneFailure) → Precedes a b → Precedes b c → Precedes a c
+goes_on (OutOfMemory a) (OutOfMemory b) (OutOfMemory c) first second = omega (arith, first, second)
+goes_on (OutOfMemory a) (OutOfMemory b) (Stopped c) first second = tt
+goes_on (OutOfMemory a) (Stopped b) (OutOfMemory c) first second = absurd second
+goes_on (OutOfMemory a) (Stopped b) (Stopped c) first second = tt
+goes_on (Stopped a) (OutOfMemory b) c first second = absurd first
+goes_on (Stopped a) (Stopped b) (OutOfMemory c) first second = absurd second
 goes_on (Stopped a) (Stopped b) (Stopped c) first second = omega (arith, first, second)
 
-goes_itself : (a : Unfinished) → GoesBefore a a
-goes_itself (Refused a) = omega arith
+goes_itself : (a : LaneFailure) → Precedes a a
+goes_itself (OutOfMemory a) = omega arith
 goes_itself (Stopped a) = omega arith
 
--- an end that is well leaves the first
-first_done : (ends : Ends) (first : Option Unfinished) (end : LaneEnd) → IsFirstUnfinished ends first → IsFirstUnfinished (ends ++ Ok end ∷ []) first
+-- a success does not change the first failure
+first_done : (ends : Ends) (first : Option LaneFailure) (end : LaneOutput) → IsFirstFailure ends first → IsFirstFailure (ends ++ Ok end ∷ []) first
 first_done ends None end was = λ e here. elim (Contains-push_cases ends (Ok end) (Err e) here) [
   | inl before ↦ was e before
   | inr same ↦ no_end end e same
@@ -104,64 +104,64 @@ first_done ends (Some first) end was = (
   ],
 )
 
--- an end of a lane that has not done its lines is the first, where there is none yet
-first_alone : (ends : Ends) (next : Unfinished) → IsFirstUnfinished ends None → IsFirstUnfinished (ends ++ Err next ∷ []) (Some next)
+-- the first failure, if there was none before
+first_alone : (ends : Ends) (next : LaneFailure) → IsFirstFailure ends None → IsFirstFailure (ends ++ Err next ∷ []) (Some next)
 first_alone ends next none = (
   Contains-push ends (Err next),
   λ e here. elim (Contains-push_cases ends (Err next) (Err e) here) [
     | inl before ↦ absurd (none e before)
-    | inr same ↦ subst (GoesBefore next) (err_of next e same) (goes_itself next)
+    | inr same ↦ subst (Precedes next) (err_of next e same) (goes_itself next)
   ],
 )
 
--- and else the one of both that goes before the other
-first_of_both : (ends : Ends) (first next new : Unfinished) → IsFirstUnfinished ends (Some first) → (new ≡ first) ⊎ (new ≡ next) → GoesBefore new first → GoesBefore new next
-    → IsFirstUnfinished (ends ++ Err next ∷ []) (Some new)
+-- otherwise the failure of both that takes precedence
+first_of_both : (ends : Ends) (first next new : LaneFailure) → IsFirstFailure ends (Some first) → (new ≡ first) ⊎ (new ≡ next) → Precedes new first → Precedes new next
+    → IsFirstFailure (ends ++ Err next ∷ []) (Some new)
 first_of_both ends first next new was either before_first before_next = (
   elim either [
-    | inl same ↦ subst (λ (e : Unfinished). Contains (ends ++ Err next ∷ []) (Err e)) (sym same) (Contains-append_left ends (Err next ∷ []) (Err first) was.0)
-    | inr same ↦ subst (λ (e : Unfinished). Contains (ends ++ Err next ∷ []) (Err e)) (sym same) (Contains-push ends (Err next))
+    | inl same ↦ subst (λ (e : LaneFailure). Contains (ends ++ Err next ∷ []) (Err e)) (sym same) (Contains-append_left ends (Err next ∷ []) (Err first) was.0)
+    | inr same ↦ subst (λ (e : LaneFailure). Contains (ends ++ Err next ∷ []) (Err e)) (sym same) (Contains-push ends (Err next))
   ],
   λ e here. elim (Contains-push_cases ends (Err next) (Err e) here) [
     | inl before ↦ goes_on new first e before_first (was.1 e before)
-    | inr same ↦ subst (GoesBefore new) (err_of next e same) before_next
+    | inr same ↦ subst (Precedes new) (err_of next e same) before_next
   ],
 )
 
-module _ (ends : Ends) (i : ℕ) (x : Result LaneEnd Unfinished) (low : i < length ends) (here : get_or ends i x ≡ x) (old new : Option Unfinished) (was : IsFirstUnfinished (take i ends) old) where
-  one_more : (y : Result LaneEnd Unfinished) (first : Option Unfinished) → x ≡ y → new ≡ first → IsFirstUnfinished (take i ends ++ y ∷ []) first → IsFirstUnfinished (take (i + 1) ends) new
+module _ (ends : Ends) (i : ℕ) (x : Result LaneOutput LaneFailure) (low : i < length ends) (here : get_or ends i x ≡ x) (old new : Option LaneFailure) (was : IsFirstFailure (take i ends) old) where
+  one_more : (y : Result LaneOutput LaneFailure) (first : Option LaneFailure) → x ≡ y → new ≡ first → IsFirstFailure (take i ends ++ y ∷ []) first → IsFirstFailure (take (i + 1) ends) new
   one_more y first is same more =
-      subst (λ (l : Ends). IsFirstUnfinished l new) (sym (take_more ends i x low ∙ ap (λ (z : Result LaneEnd Unfinished). take i ends ++ z ∷ []) (here ∙ is)))
-      (subst (IsFirstUnfinished (take i ends ++ y ∷ [])) (sym same) more)
+      subst (λ (l : Ends). IsFirstFailure l new) (sym (take_more ends i x low ∙ ap (λ (z : Result LaneOutput LaneFailure). take i ends ++ z ∷ []) (here ∙ is)))
+      (subst (IsFirstFailure (take i ends ++ y ∷ [])) (sym same) more)
 
-  -- the end is that of a lane that has done its lines
-  pub end_done : (end : LaneEnd) → x ≡ Ok end → new ≡ old → IsFirstUnfinished (take (i + 1) ends) new
+  -- the result of a lane that has answered its lines
+  pub end_done : (end : LaneOutput) → x ≡ Ok end → new ≡ old → IsFirstFailure (take (i + 1) ends) new
   end_done end is same = one_more (Ok end) old is same (first_done (take i ends) old end was)
 
-  -- it is the first of a lane that has not
-  pub end_alone : (next : Unfinished) → x ≡ Err next → old ≡ None → new ≡ Some next → IsFirstUnfinished (take (i + 1) ends) new
+  -- the first failure
+  pub end_alone : (next : LaneFailure) → x ≡ Err next → old ≡ None → new ≡ Some next → IsFirstFailure (take (i + 1) ends) new
   end_alone next is none same =
-      one_more (Err next) (Some next) is same (first_alone (take i ends) next (subst (IsFirstUnfinished (take i ends)) none was))
+      one_more (Err next) (Some next) is same (first_alone (take i ends) next (subst (IsFirstFailure (take i ends)) none was))
 
-  -- or one of several
-  pub end_of_both : (first next one : Unfinished) → x ≡ Err next → old ≡ Some first → new ≡ Some one → (one ≡ first) ⊎ (one ≡ next) → GoesBefore one first × GoesBefore one next
-      → IsFirstUnfinished (take (i + 1) ends) new
+  -- one of several failures
+  pub end_of_both : (first next one : LaneFailure) → x ≡ Err next → old ≡ Some first → new ≡ Some one → (one ≡ first) ⊎ (one ≡ next) → Precedes one first × Precedes one next
+      → IsFirstFailure (take (i + 1) ends) new
   end_of_both first next one is some same either before =
-      one_more (Err next) (Some one) is same (first_of_both (take i ends) first next one (subst (IsFirstUnfinished (take i ends)) some was) either before.0 before.1)
+      one_more (Err next) (Some one) is same (first_of_both (take i ends) first next one (subst (IsFirstFailure (take i ends)) some was) either before.0 before.1)
 
 module _ (others : ℕ) (text line rest : List ℕ) (parts : lines_of text ≡ line ∷ lines_of rest) where
-  -- a blank line is no lane's
-  pub blank_passed : (turn : ℕ) → is_blank_text line ≡ true → in_turn others turn (said_lines (lines_of rest)) ≡ in_turn others turn (said_lines (lines_of text))
+  -- a blank line does not belong to a lane
+  pub blank_passed : (turn : ℕ) → is_blank_text line ≡ true → in_turn others turn (nonblank_lines (lines_of rest)) ≡ in_turn others turn (nonblank_lines (lines_of text))
   blank_passed turn blank =
-      sym (ap (λ (l : List (List ℕ)). in_turn others turn (said_lines l)) parts
-      ∙ ap (λ (b : Bool). in_turn others turn (if not b then line ∷ said_lines (lines_of rest) else said_lines (lines_of rest))) blank)
+      sym (ap (λ (l : List (List ℕ)). in_turn others turn (nonblank_lines l)) parts
+      ∙ ap (λ (b : Bool). in_turn others turn (if not b then line ∷ nonblank_lines (lines_of rest) else nonblank_lines (lines_of rest))) blank)
 
   -- a line of another lane is passed
-  pub turn_passed : (turn less : ℕ) → turn ≡ suc less → is_blank_text line ≡ false → in_turn others less (said_lines (lines_of rest)) ≡ in_turn others turn (said_lines (lines_of text))
-  turn_passed turn less is said =
-      sym (ap (λ (l : List (List ℕ)). in_turn others turn (said_lines l)) parts
-      ∙ ap (λ (b : Bool). in_turn others turn (if not b then line ∷ said_lines (lines_of rest) else said_lines (lines_of rest))) said
-      ∙ ap (λ (n : ℕ). in_turn others n (line ∷ said_lines (lines_of rest))) is)
+  pub turn_passed : (turn less : ℕ) → turn ≡ suc less → is_blank_text line ≡ false → in_turn others less (nonblank_lines (lines_of rest)) ≡ in_turn others turn (nonblank_lines (lines_of text))
+  turn_passed turn less is nonblank =
+      sym (ap (λ (l : List (List ℕ)). in_turn others turn (nonblank_lines l)) parts
+      ∙ ap (λ (b : Bool). in_turn others turn (if not b then line ∷ nonblank_lines (lines_of rest) else nonblank_lines (lines_of rest))) nonblank
+      ∙ ap (λ (n : ℕ). in_turn others n (line ∷ nonblank_lines (lines_of rest))) is)
 
   -- one more line is counted
   pub counted_more : (whole : List ℕ) (start count : ℕ) → (more : List (List ℕ)) × (lines_of whole ≡ more ++ lines_of text) × (count ≡ start + length more)

@@ -5,13 +5,13 @@ use Rattle.std.specs.List.{list_any, onto_first, prefix_len, position_or_len, Al
 use Rattle.std.proofs.lemmas.List.{take-append-drop}
 use Rattle.std.proofs.lemmas.List.Folds.{list_any-append}
 use Rattle.std.proofs.lemmas.List.Splits.{slice_split-cons_no, slice_split-cons_yes}
-use Rattle.moc_lines.specs.Language.{is_blank_text, is_line_blank, without_blanks, word_of, behind_word}
+use Rattle.moc_lines.specs.Language.{is_blank_text, is_line_blank, without_blanks, word_of, after_word}
 use Rattle.moc_lines.specs.Language.{plain_operand_of, operand_by, ordered_operand_of, command_by, command_of}
-use Rattle.moc_lines.specs.Language.{piece_says, commands_of, batch_of, answer_to, after_batch}
+use Rattle.moc_lines.specs.Language.{piece_command, commands_of, batch_of, answer_to, after_batch}
 use Rattle.moc_text.specs.Lines.{is_semicolon, pieces_of}
 use Rattle.moc_script.proofs.Single.{first_then}
-use Rattle.moc_script.specs.Laws.{is_at_sign, LinesWithoutOrder}
-use Rattle.moc_lines.specs.declared.fault.LineFault.TheVariants.{EmptyCommand, TooManyCommands}
+use Rattle.moc_script.specs.Theorems.{is_at_sign, LinesWithoutOrder}
+use Rattle.moc_lines.specs.declared.fault.LineError.TheVariants.{EmptyCommand, TooManyCommands}
 
 pub neither : (a b : Bool) → a || b ≡ false → (a ≡ false) × (b ≡ false)
 neither true b e = cc
@@ -38,8 +38,8 @@ module _ (p : ℕ → Bool) where
       ] in
       step (is_semicolon x) refl
 
-pub none_behind : (p : ℕ → Bool) (text : List ℕ) → list_any p text ≡ false → (list_any p (word_of text) ≡ false) × (list_any p (behind_word text) ≡ false)
-none_behind p text none =
+pub none_after : (p : ℕ → Bool) (text : List ℕ) → list_any p text ≡ false → (list_any p (word_of text) ≡ false) × (list_any p (after_word text) ≡ false)
+none_after p text none =
     let front = (none_in_parts p (prefix_len is_line_blank text) text none).1 in (
       (none_in_parts p (position_or_len is_line_blank (without_blanks text)) (without_blanks text) front).0,
       (none_in_parts p (length (word_of text)) (without_blanks text) front).1,
@@ -48,20 +48,20 @@ none_behind p text none =
 operand_by-plain : (word text : List ℕ) → list_any is_at_sign word ≡ false → operand_by word text ≡ plain_operand_of text
 operand_by-plain [] text none = refl
 operand_by-plain (b ∷ field) text none =
-    ap (λ c. cond c (ordered_operand_of field (behind_word text)) (plain_operand_of text)) (neither (is_at_sign b) (list_any is_at_sign field) none).0
+    ap (λ c. cond c (ordered_operand_of field (after_word text)) (plain_operand_of text)) (neither (is_at_sign b) (list_any is_at_sign field) none).0
 
-says_plain : (piece : List ℕ) → list_any is_at_sign piece ≡ false → command_of piece ≡ command_by plain_operand_of piece
-says_plain piece none =
-    let text = behind_word piece in
-    let behind = (none_behind is_at_sign piece none).1 in
-    let same = operand_by-plain (word_of text) text (none_behind is_at_sign text behind).0 in
+denotes_plain : (piece : List ℕ) → list_any is_at_sign piece ≡ false → command_of piece ≡ command_by plain_operand_of piece
+denotes_plain piece none =
+    let text = after_word piece in
+    let following = (none_after is_at_sign piece none).1 in
+    let same = operand_by-plain (word_of text) text (none_after is_at_sign text following).0 in
     ap (λ r. command_by (λ _. r) piece) same
 
 commands_plain : (pieces : List (List ℕ)) → AllByRecursion (λ l. list_any is_at_sign l ≡ false) pieces → commands_of command_of pieces ≡ commands_of (command_by plain_operand_of) pieces
 commands_plain [] each = refl
 commands_plain (piece ∷ pieces) each =
-    ap (λ r. first_then (cond (is_blank_text piece) (Err EmptyCommand) r) (commands_of command_of pieces)) (says_plain piece each.0)
-    ∙ ap (first_then (piece_says (command_by plain_operand_of) piece)) (commands_plain pieces each.1)
+    ap (λ r. first_then (cond (is_blank_text piece) (Err EmptyCommand) r) (commands_of command_of pieces)) (denotes_plain piece each.0)
+    ∙ ap (first_then (piece_command (command_by plain_operand_of) piece)) (commands_plain pieces each.1)
 
 pub batch_plain : (line : List ℕ) → list_any is_at_sign line ≡ false → batch_of command_of line ≡ batch_of (command_by plain_operand_of) line
 batch_plain line none = ap (λ r. cond (ltb 16 (length (pieces_of line))) (Err TooManyCommands) r) (commands_plain (pieces_of line) (none_in_pieces is_at_sign line none))

@@ -1,4 +1,4 @@
--- Languages that answer each line alike answer scripts and schedules alike.
+-- Languages with the same answer to each line have the same answers to scripts and schedules.
 use Rattle.std.proofs.Common.{◌≡◌, ℕ, Bool, true, false, cond, List, [], ◌∷◌, ◌++◌, Result, Ok, Err, codes, refl}
 use Rattle.std.proofs.Common.{ap, ◌∙◌}
 use Rattle.std.specs.List.{AllByRecursion, list_all, list_any, onto_first, take_while}
@@ -10,22 +10,22 @@ use Rattle.moc_lists.specs.RangeList.{NumberSet}
 use Rattle.moc_parts.specs.declared.command.Command.{Command}
 use Rattle.moc_steps.specs.Machine.Step.{Begin}
 use Rattle.moc_lines.specs.Runs.{Rules, is_short, answers_to, after_lines, script_text, line_limit, rules_by, script_rules}
-use Rattle.moc_lines.specs.Language.{answer_to, after_batch, is_blank_text, word_of, behind_word, batch_of, ◌>>=◌, command_of, command_by}
+use Rattle.moc_lines.specs.Language.{answer_to, after_batch, is_blank_text, word_of, after_word, batch_of, ◌>>=◌, command_of, command_by}
 use Rattle.moc_lines.specs.Language.{plain_operand_of}
-use Rattle.moc_script.specs.Schedules.{BatchStep, as_in_script, client_by, begin_of, other_step, said_by, said_step}
+use Rattle.moc_script.specs.Schedules.{BatchStep, as_in_script, client_by, begin_of, other_step, step_with_batches, step_of_line}
 use Rattle.moc_script.specs.Schedules.{Schedule, next_line, answer_to_step, step_taken, with_step, last_lines, step_rules}
 use Rattle.moc_script.specs.Schedules.{start_schedule}
-use Rattle.moc_lines.specs.declared.fault.LineFault.{LineFault}
-use Rattle.moc_lines.specs.declared.fault.LineFault.TheVariants.{WrongCount}
-use Rattle.moc_script.specs.declared.fault.StepFault.{StepFault}
-use Rattle.moc_script.specs.declared.fault.StepFault.TheVariants.{Line}
-use Rattle.moc_script.specs.Laws.{plain_rules, is_at_sign, one_command}
-use Rattle.moc_script.specs.Laws.{ScriptsOfSingleCommands, ScriptsWithoutOrder, SchedulesOfSingleCommands}
-use Rattle.moc_script.specs.Laws.{SchedulesWithoutOrder}
+use Rattle.moc_lines.specs.declared.fault.LineError.{LineError}
+use Rattle.moc_lines.specs.declared.fault.LineError.TheVariants.{WrongCount}
+use Rattle.moc_script.specs.declared.fault.ScheduleLineError.{ScheduleLineError}
+use Rattle.moc_script.specs.declared.fault.ScheduleLineError.TheVariants.{Line}
+use Rattle.moc_script.specs.Theorems.{plain_rules, is_at_sign, one_command}
+use Rattle.moc_script.specs.Theorems.{ScriptsOfSingleCommands, ScriptsWithoutOrder, SchedulesOfSingleCommands}
+use Rattle.moc_script.specs.Theorems.{SchedulesWithoutOrder}
 use Rattle.moc_script.proofs.Single.{batch-single, lines_of_one_command}
-use Rattle.moc_script.proofs.Unordered.{neither, onto, none_behind, batch_plain, lines_without_order}
+use Rattle.moc_script.proofs.Unordered.{neither, onto, none_after, batch_plain, lines_without_order}
 
--- what no byte of a text passes, no byte of its lines does
+-- a test that no byte of a text passes, no byte of its lines passes
 none_in_lines : (p : ℕ → Bool) (text : List ℕ) → list_any p text ≡ false → AllByRecursion (λ l. list_any p l ≡ false) (lines_of text)
 none_in_lines p [] none = tt
 none_in_lines p (x ∷ text) none =
@@ -65,9 +65,9 @@ single_line a line none =
     let step : (b : Bool) → is_blank_text line ≡ b → (script_rules.answer a line ≡ (rules_by one_command).answer a line) × (script_rules.after a line ≡ (rules_by one_command).after a line) =
     λ b. elim b as (λ v. is_blank_text line ≡ v → (script_rules.answer a line ≡ (rules_by one_command).answer a line) × (script_rules.after a line ≡ (rules_by one_command).after a line)) [
       | true ↦ λ is. rw is (refl, refl)
-      | false ↦ λ is. let law = lines_of_one_command line none is in (
-        ap (λ r. cond (is_blank_text line) [] (answer_to a r)) law,
-        ap (λ r. cond (is_blank_text line) a (after_batch a r)) law,
+      | false ↦ λ is. let the_theorem = lines_of_one_command line none is in (
+        ap (λ r. cond (is_blank_text line) [] (answer_to a r)) the_theorem,
+        ap (λ r. cond (is_blank_text line) a (after_batch a r)) the_theorem,
       )
     ] in
     step (is_blank_text line) refl
@@ -84,42 +84,42 @@ scripts_without_order input none =
     (same_answers script_rules plain_rules (λ l. list_any is_at_sign l ≡ false) lines_without_order set.empty _
     (each-take_while _ (is_short line_limit) (lines_of input) (none_in_lines is_at_sign input none)))
 
--- Steps that are said alike are answered alike.
-module _ (says others : List ℕ → Result BatchStep StepFault) (Q : List ℕ → Type 0) (same : (line : List ℕ) → Q line → says line ≡ others line) where
-  same_step : (s : Schedule) (line : List ℕ) → Q line → ((step_rules says).answer s line ≡ (step_rules others).answer s line) × ((step_rules says).after s line ≡ (step_rules others).after s line)
+-- Equal steps have equal answers.
+module _ (denotes others : List ℕ → Result BatchStep ScheduleLineError) (Q : List ℕ → Type 0) (same : (line : List ℕ) → Q line → denotes line ≡ others line) where
+  same_step : (s : Schedule) (line : List ℕ) → Q line → ((step_rules denotes).answer s line ≡ (step_rules others).answer s line) × ((step_rules denotes).after s line ≡ (step_rules others).after s line)
   same_step s line each = (
     ap (λ r. cond (is_blank_text line) [] (answer_to_step s r)) (same line each),
     ap (λ r. cond (is_blank_text line) (next_line s) (with_step (next_line s) (step_taken s r))) (same line each),
   )
 
-  same_schedule : (input : List ℕ) → AllByRecursion Q (lines_of input) → script_text (step_rules says) line_limit start_schedule input ≡ script_text (step_rules others) line_limit start_schedule input
+  same_schedule : (input : List ℕ) → AllByRecursion Q (lines_of input) → script_text (step_rules denotes) line_limit start_schedule input ≡ script_text (step_rules others) line_limit start_schedule input
   same_schedule input each =
       let lines = lines_of input in
       let read = take_while (is_short line_limit) lines in
-      ap (λ text. text ++ cond (list_all (is_short line_limit) lines) (last_lines (after_lines (step_rules says) start_schedule lines)) [])
-      (same_answers (step_rules says) (step_rules others) Q same_step start_schedule read (each-take_while Q (is_short line_limit) lines each))
+      ap (λ text. text ++ cond (list_all (is_short line_limit) lines) (last_lines (after_lines (step_rules denotes) start_schedule lines)) [])
+      (same_answers (step_rules denotes) (step_rules others) Q same_step start_schedule read (each-take_while Q (is_short line_limit) lines each))
       ∙ ap (λ s. answers_to (step_rules others) start_schedule read ++ cond (list_all (is_short line_limit) lines) (last_lines s) [])
-      (same_left (step_rules says) (step_rules others) Q same_step start_schedule lines each)
+      (same_left (step_rules denotes) (step_rules others) Q same_step start_schedule lines each)
 
--- Lines whose batches say the same say the same.
-begin_alike : (batch other : List ℕ → Result (List Command) LineFault) (text : List ℕ) → (is_blank_text (behind_word text) ≡ false → batch (behind_word text) ≡ other (behind_word text)) → begin_of batch text ≡ begin_of other text
+-- Lines with equal batches have equal steps.
+begin_alike : (batch other : List ℕ → Result (List Command) LineError) (text : List ℕ) → (is_blank_text (after_word text) ≡ false → batch (after_word text) ≡ other (after_word text)) → begin_of batch text ≡ begin_of other text
 begin_alike batch other text same =
-    let begun : Result (List Command) LineFault → Result BatchStep StepFault = λ r. client_by (word_of text) >>= (λ c. as_in_script r >>= (λ commands. Ok (Begin c commands))) in
-    let step : (b : Bool) → is_blank_text (behind_word text) ≡ b → cond b (Err (Line WrongCount)) (begun (batch (behind_word text))) ≡ cond b (Err (Line WrongCount)) (begun (other (behind_word text))) =
-    λ b. elim b as (λ v. is_blank_text (behind_word text) ≡ v → cond v (Err (Line WrongCount)) (begun (batch (behind_word text))) ≡ cond v (Err (Line WrongCount)) (begun (other (behind_word text)))) [
+    let begins_match : Result (List Command) LineError → Result BatchStep ScheduleLineError = λ r. client_by (word_of text) >>= (λ c. as_in_script r >>= (λ commands. Ok (Begin c commands))) in
+    let step : (b : Bool) → is_blank_text (after_word text) ≡ b → cond b (Err (Line WrongCount)) (begins_match (batch (after_word text))) ≡ cond b (Err (Line WrongCount)) (begins_match (other (after_word text))) =
+    λ b. elim b as (λ v. is_blank_text (after_word text) ≡ v → cond v (Err (Line WrongCount)) (begins_match (batch (after_word text))) ≡ cond v (Err (Line WrongCount)) (begins_match (other (after_word text)))) [
       | true ↦ λ is. refl
-      | false ↦ λ is. ap begun (same is)
+      | false ↦ λ is. ap begins_match (same is)
     ] in
-    step (is_blank_text (behind_word text)) refl
+    step (is_blank_text (after_word text)) refl
 
-said_alike : (batch other : List ℕ → Result (List Command) LineFault) (line : List ℕ) → (is_blank_text (behind_word (behind_word line)) ≡ false → batch (behind_word (behind_word line)) ≡ other (behind_word (behind_word line))) → said_by batch line ≡ said_by other line
-said_alike batch other line same =
-    ap (λ r. cond (bytes_eq (word_of line) (codes "begin")) r (other_step (word_of line) (behind_word line))) (begin_alike batch other (behind_word line) same)
+steps_alike : (batch other : List ℕ → Result (List Command) LineError) (line : List ℕ) → (is_blank_text (after_word (after_word line)) ≡ false → batch (after_word (after_word line)) ≡ other (after_word (after_word line))) → step_with_batches batch line ≡ step_with_batches other line
+steps_alike batch other line same =
+    ap (λ r. cond (bytes_eq (word_of line) (codes "begin")) r (other_step (word_of line) (after_word line))) (begin_alike batch other (after_word line) same)
 
 pub schedules_of_single_commands : SchedulesOfSingleCommands
 schedules_of_single_commands input none =
-    same_schedule said_step (said_by one_command) (λ l. list_any is_semicolon l ≡ false)
-    (λ line line_none. said_alike (batch_of command_of) one_command line (one_alike (behind_word (behind_word line)) (none_behind is_semicolon (behind_word line) (none_behind is_semicolon line line_none).1).1))
+    same_schedule step_of_line (step_with_batches one_command) (λ l. list_any is_semicolon l ≡ false)
+    (λ line line_none. steps_alike (batch_of command_of) one_command line (one_alike (after_word (after_word line)) (none_after is_semicolon (after_word line) (none_after is_semicolon line line_none).1).1))
     input (none_in_lines is_semicolon input none)
   where
     one_alike : (text : List ℕ) → list_any is_semicolon text ≡ false → is_blank_text text ≡ false → batch_of command_of text ≡ one_command text
@@ -127,6 +127,6 @@ schedules_of_single_commands input none =
 
 pub schedules_without_order : SchedulesWithoutOrder
 schedules_without_order input none =
-    same_schedule said_step (said_by (batch_of (command_by plain_operand_of))) (λ l. list_any is_at_sign l ≡ false)
-    (λ line line_none. said_alike (batch_of command_of) (batch_of (command_by plain_operand_of)) line (λ some. batch_plain (behind_word (behind_word line)) (none_behind is_at_sign (behind_word line) (none_behind is_at_sign line line_none).1).1))
+    same_schedule step_of_line (step_with_batches (batch_of (command_by plain_operand_of))) (λ l. list_any is_at_sign l ≡ false)
+    (λ line line_none. steps_alike (batch_of command_of) (batch_of (command_by plain_operand_of)) line (λ some. batch_plain (after_word (after_word line)) (none_after is_at_sign (after_word line) (none_after is_at_sign line line_none).1).1))
     input (none_in_lines is_at_sign input none)

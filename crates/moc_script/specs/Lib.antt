@@ -5,4 +5,4 @@ pub use Rattle.moc_lines.specs.Numberings
 pub mod Schedules
 pub mod Crews
 pub mod Private
-pub mod Laws
+pub mod Theorems

@@ -1,4 +1,4 @@
--- Words that contracts of private functions, and views of types, alone cite.
+-- Definitions that only contracts of private functions and views of types use.
 pub mod Codes
 pub mod Texts
 pub mod LaneWork

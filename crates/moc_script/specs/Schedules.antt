@@ -1,11 +1,11 @@
--- Schedules of steps on the step machine: what their lines say, and the texts that answer them.
+-- Schedules of steps on the step machine: the steps of their lines, and the texts of their answers.
 use Rattle.std.specs.Prelude.{ℕ, List, codes, nat_lt, Result, Ok, Err, if◌then◌else◌, suc, ◌==◌, [], ◌∷◌, ◌++◌, decimal}
 use Rattle.std.specs.Prelude.{get_or, Option, None, Some}
-use Rattle.moc_text.specs.Names.{told_fault}
-use Rattle.moc_lines.specs.Language.{name_of_line, is_blank_text, word_of, behind_word, number_spelled, ◌>>=◌}
+use Rattle.moc_text.specs.Names.{fault_report}
+use Rattle.moc_lines.specs.Language.{name_of_line_error, is_blank_text, word_of, after_word, decimal_value, ◌>>=◌}
 use Rattle.moc_lines.specs.Language.{only_field, two_numbers, command_of, batch_of, cover_text, replies_text}
-use Rattle.moc_script.specs.declared.fault.StepFault.{StepFault}
-use Rattle.moc_script.specs.declared.fault.StepFault.TheVariants.{Line, ClientTooLarge, PartTooLarge}
+use Rattle.moc_script.specs.declared.fault.ScheduleLineError.{ScheduleLineError}
+use Rattle.moc_script.specs.declared.fault.ScheduleLineError.TheVariants.{Line, ClientTooLarge, PartTooLarge}
 use Rattle.moc_steps.specs.declared.error.StepError.{StepError}
 use Rattle.moc_steps.specs.declared.error.StepError.TheVariants.{NotIdle, Idle, PartHeld, AllTaken, NotAllTaken}
 use Rattle.moc_steps.specs.declared.error.StepError.TheVariants.{NotHeld, AlreadyEdited, NotEdited, BegunEditing}
@@ -16,8 +16,8 @@ use Rattle.std.specs.Str.{bytes_eq}
 use Rattle.moc_parts.specs.declared.command.Command.{Command}
 use Rattle.moc_steps.specs.Machine.{Step, refusal, World, Entry, start_world, world_after, reply_to, whole}
 use Rattle.moc_steps.specs.Machine.Step.{Begin, Take, Edit, Give, Quit, End}
-use Rattle.moc_lines.specs.declared.fault.LineFault.{LineFault}
-use Rattle.moc_lines.specs.declared.fault.LineFault.TheVariants.{UnknownWord, WrongCount, BadNumber}
+use Rattle.moc_lines.specs.declared.fault.LineError.{LineError}
+use Rattle.moc_lines.specs.declared.fault.LineError.TheVariants.{UnknownWord, WrongCount, BadNumber}
 use Rattle.std.specs.List.{cons_option, flat_map}
 use Rattle.std.specs.FinSet as set
 use Rattle.std.specs.FinMap as map
@@ -25,15 +25,16 @@ use Rattle.moc_parts.specs.Batches.{batches}
 use Rattle.moc_parts.specs.declared.reply.Reply.{Reply}
 use Rattle.moc_lines.specs.Runs.{Rules, script_text, line_limit}
 
--- Faults and refusals
+-- Errors
 
--- the name of the fault of a line
-abbrev pub name_of_step : StepFault → List ℕ
-name_of_step (Line fault) = name_of_line fault
-name_of_step ClientTooLarge = codes "ClientTooLarge"
-name_of_step PartTooLarge = codes "PartTooLarge"
+-- the name of the error of a line
+abbrev pub name_of_step_error : ScheduleLineError → List ℕ
+name_of_step_error (Line fault) = name_of_line_error fault
+name_of_step_error ClientTooLarge = codes "ClientTooLarge"
+name_of_step_error PartTooLarge = codes "PartTooLarge"
 
--- the name of a refusal, without its numbers; Memory is never answered as a refusal, since it ends the schedule
+-- the name of the error of a refused step, without its numbers; Memory is not the answer of a step, since it ends the
+-- schedule
 abbrev pub name_of_refusal : StepError → List ℕ
 name_of_refusal NotIdle = codes "NotIdle"
 name_of_refusal Idle = codes "Idle"
@@ -50,49 +51,49 @@ name_of_refusal Quitting = codes "Quitting"
 name_of_refusal Memory = codes "Memory"
 name_of_refusal TooMany = codes "TooMany"
 
--- What a line says
+-- The step of a line
 
--- a step by a client's batch of commands
+-- a step with a client's batch of commands
 abbrev pub BatchStep : Type 0
 BatchStep = Step (List Command)
 
--- what a text says as in a script, or its fault as one of a schedule
-abbrev pub as_in_script : {A : Type 0} → Result A LineFault → Result A StepFault
-as_in_script said = result_map_both (λ x. x) (λ fault. Line fault) said
+-- the result of parsing as in a script, with its error as one of a schedule
+abbrev pub as_in_script : {A : Type 0} → Result A LineError → Result A ScheduleLineError
+as_in_script parsed = result_map_both (λ x. x) (λ fault. Line fault) parsed
 
--- the client that a field names: a number of 32 bits
-abbrev pub client_by : List ℕ → Result ℕ StepFault
+-- the client of a field: a number of 32 bits
+abbrev pub client_by : List ℕ → Result ℕ ScheduleLineError
 client_by field = do
-  client ← ok_or (number_spelled field) (Line BadNumber)
+  client ← ok_or (decimal_value field) (Line BadNumber)
   if nat_lt 4294967295 client then Err ClientTooLarge else Ok client
 
--- the client that a text names: it has just one field
-abbrev pub only_client : List ℕ → Result ℕ StepFault
+-- the client of a text: exactly one field
+abbrev pub only_client : List ℕ → Result ℕ ScheduleLineError
 only_client text = do
   field ← as_in_script (only_field text)
   client_by field
 
--- the client and the part, one of twelve, that a text names: it has just two fields
-abbrev pub only_client_and_part : List ℕ → Result (ℕ × ℕ) StepFault
+-- the client and the part, one of twelve, of a text: exactly two fields
+abbrev pub only_client_and_part : List ℕ → Result (ℕ × ℕ) ScheduleLineError
 only_client_and_part text = do
   (c, b) ← as_in_script (two_numbers text)
   if nat_lt 4294967295 c then Err ClientTooLarge
       else (if nat_lt 11 b then Err PartTooLarge else Ok (c, b))
 
 -- a step of a client, which the text names
-abbrev pub step_by : (ℕ → BatchStep) → List ℕ → Result BatchStep StepFault
+abbrev pub step_by : (ℕ → BatchStep) → List ℕ → Result BatchStep ScheduleLineError
 step_by step text = do
   c ← only_client text
   Ok (step c)
 
 -- a step of a client at a part, which the text names
-abbrev pub step_at : (ℕ → ℕ → BatchStep) → List ℕ → Result BatchStep StepFault
+abbrev pub step_at : (ℕ → ℕ → BatchStep) → List ℕ → Result BatchStep ScheduleLineError
 step_at step text = do
   both ← only_client_and_part text
   Ok (step both.0 both.1)
 
--- the step of a word that begins no operation, and of what stands behind it
-abbrev pub other_step : List ℕ → List ℕ → Result BatchStep StepFault
+-- the step with a word that does not begin an operation, and the text after it
+abbrev pub other_step : List ℕ → List ℕ → Result BatchStep ScheduleLineError
 other_step word text =
     if bytes_eq word (codes "take") then step_by (λ c. Take c) text
     else (if bytes_eq word (codes "edit") then step_at (λ c b. Edit c b) text
@@ -101,36 +102,36 @@ other_step word text =
     else (if bytes_eq word (codes "end") then step_by (λ c. End c) text
     else Err (Line UnknownWord)))))
 
-module _ (batch_says : List ℕ → Result (List Command) LineFault) where
-  -- what stands behind `begin`: a client, and its batch of commands
-  abbrev pub begin_by : List ℕ → List ℕ → Result BatchStep StepFault
+module _ (batch_parser : List ℕ → Result (List Command) LineError) where
+  -- the rest of `begin`: a client, and its batch of commands
+  abbrev pub begin_by : List ℕ → List ℕ → Result BatchStep ScheduleLineError
   begin_by client line = do
     c ← client_by client
-    commands ← as_in_script (batch_says line)
+    commands ← as_in_script (batch_parser line)
     Ok (Begin c commands)
 
-  -- what stands behind `begin`, with a word behind the client
-  abbrev pub begin_of : List ℕ → Result BatchStep StepFault
+  -- the rest of `begin`, with a word after the client
+  abbrev pub begin_of : List ℕ → Result BatchStep ScheduleLineError
   begin_of text =
-      if is_blank_text (behind_word text) then Err (Line WrongCount) else begin_by (word_of text) (behind_word text)
+      if is_blank_text (after_word text) then Err (Line WrongCount) else begin_by (word_of text) (after_word text)
 
-  -- the step that a line says, where a batch of commands is said so
-  abbrev pub said_by : List ℕ → Result BatchStep StepFault
-  said_by line =
-      if bytes_eq (word_of line) (codes "begin") then begin_of (behind_word line)
-      else other_step (word_of line) (behind_word line)
+  -- the step of a line, given a parser of batches
+  abbrev pub step_with_batches : List ℕ → Result BatchStep ScheduleLineError
+  step_with_batches line =
+      if bytes_eq (word_of line) (codes "begin") then begin_of (after_word line)
+      else other_step (word_of line) (after_word line)
 
--- the step that a line says
-abbrev pub said_step : List ℕ → Result BatchStep StepFault
-said_step line = said_by (batch_of command_of) line
+-- the step of a line
+abbrev pub step_of_line : List ℕ → Result BatchStep ScheduleLineError
+step_of_line line = step_with_batches (batch_of command_of) line
 
--- What it is answered
+-- The answer to a line
 
--- where a schedule stands
+-- the state of a schedule
 pub record Schedule : Type 0 where
   -- the step machine, of batches of commands
   pub world : World (List Command) (List Reply)
-  -- how many lines were read
+  -- the number of lines that were read
   pub lines : ℕ
   -- for each operation the number of the line that began it, from 1
   pub begins : List ℕ
@@ -139,32 +140,32 @@ pub record Schedule : Type 0 where
 abbrev pub start_schedule : Schedule
 start_schedule = record { world = start_world batches set.empty; lines = 0; begins = [] }
 
--- what is said of a permitted step: the replies of an End that did not quit
+-- the answer to a permitted step: the replies of an End that did not quit
 abbrev pub done_text : Option (List Reply) → List ℕ
 done_text replies = option_map_or replies_text replies (codes "ok")
 
--- the answer to what a line says, with its line feed: a step is refused, or done
-abbrev pub answer_to_step : Schedule → Result BatchStep StepFault → List ℕ
+-- the answer to a parsed line, with its line feed: a step is refused, or done
+abbrev pub answer_to_step : Schedule → Result BatchStep ScheduleLineError → List ℕ
 answer_to_step s (Ok step) =
     option_map_or (λ why. codes "refused " ++ name_of_refusal why) (refusal batches s.world.locks step)
     (done_text (reply_to batches s.world step)) ++ 10 ∷ []
-answer_to_step s (Err fault) = told_fault (name_of_step fault)
+answer_to_step s (Err fault) = fault_report (name_of_step_error fault)
 
 -- one more line was read
 abbrev pub next_line : Schedule → Schedule
 next_line s = record s { lines = suc s.lines }
 
--- the lines that began operations, after a step of the line of this number
+-- the lines that began operations, after a step of the line with this number
 abbrev pub begin_lines_after : List ℕ → ℕ → BatchStep → List ℕ
 begin_lines_after begins number (Begin c commands) = begins ++ number ∷ []
 begin_lines_after begins number step = begins
 
--- the step that is taken by what a line says: none at a fault, and where it is refused
-abbrev pub step_taken : Schedule → Result BatchStep StepFault → Option BatchStep
+-- the step of a parsed line: none if the line is invalid or the step is refused
+abbrev pub step_taken : Schedule → Result BatchStep ScheduleLineError → Option BatchStep
 step_taken s (Ok step) = option_map_or (λ why. None) (refusal batches s.world.locks step) (Some step)
 step_taken s (Err fault) = None
 
--- what a step leaves that the last line took; where it took none, nothing changes
+-- the state after the step of the last line; without a step it is unchanged
 abbrev pub with_step : Schedule → Option BatchStep → Schedule
 with_step s None = s
 with_step s (Some step) = record s {
@@ -176,7 +177,7 @@ with_step s (Some step) = record s {
 abbrev pub begin_lines : List ℕ → List (Entry (List Reply)) → List ℕ
 begin_lines begins order = flat_map (λ entry. codes " " ++ decimal (get_or begins entry.begin 0)) order
 
--- the set of the twelve parts, or how many clients are midway
+-- the set of the twelve parts, or the number of clients in the middle of a batch
 abbrev pub end_text : World (List Command) (List Reply) → List ℕ
 end_text w =
     let midway = map.len w.locks.clients in
@@ -186,25 +187,25 @@ end_text w =
 abbrev pub last_lines : Schedule → List ℕ
 last_lines s = codes "order" ++ begin_lines s.begins s.world.order ++ 10 ∷ end_text s.world ++ 10 ∷ []
 
--- how lines that say steps are answered; blank ones have no answer, and are counted
-abbrev pub step_rules : (List ℕ → Result BatchStep StepFault) → Rules Schedule
-step_rules says = record {
-  answer = λ s line. if is_blank_text line then [] else answer_to_step s (says line);
-  after = λ s line. if is_blank_text line then next_line s else with_step (next_line s) (step_taken s (says line));
+-- the rules for lines of steps, given a parser of lines; blank lines have no answer, and are counted
+abbrev pub step_rules : (List ℕ → Result BatchStep ScheduleLineError) → Rules Schedule
+step_rules denotes = record {
+  answer = λ s line. if is_blank_text line then [] else answer_to_step s (denotes line);
+  after = λ s line. if is_blank_text line then next_line s else with_step (next_line s) (step_taken s (denotes line));
   closing = last_lines;
 }
 
--- how the lines of a schedule are answered
+-- the rules for the lines of a schedule
 abbrev pub schedule_rules : Rules Schedule
-schedule_rules = step_rules said_step
+schedule_rules = step_rules step_of_line
 
--- the steps that lines take, each on what those before it leave
+-- the steps of lines, each in the state after those before it
 abbrev pub steps_taken : Schedule → List (List ℕ) → List BatchStep
 steps_taken s [] = []
 steps_taken s (line ∷ lines) =
-    cons_option (if is_blank_text line then None else step_taken s (said_step line))
+    cons_option (if is_blank_text line then None else step_taken s (step_of_line line))
     (steps_taken (schedule_rules.after s line) lines)
 
--- the text that a schedule is answered with
+-- the answers to a schedule
 abbrev pub schedule_text : List ℕ → List ℕ
 schedule_text input = script_text schedule_rules line_limit start_schedule input

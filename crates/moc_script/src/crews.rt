@@ -1,29 +1,28 @@
-//! Scripts that several threads answer.
+//! Scripts that several threads answer together. A crew is a set of such threads; each thread is a lane.
 ghost use Rattle.std.specs.Prelude.{◌≡◌, ◌≢◌, ◌<◌, ◌↔◌, false, IfOk, IfSome, IfErr, OnOk, OnErr};
 ghost use Rattle.std.specs.Prelude.{Err, IsErrOf, IsTrue, length};
 ghost use Rattle.moc_lines.specs.Runs.{EndsFlushed};
 ghost use Rattle.moc_text.specs.Lines.{lines_of};
-ghost use Rattle.moc_script.specs.Crews.{CrewEnds, CrewFlushes, cover_line, lane_count, said_lines};
+ghost use Rattle.moc_script.specs.Crews.{CrewEnds, CrewFlushes, cover_line, lane_count, nonblank_lines};
 ghost use Rattle.moc_script.specs.Private.Gathering.{NamesLine};
-ghost use Rattle.moc_script.specs.Private.Joining.{EndsTold, AreTold};
+ghost use Rattle.moc_script.specs.Private.Joining.{EndsWriting, AreCrewAnswers};
 
 mod gate;
 mod gathering;
-mod joining;
 mod lane;
 mod lanes;
-mod laws;
 mod lines;
+mod merging;
 mod texts;
+mod theorems;
 mod threads;
 
 use crate::crew_error::CrewError;
 pub use gate::{Gate, OpenGate};
-use gathering::{all_done, take_in_all};
-use joining::{JoinError, write_joined};
+use gathering::{all_outputs, take_in_all};
 use lane::Job;
 pub use lanes::Lanes;
-pub use laws::crews_answer_each_line;
+use merging::{MergeError, write_merged};
 use moc_devices::{Sink, Source};
 use moc_lines::{RunError, push_cover, read_all};
 use moc_ranges::{Coverage, Memory};
@@ -33,34 +32,36 @@ use std::marker::Sync;
 use std::sync::Wait;
 use std::thread::Threads;
 use texts::Texts;
+pub use theorems::crews_answer_each_line;
 use threads::{LanesError, run_lanes};
 
-/// What a crew answers.
+/// The output of a crew.
 #[derive(Drop)]
-struct Told {
+struct CrewOutput {
     /// The answers of each lane, in order.
     answers: Vec<Texts>,
-    /// The line behind them: the cover of the set after all lines.
+    /// The line after the answers: the cover of the set after all lines.
     cover: Vec<u8>,
 }
 
-/// The answers to the lines, and the cover of the set after them.
+/// Answers the lines. Returns the answers, and the cover of the set after them.
 fn answer_all<R: Threads + Wait + Sync, G: Gate + Sync>(
     rt: &R,
     alloc: Global,
     gate: &G,
     input: &[u8],
     lanes: Lanes,
-) -> Result<Told, LanesError>
-    ensures told { IfOk result (λ told.
-        AreTold (lane_count lanes) (said_lines (lines_of input.now)) told.answers.items told.cover.items) }
+) -> Result<CrewOutput, LanesError>
+    ensures reported { IfOk result (λ reported.
+        AreCrewAnswers (lane_count lanes) (nonblank_lines (lines_of input.now)) reported.answers.items
+        reported.cover.items) }
     ensures line { IfErr result (λ e. NamesLine input.now e) }
 {
     let start = Coverage::empty(alloc);
     let lanes = lanes.get();
     let (map, clients) = match SharedMap::new(alloc, start, lanes) {
         Ok((map, clients)) => (map, clients),
-        // Lanes are 1 to 64.
+        // The number of lanes is from 1 to 64.
         Err(NewError::BadCount) => unreachable!(),
         Err(NewError::Memory) => return Err(LanesError::Memory { line: 0 }),
     };
@@ -70,19 +71,19 @@ fn answer_all<R: Threads + Wait + Sync, G: Gate + Sync>(
         lanes,
     };
     let ends = run_lanes(rt, alloc, gate, job, clients)?;
-    let done = all_done(alloc, ends)?;
+    let done = all_outputs(alloc, ends)?;
     let (client, answers) = take_in_all(alloc, job, done)?;
     let set = match map.close(client) {
         Ok(set) => set,
-        // The client stands for all, and holds no part.
+        // The client stands for all clients, and holds no part.
         Err(CloseError::Midway { part: _ }) => unreachable!(),
-        Err(CloseError::Memory) => return Err(LanesError::MemoryBehind),
+        Err(CloseError::Memory) => return Err(LanesError::MemoryAfterLast),
     };
     let cover = line_of_cover(alloc, &set)?;
-    Ok(Told { answers, cover })
+    Ok(CrewOutput { answers, cover })
 }
 
-/// The line that tells the cover of a set.
+/// Returns the line of the cover of a set.
 fn line_of_cover(alloc: Global, set: &Coverage) -> Result<Vec<u8>, Memory>
     ensures { IfOk result (λ line. line.items ≡ cover_line set.now) }
 {
@@ -92,20 +93,30 @@ fn line_of_cover(alloc: Global, set: &Coverage) -> Result<Vec<u8>, Memory>
     Ok(line)
 }
 
-/// Answers a script by so many lanes, each a thread with a client of one map, which starts empty. A lane that is alone
-/// is the caller's thread.
+/// Answers a script by several lanes. Each lane is a thread with its own client of one shared map, which is empty at
+/// first; a single lane runs on the caller's thread. `rt` starts the threads, and lets them wait for each other.
 ///
-/// All lines are read first. The lines that are not blank go to the lanes in turn, the first to lane 0. Lines and
-/// answers are those of `run`. The answers are those of the lines in one order, which keeps each lane's order; they are
-/// written in the order of the lines, and behind them, as `read` of the whole sky would answer, the cover of the set.
+/// All lines are read first. The lines that are not blank are dealt to the lanes in turn, the first to lane 0. Lines
+/// and answers are those of `run`. The answers are those of all lines in one order, which keeps the order of each lane.
+/// They are written in the order of the lines; after them comes the cover of the set, as `read` of the whole sky would
+/// show it.
 ///
-/// A lane tells the gate of each line before it begins it, and once it has the answer. Nothing is written before all
-/// lanes have ended. Where the call ends with a fault, nothing is written, and on `Write` as much of the text as the
-/// writer took. `Memory` names the line that was read or answered, of several lanes' lines the least; 0 is before any
-/// line is read, and for the map and the threads, and one more than the lines that were read is after all. `Spawn` goes
-/// before the lanes' `Memory`. Once memory or a thread is refused, each lane stops before its next line. After the
-/// whole text the writer is flushed, once. Takes memory linear in the script and its answers. Each lane passes over all
-/// lines and parses its own. May wait for parts that other lanes hold.
+/// A lane calls the gate before it begins a line, and again after it has the answer. Nothing is written before all
+/// lanes have ended. After the whole text the writer is flushed, once. The call may wait for parts that other lanes
+/// hold.
+///
+/// # Errors
+/// If the call fails, nothing is written, except that for `Write` the output is as much of the text as the writer
+/// accepted. `Memory` names the line that was read or answered, and the least one if several lanes failed. It names 0
+/// if the allocation failed before the first line was read, or for the map and the threads, and one more than the
+/// number of lines if it failed after all lines. `Spawn` takes precedence over `Memory` of a lane. Once an allocation
+/// or the start of a thread fails, each lane stops before its next line.
+///
+/// # Complexity
+/// Each lane passes over all lines and parses its own.
+///
+/// # Memory
+/// Linear in the script and its answers.
 pub fn crew<R: Source, W: Sink, G: Gate + Sync, T: Threads + Wait + Sync>(
     rt: &T,
     alloc: Global,
@@ -117,37 +128,37 @@ pub fn crew<R: Source, W: Sink, G: Gate + Sync, T: Threads + Wait + Sync>(
     requires reader { R.mark reader.old ≡ false }
     requires writer { W.mark writer.old ≡ false }
 
-    // What is written is a text that so many lanes may answer the input with, as far as the outcome says.
+    // What is written is a text with which this number of lanes may answer the input, as far as the result states.
     ensures ends { CrewEnds (lane_count lanes)
         (R.reading reader.old) (R.reading reader.new) (W.writing writer.old) (W.writing writer.new) result }
 
-    // Only the reader's end ends a crew without a fault, and then all is flushed, at once.
+    // The call succeeds only at the end of the input, and then flushes once after all output.
     ensures end { EndsFlushed result (R.reading reader.new) (W.flushed writer.old) (W.flushed writer.new) }
     ensures flushes { CrewFlushes result (W.flushes writer.old) (W.flushes writer.new) }
 
-    // The devices' faults are theirs, and a device that failed is told.
+    // An error names a device only if it has failed; a device that has failed is reported.
     ensures read { IsErrOf result (CrewError.Run RunError.Read) → IsTrue (R.mark reader.new) }
     ensures write { IsErrOf result (CrewError.Run RunError.Write) ↔ IsTrue (W.mark writer.new) }
-    ensures told { IsTrue (R.mark reader.new) → IsErrOf result (CrewError.Run RunError.Read) }
+    ensures reported { IsTrue (R.mark reader.new) → IsErrOf result (CrewError.Run RunError.Read) }
 {
     let input = read_all(alloc, reader)?;
-    let told = match answer_all(rt, alloc, gate, &input, lanes) {
-        Ok(told) => told,
-        Err(error) => return Err(error.told_of(&input)),
+    let reported = match answer_all(rt, alloc, gate, &input, lanes) {
+        Ok(reported) => reported,
+        Err(error) => return Err(error.into_crew_error(&input)),
     };
-    write_told(alloc, &input, &told, writer)
+    write_output(alloc, &input, &reported, writer)
 }
 
-/// Writes what a crew answers the lines that it has read, and sends it on.
-fn write_told<W: Sink>(
+/// Writes the answers to the lines of the input, and flushes the writer.
+fn write_output<W: Sink>(
     alloc: Global,
     input: &[u8],
-    told: &Told,
+    reported: &CrewOutput,
     writer: &mut W,
 ) -> Result<(), CrewError>
-    requires some { 0 < length told.now.answers.items }
+    requires some { 0 < length reported.now.answers.items }
     requires writer { W.mark writer.old ≡ false }
-    ensures ends { EndsTold input.now told.now.answers.items told.now.cover.items
+    ensures ends { EndsWriting input.now reported.now.answers.items reported.now.cover.items
         (W.writing writer.old) (W.writing writer.new) result }
     ensures flushed { OnOk result (IsTrue (W.flushed writer.new)) }
     ensures unflushed { OnErr result (IsTrue (W.flushed writer.new) → IsTrue (W.flushed writer.old)) }
@@ -155,10 +166,10 @@ fn write_told<W: Sink>(
     ensures write { IsErrOf result (CrewError.Run RunError.Write) ↔ IsTrue (W.mark writer.new) }
     ensures read { result ≢ Err (CrewError.Run RunError.Read) }
 {
-    match write_joined(alloc, &told.answers, &told.cover, writer) {
+    match write_merged(alloc, &reported.answers, &reported.cover, writer) {
         Ok(()) => {}
-        Err(JoinError::Memory) => return Err(LanesError::MemoryBehind.told_of(input)),
-        Err(JoinError::Write) => return Err(RunError::Write.into()),
+        Err(MergeError::Memory) => return Err(LanesError::MemoryAfterLast.into_crew_error(input)),
+        Err(MergeError::Write) => return Err(RunError::Write.into()),
     }
     if writer.flush().is_err() {
         return Err(RunError::Write.into());

@@ -1,4 +1,4 @@
-//! The answers to lines, by the step machine.
+//! The answers of the step machine to lines.
 ghost use Rattle.std.specs.Prelude.{◌≡◌, ◌++◌, ◌∷◌, [], IfOk, Ok, OnOk, codes, get_or};
 ghost use Rattle.moc_steps.specs.Played.{entries_of, step_of};
 ghost use Rattle.moc_script.specs.Schedules.{answer_to_step, begin_lines, done_text, end_text};
@@ -6,14 +6,14 @@ ghost use Rattle.moc_script.specs.Schedules.{name_of_refusal, schedule_rules, st
 
 use crate::fault::ReadStepError;
 use crate::step::read_step;
-use moc_lines::{Responder, is_blank_text, push_count, push_cover, push_fault, push_reply_line};
+use moc_lines::{Responder, is_blank_text, push_count, push_cover, push_error, push_reply_line};
 use moc_parts::Replies;
 use moc_ranges::{Coverage, Memory};
 use moc_steps::{CoverError, Entry, Step, StepError, World};
 use std::alloc::Global;
 use std::marker::Model;
 
-/// The step machine, how many lines were read, and for each operation the line that began it.
+/// The step machine, the number of lines that were read, and for each operation the line that began it.
 #[derive(Drop)]
 pub(crate) struct Player {
     world: World,
@@ -33,7 +33,7 @@ impl Model for Player {
 }
 
 impl Player {
-    /// A machine whose set is empty, before the first line.
+    /// Returns a machine whose set is empty, before the first line.
     pub(crate) fn new(alloc: Global) -> Result<Player, Memory>
         ensures { IfOk result (λ player. player ≡ start_schedule) }
     {
@@ -44,7 +44,7 @@ impl Player {
         })
     }
 
-    /// Takes the step that the last line says, if it is permitted, and adds the answer.
+    /// Takes the step of the last line if it is permitted, and appends the answer.
     fn take(&mut self, alloc: Global, step: Step, text: &mut Vec<u8>) -> Result<(), Memory>
         ensures text { OnOk result (text.new.items ≡ text.old.items ++ answer_to_step self.old (Ok (step_of step))) }
         ensures after { OnOk result (self.new ≡ with_step self.old (step_taken self.old (Ok (step_of step)))) }
@@ -55,7 +55,7 @@ impl Player {
                 if is_begin {
                     self.begins.push(self.lines)?;
                 }
-                push_done(alloc, replies, text)
+                push_permitted(alloc, replies, text)
             }
             Err(StepError::Memory) => Err(Memory),
             Err(why) => push_refused(why, text),
@@ -78,7 +78,7 @@ impl Responder for Player {
         }
         match read_step(alloc, line) {
             Ok(step) => self.take(alloc, step, text),
-            Err(ReadStepError::Fault(fault)) => push_fault(fault.name(), text),
+            Err(ReadStepError::Fault(fault)) => push_error(fault.name(), text),
             Err(ReadStepError::Memory) => Err(Memory),
         }
     }
@@ -93,8 +93,8 @@ impl Responder for Player {
     }
 }
 
-/// Adds what is said of a permitted step.
-fn push_done(alloc: Global, replies: Option<Replies>, text: &mut Vec<u8>) -> Result<(), Memory>
+/// Appends the answer to a permitted step.
+fn push_permitted(alloc: Global, replies: Option<Replies>, text: &mut Vec<u8>) -> Result<(), Memory>
     ensures { OnOk result (text.new.items ≡ text.old.items ++ (done_text replies ++ 10 ∷ [])) }
 {
     match replies {
@@ -104,7 +104,7 @@ fn push_done(alloc: Global, replies: Option<Replies>, text: &mut Vec<u8>) -> Res
     Ok(())
 }
 
-/// Adds what is said of a refused step.
+/// Appends the answer to a refused step.
 fn push_refused(why: StepError, text: &mut Vec<u8>) -> Result<(), Memory>
     ensures { OnOk result (text.new.items ≡ text.old.items ++ (codes "refused " ++ name_of_refusal why ++ 10 ∷ [])) }
 {
@@ -114,7 +114,7 @@ fn push_refused(why: StepError, text: &mut Vec<u8>) -> Result<(), Memory>
     Ok(())
 }
 
-/// The name of a refusal, without its numbers.
+/// Returns the name of the error of a refused step, without its numbers.
 fn name_of_refusal(why: StepError) -> &'static str
     ensures { result.now ≡ name_of_refusal why }
 {
@@ -136,7 +136,7 @@ fn name_of_refusal(why: StepError) -> &'static str
     }
 }
 
-/// Adds for each entry a space and the line that began its operation.
+/// Appends for each entry a space and the line that began its operation.
 fn push_order(order: &[Entry], begins: &[u64], text: &mut Vec<u8>) -> Result<(), Memory>
     ensures { OnOk result (text.new.items ≡ text.old.items ++ begin_lines begins.now (entries_of order.now)) }
 {
@@ -146,7 +146,7 @@ fn push_order(order: &[Entry], begins: &[u64], text: &mut Vec<u8>) -> Result<(),
     Ok(())
 }
 
-/// The line that began this operation; 0 where there is none.
+/// Returns the line that began this operation; 0 if there is none.
 fn begin_line(operation: u64, begins: &[u64]) -> u64
     ensures { result ≡ get_or begins.now operation 0 }
 {
@@ -156,7 +156,7 @@ fn begin_line(operation: u64, begins: &[u64]) -> u64
     }
 }
 
-/// Adds the set of the twelve parts, or how many clients are midway.
+/// Appends the set of the twelve parts, or the number of clients that are in the middle of a batch.
 fn push_end(alloc: Global, world: &World, text: &mut Vec<u8>) -> Result<(), Memory>
     ensures { OnOk result (text.new.items ≡ text.old.items ++ end_text world.now) }
 {

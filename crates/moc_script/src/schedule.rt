@@ -1,6 +1,6 @@
 //! Schedules of steps, played from a reader to a writer.
 ghost use Rattle.std.specs.Prelude.{◌≡◌, false, OnOk};
-ghost use Rattle.moc_lines.specs.Runs.{line_limit, AnswersAll, EndsFlushed, Flushes, Runs, TellsFailed};
+ghost use Rattle.moc_lines.specs.Runs.{line_limit, AnswersAll, EndsFlushed, Flushes, Runs, ReportsFailure};
 ghost use Rattle.moc_lines.specs.Runs.{AreLinesAnswered, HasNotEnded};
 ghost use Rattle.moc_script.specs.Schedules.{schedule_rules, schedule_text, start_schedule};
 
@@ -9,8 +9,8 @@ use moc_devices::{GuardedSource, Sink};
 use moc_lines::{RunError, answer_all_lines};
 use std::alloc::Global;
 
-/// Plays a schedule: clients take, change and give back parts of one set of pixels of order 29, which starts empty, a
-/// step a line, on the step machine of `moc_steps`.
+/// Plays a schedule: clients take, change and give back parts of one set of pixels of order 29, which is empty at
+/// first, one step a line, on the step machine of `moc_steps`.
 ///
 /// Lines are those of [`run`](crate::run). A client C is a number of 32 bits, a part B a base pixel, 0 to 11.
 ///
@@ -23,16 +23,24 @@ use std::alloc::Global;
 /// | `quit C` | it gives the batch up, before it has changed a part |
 /// | `end C` | it is idle again |
 ///
-/// A permitted step is answered `ok`, or, where it ends a batch that was not given up, as the batch is answered by
-/// `run`. A step that is not permitted changes nothing, and is answered `refused NAME`; a bad line is no step, and is
-/// answered `fault NAME`. Behind the last line come two more: `order`, with the number of the line that began each
-/// committed batch, in the order in which they stand; and the set as `read` shows it, or `midway N` where N clients
-/// are midway.
+/// The answer to a permitted step is `ok`, except that the end of a committed batch has the batch's answer in `run`. A
+/// step that is not permitted changes nothing, and its answer is `refused NAME`. An invalid line is not a step; its
+/// answer is `fault NAME`. After the last line come two more: `order`, with the number of the line that began each
+/// committed batch, in the order of the batches; and the set as `read` shows it, or `midway N` if N clients are in the
+/// middle of a batch.
 ///
-/// Faults end the call as those of `run` do; what is written then is exactly the answers to the lines before. The two
-/// last lines are made before either is written: where memory is refused for them, `Memory` names the line behind the
-/// last. A step takes O(log n) for n clients midway, besides the batch's own work at its first `edit`; memory is linear
-/// in the sets, the clients midway, the committed batches, and the longest line and answer.
+/// # Errors
+/// If the call fails with `LineTooLong` or `Memory`, the output is exactly the answers to the lines before the line
+/// that the error names. If it fails with `Read`, the output is the answers to the whole lines that were read; with
+/// `Write`, as much of the text as the writer accepted. The two last lines are built before either is written: if an
+/// allocation fails for them, `Memory` names the line after the last.
+///
+/// # Complexity
+/// A step takes O(log n) for n clients in the middle of a batch, in addition to the batch's own work at its first
+/// `edit`.
+///
+/// # Memory
+/// Linear in the sets, the clients in the middle of a batch, the committed batches, and the longest line and answer.
 pub fn play<R: GuardedSource<W>, W: Sink>(
     alloc: Global,
     reader: &mut R,
@@ -59,12 +67,12 @@ pub fn play<R: GuardedSource<W>, W: Sink>(
     ensures answers { OnOk result (AnswersAll schedule_text
         (R.reading reader.old) (R.reading reader.new) (W.writing writer.old) (W.writing writer.new)) }
 
-    // Only the reader's end ends it without a fault, and then all is flushed, at once.
+    // The call succeeds only at the end of the input, and then flushes once after all output.
     ensures end { EndsFlushed result (R.reading reader.new) (W.flushed writer.old) (W.flushed writer.new) }
     ensures flushes { Flushes result (W.flushes writer.old) (W.flushes writer.new) }
 
-    // The devices' faults are theirs, and a device that failed is told.
-    ensures devices { TellsFailed result (R.mark reader.new) (W.mark writer.new) }
+    // An error names a device only if it has failed. If a device has failed, the call fails with `Read` or `Write`.
+    ensures devices { ReportsFailure result (R.mark reader.new) (W.mark writer.new) }
 {
     let Ok(mut player) = Player::new(alloc) else {
         return Err(RunError::Memory { line: 0 });

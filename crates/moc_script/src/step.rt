@@ -1,77 +1,78 @@
-//! The steps that lines of a schedule say.
+//! The steps of the lines of a schedule.
 ghost use Rattle.std.specs.Prelude.{◌≤◌, SomeIff};
 ghost use Rattle.moc_steps.specs.Played.{step_of};
 ghost use Rattle.moc_lines.specs.Language.{batch_of, command_of};
-ghost use Rattle.moc_script.specs.Schedules.{begin_of, client_by, only_client, only_client_and_part, said_step};
-ghost use Rattle.moc_script.specs.Private.StepReading.{ReadsStep};
+ghost use Rattle.moc_script.specs.Schedules.{begin_of, client_by, only_client, only_client_and_part, step_of_line};
+ghost use Rattle.moc_script.specs.Private.StepReading.{ParsesStepAs};
 
-use crate::fault::{ReadStepError, StepFault};
+use crate::fault::{ReadStepError, ScheduleLineError};
 use moc_lines::{
-    LineFault, is_blank_text, is_word, number_in, only_field, read_batch, split_word, two_fields,
+    LineError, is_blank_text, is_word, only_field, parse_decimal, read_batch, split_word,
+    two_fields,
 };
 use moc_parts::Part;
 use moc_steps::Step;
 use std::alloc::Global;
 
-/// The client of this number, or `None` where the number has more than 32 bits.
+/// Returns the client with this number, or `None` if the number has more than 32 bits.
 fn client_of_number(number: u64) -> Option<u32>
     ensures { SomeIff result (number ≤ 4294967295) number }
 {
     u32::try_from(number).ok()
 }
 
-/// The part of this number, or `None` above 11.
+/// Returns the part with this number, or `None` above 11.
 fn part_of_number(number: u64) -> Option<Part>
     ensures { SomeIff result (number ≤ 11) number }
 {
     Part::new(u8::try_from(number).ok()?)
 }
 
-/// The client that a field names.
+/// Parses a client.
 fn read_client(field: &[u8]) -> Result<u32, ReadStepError>
-    ensures { ReadsStep (λ client. client) result (client_by field.now) }
+    ensures { ParsesStepAs (λ client. client) result (client_by field.now) }
 {
-    let number = number_in(field).ok_or(LineFault::BadNumber)?;
-    let client = client_of_number(number).ok_or(StepFault::ClientTooLarge)?;
+    let number = parse_decimal(field).ok_or(LineError::BadNumber)?;
+    let client = client_of_number(number).ok_or(ScheduleLineError::ClientTooLarge)?;
     Ok(client)
 }
 
-/// The client and the part that a text names: it has just two fields.
+/// Parses a client and a part: exactly two fields.
 fn only_client_and_part(text: &[u8]) -> Result<(u32, Part), ReadStepError>
-    ensures { ReadsStep (λ both. both) result (only_client_and_part text.now) }
+    ensures { ParsesStepAs (λ both. both) result (only_client_and_part text.now) }
 {
     let (client, part) = two_fields(text)?;
-    let client = number_in(client).ok_or(LineFault::BadNumber)?;
-    let part = number_in(part).ok_or(LineFault::BadNumber)?;
-    let client = client_of_number(client).ok_or(StepFault::ClientTooLarge)?;
-    let part = part_of_number(part).ok_or(StepFault::PartTooLarge)?;
+    let client = parse_decimal(client).ok_or(LineError::BadNumber)?;
+    let part = parse_decimal(part).ok_or(LineError::BadNumber)?;
+    let client = client_of_number(client).ok_or(ScheduleLineError::ClientTooLarge)?;
+    let part = part_of_number(part).ok_or(ScheduleLineError::PartTooLarge)?;
     Ok((client, part))
 }
 
-/// The client that a text names: it has just one field.
+/// Parses a client: exactly one field.
 fn only_client(text: &[u8]) -> Result<u32, ReadStepError>
-    ensures { ReadsStep (λ client. client) result (only_client text.now) }
+    ensures { ParsesStepAs (λ client. client) result (only_client text.now) }
 {
     let field = only_field(text)?;
     read_client(field)
 }
 
-/// What stands behind `begin`: a client, and a batch of commands.
+/// Parses the rest of `begin`: a client, and a batch of commands.
 fn read_begin(alloc: Global, text: &[u8]) -> Result<Step, ReadStepError>
-    ensures { ReadsStep step_of result (begin_of (batch_of command_of) text.now) }
+    ensures { ParsesStepAs step_of result (begin_of (batch_of command_of) text.now) }
 {
     let (field, line) = split_word(text);
     if is_blank_text(line) {
-        return Err(LineFault::WrongCount.into());
+        return Err(LineError::WrongCount.into());
     }
     let client = read_client(field)?;
     let batch = read_batch(alloc, line)?;
     Ok(Step::Begin { client, batch })
 }
 
-/// The step that a line says.
+/// Parses the step of a line.
 pub(crate) fn read_step(alloc: Global, line: &[u8]) -> Result<Step, ReadStepError>
-    ensures { ReadsStep step_of result (said_step line.now) }
+    ensures { ParsesStepAs step_of result (step_of_line line.now) }
 {
     let (word, text) = split_word(line);
     if is_word(word, "begin") {
@@ -92,6 +93,6 @@ pub(crate) fn read_step(alloc: Global, line: &[u8]) -> Result<Step, ReadStepErro
         let client = only_client(text)?;
         Ok(Step::End { client })
     } else {
-        Err(LineFault::UnknownWord.into())
+        Err(LineError::UnknownWord.into())
     }
 }

@@ -1,4 +1,4 @@
--- What the last state of a table says to a client.
+-- The last state of a table, from the view of one client.
 use Rattle.std.proofs.Common.{◌≡◌, ◌≢◌, ℕ, suc, ◌<◌, List, [], sym, ap, ◌∙◌, subst, ⊎_elim, arith, Contains}
 use Rattle.std.specs.Prelude.{slice_index}
 use mathlib.Core.Option.{none, some, some-injective}
@@ -7,42 +7,42 @@ use Rattle.atomic_table.specs.Table.{Final, Seen, State}
 use Rattle.moc_shared.specs.declared.record.Call.{Call}
 use Rattle.moc_shared.specs.declared.record.Note.{Note}
 use Rattle.moc_shared.specs.declared.record.View.{View}
-use Rattle.moc_shared.specs.History.{Fits, StandsFor, state_after, IsHistory}
-use Rattle.moc_shared.specs.Seats.{table_place, note}
-use Rattle.moc_shared.specs.Private.Rule.{IsFree, SomeHolds, Kept}
+use Rattle.moc_shared.specs.History.{IsConsistent, StandsFor, state_after, IsHistory}
+use Rattle.moc_shared.specs.Seats.{table_index, note}
+use Rattle.moc_shared.specs.Private.Invariant.{IsFree, SomeHolds, TableInvariant}
 use Rattle.moc_shared.proofs.Basics.{here, none_in}
-use Rattle.moc_shared.proofs.Apart.{stood_of, one_view}
+use Rattle.moc_shared.proofs.DistinctClients.{stood_of, one_view}
 
 module _ {S X O R Y : Type 0} (n : ℕ) (content : S → Y) (part : ℕ → X → Y) (answer : X → O → X × R)
-    (proper : X → Type 0) (start : X) (clients : ℕ) where
+    (valid : X → Type 0) (start : X) (clients : ℕ) where
   abbrev V : Type 0
   V = View X O R Y
 
-  -- a legal history of calls of the clients, which the client's record fits, and after it each part whose word is 0;
-  -- no word is another where the client stands for all
+  -- A legal history of calls of the clients, consistent with the client's record, and the content of each part whose
+  -- word is 0 after it. Every word is 0 if the client stands for all.
   abbrev pub Ended_with : List ℕ → List S → V → Type 0
   Ended_with words xs v =
-      (log : List (Call O R)) × IsHistory answer start clients log × Fits log v.mine × proper (state_after answer start log)
-      × ((b : ℕ) (x : S) → b < n → slice_index words (table_place b) ≡ 0 → get_elem? xs (table_place b) ≡ some x
+      (log : List (Call O R)) × IsHistory answer start clients log × IsConsistent log v.mine × valid (state_after answer start log)
+      × ((b : ℕ) (x : S) → b < n → slice_index words (table_index b) ≡ 0 → get_elem? xs (table_index b) ≡ some x
       → content x ≡ part b (state_after answer start log))
-      × ((b : ℕ) → b < n → slice_index words (table_place b) ≢ 0 → ((c : ℕ) → c < clients → StandsFor v.mine c) → ⊥)
+      × ((b : ℕ) → b < n → slice_index words (table_index b) ≢ 0 → ((c : ℕ) → c < clients → StandsFor v.mine c) → ⊥)
 
   pub closes : (words : List ℕ) (xs : List S) (id : ℕ) (v : V) → v.holds ≡ []
-      → Final (Seen (λ s. Kept n content part answer proper start clients s) id v) words xs → Ended_with words xs v
+      → Final (Seen (λ s. TableInvariant n content part answer valid start clients s) id v) words xs → Ended_with words xs v
   closes words xs id v idle (s, (k, at), same_words, long, values) =
       let A = state_after answer start k.log in (
         k.log,
         (k.legal, k.named),
         ((k.each_view id v at).fits v.mine (here v.mine v.others)).0,
         k.whole,
-        (λ b x l z e. let z' : slice_index s.words (table_place b) ≡ 0 = ap (λ (w : List ℕ). slice_index w (table_place b)) same_words ∙ z in ⊎_elim
+        (λ b x l z e. let z' : slice_index s.words (table_index b) ≡ 0 = ap (λ (w : List ℕ). slice_index w (table_index b)) same_words ∙ z in ⊎_elim
             (λ (f : IsFree content part A s.words s.homes b). let q : f.1.0 ≡ x = some-injective f.1.0 x
-            (sym (values (table_place b) f.1.0 f.1.1) ∙ e) in sym (ap content q) ∙ f.1.2)
+            (sym (values (table_index b) f.1.0 f.1.1) ∙ e) in sym (ap content q) ∙ f.1.2)
             (λ (h : SomeHolds s.views b). let w = ((k.each_view h.0 h.1 h.3).holding b h.2 h.4).word_is in
             absurd (omega arith))
             (k.each_part b l)),
-        (λ b l nz all. let nz' : slice_index s.words (table_place b) ≢ 0 =
-            (λ z. nz (sym (ap (λ (w : List ℕ). slice_index w (table_place b)) same_words) ∙ z)) in ⊎_elim
+        (λ b l nz all. let nz' : slice_index s.words (table_index b) ≢ 0 =
+            (λ z. nz (sym (ap (λ (w : List ℕ). slice_index w (table_index b)) same_words) ∙ z)) in ⊎_elim
             (λ (f : IsFree content part A s.words s.homes b). absurd (nz' f.0))
             (λ (h : SomeHolds s.views b).
             let u = h.1 in
@@ -61,26 +61,26 @@ module _ {S X O R Y : Type 0} (n : ℕ) (content : S → Y) (part : ℕ → X �
             (k.each_part b l)),
       )
 
-  -- a part whose last word is not 0 is held, in the last state, by a client for which the client does not stand
+  -- if the last word of a part is not 0, a client for which this client does not stand holds it in the last state
   pub record Held_last (words : List ℕ) (v : V) (b : ℕ) : Type 0 where
     pub state : State S V
-    pub rule : Kept n content part answer proper start clients state
+    pub rule : TableInvariant n content part answer valid start clients state
     pub seat : ℕ
     pub seen : get_elem? state.views seat ≡ some v
     pub holder : ℕ
     pub known : holder < clients
     pub other : ¬ StandsFor v.mine holder
-    pub word_is : slice_index state.words (table_place b) ≡ suc holder
-    pub out : get_elem? state.homes (table_place b) ≡ some none
+    pub word_is : slice_index state.words (table_index b) ≡ suc holder
+    pub out : get_elem? state.homes (table_index b) ≡ some none
     pub words_are : state.words ≡ words
 
   pub held_last : (words : List ℕ) (xs : List S) (id : ℕ) (v : V) → v.holds ≡ []
-      → Final (Seen (λ s. Kept n content part answer proper start clients s) id v) words xs
-      → (b : ℕ) → b < n → slice_index words (table_place b) ≢ 0 → Held_last words v b
+      → Final (Seen (λ s. TableInvariant n content part answer valid start clients s) id v) words xs
+      → (b : ℕ) → b < n → slice_index words (table_index b) ≢ 0 → Held_last words v b
   held_last words xs id v idle (s, (k, at), same_words, long, values) b l nz =
       let A = state_after answer start k.log in
-      let nz' : slice_index s.words (table_place b) ≢ 0 =
-      (λ z. nz (sym (ap (λ (w : List ℕ). slice_index w (table_place b)) same_words) ∙ z)) in ⊎_elim
+      let nz' : slice_index s.words (table_index b) ≢ 0 =
+      (λ z. nz (sym (ap (λ (w : List ℕ). slice_index w (table_index b)) same_words) ∙ z)) in ⊎_elim
       (λ (f : IsFree content part A s.words s.homes b). absurd (nz' f.0))
       (λ (h : SomeHolds s.views b).
       let u = h.1 in

@@ -1,4 +1,4 @@
--- Each step keeps the rule.
+-- Each step preserves the invariant.
 use Rattle.std.proofs.Common.{◌≡◌, ◌≢◌, ◌⊎◌, ℕ, zero, suc, ◌+◌, ◌<◌, ◌≤◌, List, [], ◌∷◌, ◌++◌, map, length, set, refl}
 use Rattle.std.proofs.Common.{sym, ap, ◌∙◌, subst, inl, inr, ⊎_elim, arith, eq-eqb, ne_eqb, eqb, Bool, ◌-◌, fold}
 use Rattle.std.proofs.Common.{Contains, get_or-set_same, get_or-set_other}
@@ -18,78 +18,78 @@ use Rattle.moc_shared.specs.declared.record.Call.{Call}
 use Rattle.moc_shared.specs.declared.record.Record.{Record}
 use Rattle.moc_shared.specs.declared.record.Note.{Note}
 use Rattle.moc_shared.specs.declared.record.View.{View}
-use Rattle.moc_shared.specs.History.{call_by, Fits, StandsFor, times_standing, state_after, IsLegal, IsHistory}
-use Rattle.moc_shared.specs.Seats.{table_place, note}
-use Rattle.moc_shared.specs.Private.Rule.{IsSpare, records, Present, stood_in, IsFree, SomeHolds, Holding, ViewFits}
-use Rattle.moc_shared.specs.Private.Rule.{Kept, noted_parts, IsOne}
+use Rattle.moc_shared.specs.History.{call_by, IsConsistent, StandsFor, times_standing, state_after, IsLegal, IsHistory}
+use Rattle.moc_shared.specs.Seats.{table_index, note}
+use Rattle.moc_shared.specs.Private.Invariant.{IsSpare, records, IsPresent, times_in_view, IsFree, SomeHolds, Holding, IsConsistentView}
+use Rattle.moc_shared.specs.Private.Invariant.{TableInvariant, parts_of_notes, IsSingleClient}
 use Rattle.moc_shared.specs.Private.Seats.{IsCarried}
-use Rattle.moc_shared.specs.Private.Answering.{AnswersRightly}
-use Rattle.moc_shared.specs.Private.Plays.{with_part, with_miss, with_holds, after_call, behind_first, TookPart, Took, Gave, Ended, EndsCall}
+use Rattle.moc_shared.specs.Private.OperationEffects.{HasEffect}
+use Rattle.moc_shared.specs.Private.StepEffects.{with_part, with_miss, with_holds, after_call, tail, TakesOrMisses, TakesPart, GivesPart, EndsWithCall, CallTakesEffect}
 use Rattle.moc_shared.proofs.Basics.{here, there, none_in, only, cons_cases, sum_set_same, stands_by, stood_with_call}
 use Rattle.moc_shared.proofs.Basics.{fits_longer, fits_with_call, starts_itself, result_with, legal_with}
-use Rattle.moc_shared.proofs.Apart.{stood_of, one_view, one_record, present_cases}
+use Rattle.moc_shared.proofs.DistinctClients.{stood_of, one_view, one_record, present_cases}
 
--- the words and slots of two parts are two
-pub far : (b' b : ℕ) → b' ≢ b → table_place b' ≢ table_place b
+-- different parts have different words and slots
+pub far : (b' b : ℕ) → b' ≢ b → table_index b' ≢ table_index b
 far b' b ne e = ne (omega arith)
 
--- a part's word is no spare one
-spare_apart : (words : List ℕ) (b x : ℕ) → ((k : ℕ) → IsSpare k → slice_index words k ≡ 0) → (k : ℕ) → IsSpare k → slice_index (set words (table_place b) x) k ≡ 0
-spare_apart words b x zeros k spare = get_or-set_other words (table_place b) k x 0 (λ e. spare b (sym e)) ∙ zeros k spare
+-- the word of a part is not a spare word
+spare_apart : (words : List ℕ) (b x : ℕ) → ((k : ℕ) → IsSpare k → slice_index words k ≡ 0) → (k : ℕ) → IsSpare k → slice_index (set words (table_index b) x) k ≡ 0
+spare_apart words b x zeros k spare = get_or-set_other words (table_index b) k x 0 (λ e. spare b (sym e)) ∙ zeros k spare
 
 module _ {S X O R Y : Type 0} (n : ℕ) (content : S → Y) (part : ℕ → X → Y) (answer : X → O → X × R)
-    (proper : X → Type 0) (start : X) (clients : ℕ) where
+    (valid : X → Type 0) (start : X) (clients : ℕ) where
   abbrev V : Type 0
   V = View X O R Y
 
-  abbrev Rule : State S V → Type 0
-  Rule s = Kept n content part answer proper start clients s
+  abbrev Invariant : State S V → Type 0
+  Invariant s = TableInvariant n content part answer valid start clients s
 
   abbrev Held : X → List ℕ → List (Option S) → V → ℕ → Y → Type 0
-  Held set words homes v b y = Holding {S = S} n content part answer proper start clients set words homes v b y
+  Held set words homes v b y = Holding {S = S} n content part answer valid start clients set words homes v b y
 
   abbrev FitsIn : List (Call O R) → List ℕ → List (Option S) → V → Type 0
-  FitsIn log words homes v = ViewFits n content part answer proper start clients log words homes v
+  FitsIn log words homes v = IsConsistentView n content part answer valid start clients log words homes v
 
-  -- what the records of the new view owe to those of the old one
+  -- the relation between the records of the new view and those of the old one
   abbrev Grows : List V → V → V → Type 0
   Grows views v w =
       (r' : Record O R) → Contains (records w) r' → (r : Record O R) × Contains (records v) r
       × ((h b : ℕ) → Contains r.marks (h, b) → Contains r'.marks (h, b))
       × ((c : ℕ) → StandsFor r' c → StandsFor r c)
       × ((h b : ℕ) → Contains r'.misses (h, b) → Contains r.misses (h, b)
-      ⊎ ((q : Record O R) → Present views q → StandsFor q h → Contains q.marks (h, b)))
+      ⊎ ((q : Record O R) → IsPresent views q → StandsFor q h → Contains q.marks (h, b)))
 
-  -- each record after the step, with the one that it was
+  -- each record after the step, with the record before
   abbrev Was : List V → Record O R → Type 0
-  Was views r' = (r : Record O R) × Present views r
+  Was views r' = (r : Record O R) × IsPresent views r
       × ((h b : ℕ) → Contains r.marks (h, b) → Contains r'.marks (h, b))
       × ((c : ℕ) → StandsFor r' c → StandsFor r c)
       × ((h b : ℕ) → Contains r'.misses (h, b) → Contains r.misses (h, b)
-      ⊎ ((q : Record O R) → Present views q → StandsFor q h → Contains q.marks (h, b)))
+      ⊎ ((q : Record O R) → IsPresent views q → StandsFor q h → Contains q.marks (h, b)))
 
   was : (views : List V) (id : ℕ) (v w : V) → get_elem? views id ≡ some v → Grows views v w → (r' : Record O R)
-      → Present (set views id w) r' → Was views r'
+      → IsPresent (set views id w) r' → Was views r'
   was views id v w at grows r' p =
       ⊎_elim
       (λ (h : Contains (records w) r'). let g = grows r' h in (g.0, (id, v, at, g.1), g.2, g.3, g.4))
-      (λ (o : Present views r'). (r', o, (λ h b m. m), (λ c m. m), (λ h b m. inl m)))
+      (λ (o : IsPresent views r'). (r', o, (λ h b m. m), (λ c m. m), (λ h b m. inl m)))
       (present_cases views id w r' p)
 
   -- one view was replaced
-  one_moved : (s : State S V) (k : Rule s) (id : ℕ) (v w : V) → get_elem? s.views id ≡ some v
+  one_moved : (s : State S V) (k : Invariant s) (id : ℕ) (v w : V) → get_elem? s.views id ≡ some v
       → (words : List ℕ) (homes : List (Option S)) (log : List (Call O R))
       → IsLegal answer start log
-      → ((r : Record O R) × Present (set s.views id w) r × (r.seen ≡ log))
-      → proper (state_after answer start log)
+      → ((r : Record O R) × IsPresent (set s.views id w) r × (r.seen ≡ log))
+      → valid (state_after answer start log)
       → ((e : Call O R) → Contains log e → e.client < clients)
-      → length words ≡ table_place n → length homes ≡ table_place n → ((k : ℕ) → IsSpare k → slice_index words k ≡ 0)
+      → length words ≡ table_index n → length homes ≡ table_index n → ((k : ℕ) → IsSpare k → slice_index words k ≡ 0)
       → ((b : ℕ) → b < n → IsFree content part (state_after answer start log) words homes b ⊎ SomeHolds (set s.views id w) b)
       → FitsIn log words homes w
       → ((j : ℕ) (u : V) → j ≢ id → get_elem? s.views j ≡ some u → FitsIn log words homes u)
       → Grows s.views v w
-      → ((c : ℕ) → stood_in c w ≡ stood_in c v)
-      → Rule record { words = words; homes = homes; views = set s.views id w }
+      → ((c : ℕ) → times_in_view c w ≡ times_in_view c v)
+      → Invariant record { words = words; homes = homes; views = set s.views id w }
   one_moved s k id v w at words homes log legal shown whole named wide deep spare parts mine others grows same = record {
     log = log;
     legal = legal;
@@ -108,28 +108,28 @@ module _ {S X O R Y : Type 0} (n : ℕ) (content : S → Y) (part : ℕ → X �
         let a = was s.views id v w at grows r pr in
         let z = was s.views id v w at grows q pq in
         z.2 h b (⊎_elim (λ (x : Contains a.0.misses (h, b)). k.missed a.0 z.0 a.1 z.1 h b x (z.3 h st))
-        (λ (f : (y : Record O R) → Present s.views y → StandsFor y h → Contains y.marks (h, b)). f z.0 z.1
+        (λ (f : (y : Record O R) → IsPresent s.views y → StandsFor y h → Contains y.marks (h, b)). f z.0 z.1
         (z.3 h st)) (a.4 h b m));
-    alone = λ c. subst (λ (m : ℕ). m ≤ 1) (sym (sum_set_same (stood_in c) s.views id v w at (same c))) (k.alone c);
+    alone = λ c. subst (λ (m : ℕ). m ≤ 1) (sym (sum_set_same (times_in_view c) s.views id v w at (same c))) (k.alone c);
   }
 
-  -- the part b is another one than those that the view holds
+  -- part b is not held by the view
   abbrev Free_of : V → ℕ → Type 0
   Free_of v b = (b' : ℕ) (y : Y) → Contains v.holds (note b' y) → b' ≢ b
 
   held_apart : (set_is : X) (words : List ℕ) (homes : List (Option S)) (u : V) (b x : ℕ) (h : Option S) (b' : ℕ) (y : Y)
-      → Held set_is words homes u b' y → b' ≢ b → Held set_is (set words (table_place b) x) (set homes (table_place b) h) u b' y
+      → Held set_is words homes u b' y → b' ≢ b → Held set_is (set words (table_index b) x) (set homes (table_index b) h) u b' y
   held_apart set_is words homes u b x h b' y k ne = record {
     within = k.within;
-    word_is = get_or-set_other words (table_place b) (table_place b') x 0 (far b' b ne) ∙ k.word_is;
-    out = set_else homes (table_place b) (table_place b') h (far b' b ne) ∙ k.out;
+    word_is = get_or-set_other words (table_index b) (table_index b') x 0 (far b' b ne) ∙ k.word_is;
+    out = set_else homes (table_index b) (table_index b') h (far b' b ne) ∙ k.out;
     noted = k.noted;
     marked = k.marked;
     stands = k.stands;
   }
 
   fits_apart : (log : List (Call O R)) (words : List ℕ) (homes : List (Option S)) (u : V) (b x : ℕ) (h : Option S)
-      → FitsIn log words homes u → Free_of u b → FitsIn log (set words (table_place b) x) (set homes (table_place b) h) u
+      → FitsIn log words homes u → Free_of u b → FitsIn log (set words (table_index b) x) (set homes (table_index b) h) u
   fits_apart log words homes u b x h f apart = record {
     same_map = f.same_map;
     fits = f.fits;
@@ -138,16 +138,16 @@ module _ {S X O R Y : Type 0} (n : ℕ) (content : S → Y) (part : ℕ → X �
   }
 
   free_apart : (set_is : X) (words : List ℕ) (homes : List (Option S)) (b x : ℕ) (h : Option S) (b' : ℕ) → b' ≢ b
-      → IsFree content part set_is words homes b' → IsFree content part set_is (set words (table_place b) x) (set homes (table_place b) h) b'
+      → IsFree content part set_is words homes b' → IsFree content part set_is (set words (table_index b) x) (set homes (table_index b) h) b'
   free_apart set_is words homes b x h b' ne f =
-      (get_or-set_other words (table_place b) (table_place b') x 0 (far b' b ne) ∙ f.0, (f.1.0, set_else homes (table_place b) (table_place b') h (far b' b ne) ∙ f.1.1, f.1.2))
+      (get_or-set_other words (table_index b) (table_index b') x 0 (far b' b ne) ∙ f.0, (f.1.0, set_else homes (table_index b) (table_index b') h (far b' b ne) ∙ f.1.1, f.1.2))
 
   at_new : (views : List V) (id : ℕ) (v w : V) → get_elem? views id ≡ some v → get_elem? (set views id w) id ≡ some w
   at_new [] id v w e = absurd (some-ne-none v (sym e))
   at_new (x ∷ xs) zero v w e = refl
   at_new (x ∷ xs) (suc id) v w e = at_new xs id v w e
 
-  -- a part that was held still is, where the new view holds what the old one held of it
+  -- a part that was held is still held if the new view holds it whenever the old one did
   still_held : (views : List V) (id : ℕ) (v w : V) (b : ℕ) → get_elem? views id ≡ some v
       → ((y : Y) → Contains v.holds (note b y) → (z : Y) × Contains w.holds (note b z)) → SomeHolds views b
       → SomeHolds (set views id w) b
@@ -161,13 +161,13 @@ module _ {S X O R Y : Type 0} (n : ℕ) (content : S → Y) (part : ℕ → X �
   only_mine : (v : V) (r : Record O R) → v.others ≡ [] → Contains (records v) r → v.mine ≡ r
   only_mine v r alone h = only v.mine r (subst (λ (l : List (Record O R)). Contains (v.mine ∷ l) r) alone h)
 
-  -- a record that has seen all is still there, where the new view's records have seen what the old one's had
-  still_shown : (s : State S V) (k : Rule s) (id : ℕ) (v w : V) → get_elem? s.views id ≡ some v
+  -- some record has still seen the whole history if the records of the new view have seen what the old ones had seen
+  still_shown : (s : State S V) (k : Invariant s) (id : ℕ) (v w : V) → get_elem? s.views id ≡ some v
       → ((r : Record O R) → Contains (records v) r → (q : Record O R) × Contains (records w) q × (q.seen ≡ r.seen))
-      → (r : Record O R) × Present (set s.views id w) r × (r.seen ≡ k.log)
+      → (r : Record O R) × IsPresent (set s.views id w) r × (r.seen ≡ k.log)
   still_shown s k id v w at keep = go k.shown.0 k.shown.1 k.shown.2
     where
-      go : (r : Record O R) → Present s.views r → r.seen ≡ k.log → (q : Record O R) × Present (set s.views id w) q
+      go : (r : Record O R) → IsPresent s.views r → r.seen ≡ k.log → (q : Record O R) × IsPresent (set s.views id w) q
           × (q.seen ≡ k.log)
       go r (i, u, e, h) all = dite (ℕ_discrete i id)
           (λ same. let one : u ≡ v = some-injective u v
@@ -176,24 +176,24 @@ module _ {S X O R Y : Type 0} (n : ℕ) (content : S → Y) (part : ℕ → X �
           (q.0, (id, w, at_new s.views id v w at, q.1), q.2 ∙ all))
           (λ other. (r, (i, u, set_else s.views id i w other ∙ e, h), all))
 
-  -- the same for views of one record, which has seen as much
-  one_shown : (s : State S V) (k : Rule s) (id : ℕ) (v w : V) → get_elem? s.views id ≡ some v → v.others ≡ []
-      → w.mine.seen ≡ v.mine.seen → (r : Record O R) × Present (set s.views id w) r × (r.seen ≡ k.log)
+  -- the same for views of one record that has seen the same history
+  one_shown : (s : State S V) (k : Invariant s) (id : ℕ) (v w : V) → get_elem? s.views id ≡ some v → v.others ≡ []
+      → w.mine.seen ≡ v.mine.seen → (r : Record O R) × IsPresent (set s.views id w) r × (r.seen ≡ k.log)
   one_shown s k id v w at alone same =
       still_shown s k id v w at
       (λ r h. (w.mine, here w.mine w.others, same ∙ ap (λ (q : Record O R). q.seen) (only_mine v r alone h)))
 
-  -- the word of a part that is held is not 0
+  -- the word of a held part is not 0
   never_zero : (set_is : X) (words : List ℕ) (homes : List (Option S)) (u : V) (b b' : ℕ) (y : Y)
-      → slice_index words (table_place b) ≡ 0 → Held set_is words homes u b' y → b' ≢ b
+      → slice_index words (table_index b) ≡ 0 → Held set_is words homes u b' y → b' ≢ b
   never_zero set_is words homes u b b' y z k e = let w = k.word_is in
-      let s : slice_index words (table_place b') ≡ slice_index words (table_place b) = ap (λ (j : ℕ). slice_index words (table_place j)) e in absurd (omega arith)
+      let s : slice_index words (table_index b') ≡ slice_index words (table_index b) = ap (λ (j : ℕ). slice_index words (table_index j)) e in absurd (omega arith)
 
-  took_kept : (s : State S V) (k : Rule s) (id : ℕ) (v : V) (b : ℕ) (x : S) (mark : ℕ) → get_elem? s.views id ≡ some v
-      → v.others ≡ [] → StandsFor v.mine v.mine.number → mark ≡ suc v.mine.number → b < n → slice_index s.words (table_place b) ≡ 0
-      → get_elem? s.homes (table_place b) ≡ some (some x) → content x ≡ part b (state_after answer start k.log)
-      → Rule record
-      { words = set s.words (table_place b) mark; homes = set s.homes (table_place b) none; views = set s.views id (with_part v b (content x)) }
+  took_kept : (s : State S V) (k : Invariant s) (id : ℕ) (v : V) (b : ℕ) (x : S) (mark : ℕ) → get_elem? s.views id ≡ some v
+      → v.others ≡ [] → StandsFor v.mine v.mine.number → mark ≡ suc v.mine.number → b < n → slice_index s.words (table_index b) ≡ 0
+      → get_elem? s.homes (table_index b) ≡ some (some x) → content x ≡ part b (state_after answer start k.log)
+      → Invariant record
+      { words = set s.words (table_index b) mark; homes = set s.homes (table_index b) none; views = set s.views id (with_part v b (content x)) }
   took_kept s k id v b x mark at alone stands mark_is within zero_is home is =
       let w = with_part v b (content x) in
       let log = k.log in
@@ -201,19 +201,19 @@ module _ {S X O R Y : Type 0} (n : ℕ) (content : S → Y) (part : ℕ → X �
       let old = k.each_view id v at in
       let wide = k.wide in
       let deep = k.deep in
-      let new : Held A (set s.words (table_place b) mark) (set s.homes (table_place b) none) w b (content x) = record {
+      let new : Held A (set s.words (table_index b) mark) (set s.homes (table_index b) none) w b (content x) = record {
         within = within;
-        word_is = get_or-set_same s.words (table_place b) mark 0 (omega arith) ∙ mark_is;
-        out = set_here s.homes (table_place b) none (omega arith);
+        word_is = get_or-set_same s.words (table_index b) mark 0 (omega arith) ∙ mark_is;
+        out = set_here s.homes (table_index b) none (omega arith);
         noted = is;
         marked = here (v.mine.number, b) v.mine.marks;
         stands = stands;
       } in
       let older = λ (b' : ℕ) (y : Y) (h : Contains v.holds (note b' y)). let o = old.holding b' y h in
-      let m : Held A (set s.words (table_place b) mark) (set s.homes (table_place b) none) v b' y =
+      let m : Held A (set s.words (table_index b) mark) (set s.homes (table_index b) none) v b' y =
       held_apart A s.words s.homes v b mark none b' y o (never_zero A s.words s.homes v b b' y zero_is o) in m in
-      one_moved s k id v w at (set s.words (table_place b) mark) (set s.homes (table_place b) none) log k.legal (one_shown s k id v w at alone refl)
-      k.whole k.named (length-set s.words (table_place b) mark ∙ wide) (length-set s.homes (table_place b) none ∙ deep) (spare_apart s.words b mark k.spare)
+      one_moved s k id v w at (set s.words (table_index b) mark) (set s.homes (table_index b) none) log k.legal (one_shown s k id v w at alone refl)
+      k.whole k.named (length-set s.words (table_index b) mark ∙ wide) (length-set s.homes (table_index b) none ∙ deep) (spare_apart s.words b mark k.spare)
       (λ b' l. dite (ℕ_discrete b' b)
       (λ e. inr (
         id,
@@ -228,13 +228,13 @@ module _ {S X O R Y : Type 0} (n : ℕ) (content : S → Y) (part : ℕ → X �
       (k.each_part b' l)))
       record {
         same_map = old.same_map;
-        fits = λ r h. subst (λ (q : Record O R). Fits log q × Fits q.seen q) (only_mine w r alone h)
+        fits = λ r h. subst (λ (q : Record O R). IsConsistent log q × IsConsistent q.seen q) (only_mine w r alone h)
             (old.fits v.mine (here v.mine v.others));
         known = λ r h c st. old.known v.mine (here v.mine v.others) c
             (subst (λ (q : Record O R). StandsFor q c) (sym (only_mine w r alone h)) st);
         holding = λ b' y h. ⊎_elim
             (λ (e : note b (content x) ≡ note b' y). subst
-            (λ (t : Note Y). Held A (set s.words (table_place b) mark) (set s.homes (table_place b) none) w t.part t.content) e new)
+            (λ (t : Note Y). Held A (set s.words (table_index b) mark) (set s.homes (table_index b) none) w t.part t.content) e new)
             (λ (c : Contains v.holds (note b' y)). let m = older b' y c in
             record {
               within = m.within;
@@ -259,8 +259,8 @@ module _ {S X O R Y : Type 0} (n : ℕ) (content : S → Y) (part : ℕ → X �
       ))
       (λ c. refl)
 
-  -- who holds a part
-  holder : (s : State S V) (k : Rule s) (b h : ℕ) → b < n → slice_index s.words (table_place b) ≡ suc h → (i : ℕ) × (u : V) × (y : Y)
+  -- the holder of a part
+  holder : (s : State S V) (k : Invariant s) (b h : ℕ) → b < n → slice_index s.words (table_index b) ≡ suc h → (i : ℕ) × (u : V) × (y : Y)
       × (get_elem? s.views i ≡ some u) × Contains u.holds (note b y) × (h ≡ u.mine.number)
       × Held (state_after answer start k.log) s.words s.homes u b y
   holder s k b h within is = ⊎_elim
@@ -269,10 +269,10 @@ module _ {S X O R Y : Type 0} (n : ℕ) (content : S → Y) (part : ℕ → X �
       (t.0, t.1, t.2, t.3, t.4, omega arith, d))
       (k.each_part b within)
 
-  missed_kept : (s : State S V) (k : Rule s) (id : ℕ) (v : V) (b h : ℕ) → get_elem? s.views id ≡ some v → v.others ≡ []
-      → b < n → slice_index s.words (table_place b) ≡ suc h → ((y : Y) → ¬ Contains v.holds (note b y))
-      → Rule record
-      { words = set s.words (table_place b) (slice_index s.words (table_place b)); homes = s.homes; views = set s.views id (with_miss v h b) }
+  missed_kept : (s : State S V) (k : Invariant s) (id : ℕ) (v : V) (b h : ℕ) → get_elem? s.views id ≡ some v → v.others ≡ []
+      → b < n → slice_index s.words (table_index b) ≡ suc h → ((y : Y) → ¬ Contains v.holds (note b y))
+      → Invariant record
+      { words = set s.words (table_index b) (slice_index s.words (table_index b)); homes = s.homes; views = set s.views id (with_miss v h b) }
       × (h < clients) × ¬ StandsFor v.mine h
   missed_kept s k id v b h at alone within is apart =
       let w = with_miss v h b in
@@ -282,7 +282,7 @@ module _ {S X O R Y : Type 0} (n : ℕ) (content : S → Y) (part : ℕ → X �
       let o = holder s k b h within is in
       let u = o.1 in
       let stands : StandsFor u.mine h = subst (λ (c : ℕ). StandsFor u.mine c) (sym o.5) o.6.stands in
-      let there_stands : Present s.views u.mine = (o.0, u, o.3, here u.mine u.others) in
+      let there_stands : IsPresent s.views u.mine = (o.0, u, o.3, here u.mine u.others) in
       let marked : Contains u.mine.marks (h, b) =
       subst (λ (c : ℕ). Contains u.mine.marks (c, b)) (sym o.5) o.6.marked in
       let not_mine : StandsFor v.mine h → ⊥ = λ st.
@@ -291,15 +291,15 @@ module _ {S X O R Y : Type 0} (n : ℕ) (content : S → Y) (part : ℕ → X �
       let same : o.0 ≡ id = one_view h s.views id o.0 v u (k.alone h) at o.3 (omega arith) (omega arith) in
       let one : u ≡ v = some-injective u v (sym o.3 ∙ subst (λ (j : ℕ). get_elem? s.views j ≡ some v) (sym same) at) in
       apart o.2 (subst (λ (x : V). Contains x.holds (note b o.2)) one o.4) in
-      let still : set s.words (table_place b) (slice_index s.words (table_place b)) ≡ s.words = set-get_or s.words (table_place b) 0 in (
-        subst (λ (l : List ℕ). Rule record { words = l; homes = s.homes; views = set s.views id w }) (sym still)
+      let still : set s.words (table_index b) (slice_index s.words (table_index b)) ≡ s.words = set-get_or s.words (table_index b) 0 in (
+        subst (λ (l : List ℕ). Invariant record { words = l; homes = s.homes; views = set s.views id w }) (sym still)
             (one_moved s k id v w at s.words s.homes log k.legal (one_shown s k id v w at alone refl) k.whole k.named
             k.wide k.deep k.spare
             (λ b' l. ⊎_elim (λ f. inl f) (λ g. inr (still_held s.views id v w b' at (λ y c. (y, c)) g))
             (k.each_part b' l))
             record {
               same_map = old.same_map;
-              fits = λ r g. subst (λ (q : Record O R). Fits log q × Fits q.seen q) (only_mine w r alone g)
+              fits = λ r g. subst (λ (q : Record O R). IsConsistent log q × IsConsistent q.seen q) (only_mine w r alone g)
                   (old.fits v.mine (here v.mine v.others));
               known = λ r g c st. old.known v.mine (here v.mine v.others) c
                   (subst (λ (q : Record O R). StandsFor q c) (sym (only_mine w r alone g)) st);
@@ -334,8 +334,8 @@ module _ {S X O R Y : Type 0} (n : ℕ) (content : S → Y) (part : ℕ → X �
         not_mine,
       )
 
-  -- two views do not hold one part
-  not_both : (s : State S V) (k : Rule s) (id j : ℕ) (v u : V) (b : ℕ) (y z : Y) → get_elem? s.views id ≡ some v
+  -- no two views hold the same part
+  not_both : (s : State S V) (k : Invariant s) (id j : ℕ) (v u : V) (b : ℕ) (y z : Y) → get_elem? s.views id ≡ some v
       → get_elem? s.views j ≡ some u → j ≢ id → Contains v.holds (note b y) → Contains u.holds (note b z) → ⊥
   not_both s k id j v u b y z at e ne hv hu =
       let dv = (k.each_view id v at).holding b y hv in
@@ -350,11 +350,11 @@ module _ {S X O R Y : Type 0} (n : ℕ) (content : S → Y) (part : ℕ → X �
       let pu = stood_of c u u.mine (here u.mine u.others) in
       ne (one_view c s.views id j v u (k.alone c) at e (omega arith) (omega arith))
 
-  gave_kept : (s : State S V) (k : Rule s) (id : ℕ) (v : V) (b : ℕ) (x : S) (notes : List (Note Y))
+  gave_kept : (s : State S V) (k : Invariant s) (id : ℕ) (v : V) (b : ℕ) (x : S) (notes : List (Note Y))
       → get_elem? s.views id ≡ some v → v.others ≡ [] → v.holds ≡ note b (content x) ∷ notes
       → ((y : Y) → ¬ Contains notes (note b y))
-      → Rule record
-      { words = set s.words (table_place b) 0; homes = set s.homes (table_place b) (some x); views = set s.views id (with_holds v notes) }
+      → Invariant record
+      { words = set s.words (table_index b) 0; homes = set s.homes (table_index b) (some x); views = set s.views id (with_holds v notes) }
   gave_kept s k id v b x notes at alone held apart =
       let w = with_holds v notes in
       let log = k.log in
@@ -371,13 +371,13 @@ module _ {S X O R Y : Type 0} (n : ℕ) (content : S → Y) (part : ℕ → X �
       let within = now.within in
       let others_apart = λ (b' : ℕ) (y : Y) (h : Contains notes (note b' y)). let m : b' ≢ b =
       (λ e. apart y (subst (λ (j : ℕ). Contains notes (note j y)) e h)) in m in
-      one_moved s k id v w at (set s.words (table_place b) 0) (set s.homes (table_place b) (some x)) log k.legal
-      (one_shown s k id v w at alone refl) k.whole k.named (length-set s.words (table_place b) 0 ∙ wide)
-      (length-set s.homes (table_place b) (some x) ∙ deep) (spare_apart s.words b 0 k.spare)
+      one_moved s k id v w at (set s.words (table_index b) 0) (set s.homes (table_index b) (some x)) log k.legal
+      (one_shown s k id v w at alone refl) k.whole k.named (length-set s.words (table_index b) 0 ∙ wide)
+      (length-set s.homes (table_index b) (some x) ∙ deep) (spare_apart s.words b 0 k.spare)
       (λ b' l. dite (ℕ_discrete b' b)
       (λ e. inl
-      (subst (λ (j : ℕ). IsFree content part A (set s.words (table_place b) 0) (set s.homes (table_place b) (some x)) j) (sym e)
-      (get_or-set_same s.words (table_place b) 0 0 (omega arith), (x, set_here s.homes (table_place b) (some x) (omega arith), now.noted))))
+      (subst (λ (j : ℕ). IsFree content part A (set s.words (table_index b) 0) (set s.homes (table_index b) (some x)) j) (sym e)
+      (get_or-set_same s.words (table_index b) 0 0 (omega arith), (x, set_here s.homes (table_index b) (some x) (omega arith), now.noted))))
       (λ ne. ⊎_elim (λ f. inl (free_apart A s.words s.homes b 0 (some x) b' ne f))
       (λ h. inr (still_held s.views id v w b' at
       (λ y c. ⊎_elim (λ (e : note b (content x) ≡ note b' y). absurd (ne (sym (ap (λ (t : Note Y). t.part) e))))
@@ -407,28 +407,28 @@ module _ {S X O R Y : Type 0} (n : ℕ) (content : S → Y) (part : ℕ → X �
       (λ r h. (r, h, (λ g d m. m), (λ c st. st), (λ g d m. inl m)))
       (λ c. refl)
 
-  part_in : (ts : List (Note Y)) (b : ℕ) (y : Y) → Contains ts (note b y) → Contains (noted_parts ts) b
+  part_in : (ts : List (Note Y)) (b : ℕ) (y : Y) → Contains ts (note b y) → Contains (parts_of_notes ts) b
   part_in [] b y h = absurd (none_in (note b y) h)
   part_in (t ∷ ts) b y h = ⊎_elim
-      (λ (e : t ≡ note b y). subst (λ (c : ℕ). Contains (noted_parts (t ∷ ts)) c) (ap (λ (z : Note Y). z.part) e)
-      (here t.part (noted_parts ts)))
-      (λ (c : Contains ts (note b y)). there t.part (noted_parts ts) b (part_in ts b y c))
+      (λ (e : t ≡ note b y). subst (λ (c : ℕ). Contains (parts_of_notes (t ∷ ts)) c) (ap (λ (z : Note Y). z.part) e)
+      (here t.part (parts_of_notes ts)))
+      (λ (c : Contains ts (note b y)). there t.part (parts_of_notes ts) b (part_in ts b y c))
       (cons_cases t ts (note b y) h)
 
-  note_in : (ts : List (Note Y)) (b : ℕ) → Contains (noted_parts ts) b → (y : Y) × Contains ts (note b y)
+  note_in : (ts : List (Note Y)) (b : ℕ) → Contains (parts_of_notes ts) b → (y : Y) × Contains ts (note b y)
   note_in [] b h = absurd (none_in b h)
   note_in (t ∷ ts) b h = ⊎_elim
       (λ (e : t.part ≡ b). (t.content, subst (λ (c : ℕ). Contains (t ∷ ts) (note c t.content)) e (here t ts)))
-      (λ (c : Contains (noted_parts ts) b). let r = note_in ts b c in (r.0, there t ts (note b r.0) r.1))
-      (cons_cases t.part (noted_parts ts) b h)
+      (λ (c : Contains (parts_of_notes ts) b). let r = note_in ts b c in (r.0, there t ts (note b r.0) r.1))
+      (cons_cases t.part (parts_of_notes ts) b h)
 
-  ended_kept : (s : State S V) (k : Rule s) (id : ℕ) (v : V) (b : ℕ) (x : S) (notes : List (Note Y)) (op : O)
+  ended_kept : (s : State S V) (k : Invariant s) (id : ℕ) (v : V) (b : ℕ) (x : S) (notes : List (Note Y)) (op : O)
       (reply : R) → get_elem? s.views id ≡ some v → v.others ≡ [] → StandsFor v.mine v.mine.number
-      → noted_parts v.holds ≡ b ∷ noted_parts notes → ¬ Contains (noted_parts notes) b
-      → AnswersRightly part answer proper op reply v.holds (note b (content x) ∷ notes)
-      → Rule record {
-        words = set s.words (table_place b) 0;
-        homes = set s.homes (table_place b) (some x);
+      → parts_of_notes v.holds ≡ b ∷ parts_of_notes notes → ¬ Contains (parts_of_notes notes) b
+      → HasEffect part answer valid op reply v.holds (note b (content x) ∷ notes)
+      → Invariant record {
+        words = set s.words (table_index b) 0;
+        homes = set s.homes (table_index b) (some x);
         views = set s.views id (after_call v k.log (call_by v.mine.number op reply) notes);
       }
   ended_kept s k id v b x notes op reply at alone stands same_parts apart done =
@@ -442,51 +442,51 @@ module _ {S X O R Y : Type 0} (n : ℕ) (content : S → Y) (part : ℕ → X �
       let deep = k.deep in
       let did = done A k.whole (λ c y h. (old.holding c y h).noted) in
       let set_is : state_after answer start log' ≡ (answer A op).0 = result_with answer start log e in
-      let in_old = λ (c : ℕ) (h : Contains (b ∷ noted_parts notes) c). let r : (y : Y) × Contains v.holds (note c y) =
+      let in_old = λ (c : ℕ) (h : Contains (b ∷ parts_of_notes notes) c). let r : (y : Y) × Contains v.holds (note c y) =
       note_in v.holds c (subst (λ (l : List ℕ). Contains l c) (sym same_parts) h) in r in
-      let in_new = λ (c : ℕ) (y : Y) (h : Contains v.holds (note c y)). let r : Contains (b ∷ noted_parts notes) c =
+      let in_new = λ (c : ℕ) (y : Y) (h : Contains v.holds (note c y)). let r : Contains (b ∷ parts_of_notes notes) c =
       subst (λ (l : List ℕ). Contains l c) same_parts (part_in v.holds c y h) in r in
-      let had = in_old b (here b (noted_parts notes)) in
+      let had = in_old b (here b (parts_of_notes notes)) in
       let now = old.holding b had.0 had.1 in
       let within = now.within in
-      let unheld = λ (c : ℕ) (z : slice_index s.words (table_place c) ≡ 0). let r : ¬ Contains (noted_parts v.holds) c =
+      let unheld = λ (c : ℕ) (z : slice_index s.words (table_index c) ≡ 0). let r : ¬ Contains (parts_of_notes v.holds) c =
       (λ h. let q = note_in v.holds c h in let d = (old.holding c q.0 q.1).word_is in absurd (omega arith)) in r in
-      one_moved s k id v w at (set s.words (table_place b) 0) (set s.homes (table_place b) (some x)) log'
+      one_moved s k id v w at (set s.words (table_index b) 0) (set s.homes (table_index b) (some x)) log'
       (legal_with answer start log e k.legal (sym did.0))
       (w.mine, (id, w, at_new s.views id v w at, here w.mine w.others), refl)
-      (subst proper (sym set_is) did.3)
+      (subst valid (sym set_is) did.3)
       (λ q h. ⊎_elim (λ (o : Contains log q). k.named q o)
       (λ (t : e ≡ q). subst (λ (z : Call O R). z.client < clients) t
       (old.known v.mine (here v.mine v.others) v.mine.number stands)) (Contains-push_cases log e q h))
-      (length-set s.words (table_place b) 0 ∙ wide) (length-set s.homes (table_place b) (some x) ∙ deep) (spare_apart s.words b 0 k.spare)
+      (length-set s.words (table_index b) 0 ∙ wide) (length-set s.homes (table_index b) (some x) ∙ deep) (spare_apart s.words b 0 k.spare)
       (λ c l. subst
-      (λ (a : X). IsFree content part a (set s.words (table_place b) 0) (set s.homes (table_place b) (some x)) c ⊎ SomeHolds (set s.views id w) c)
+      (λ (a : X). IsFree content part a (set s.words (table_index b) 0) (set s.homes (table_index b) (some x)) c ⊎ SomeHolds (set s.views id w) c)
       (sym set_is) (dite (ℕ_discrete c b)
       (λ q. inl
-      (subst (λ (j : ℕ). IsFree content part (answer A op).0 (set s.words (table_place b) 0) (set s.homes (table_place b) (some x)) j) (sym q) (
-        get_or-set_same s.words (table_place b) 0 0 (omega arith),
-        (x, set_here s.homes (table_place b) (some x) (omega arith), did.1 b (content x) (here (note b (content x)) notes)),
+      (subst (λ (j : ℕ). IsFree content part (answer A op).0 (set s.words (table_index b) 0) (set s.homes (table_index b) (some x)) j) (sym q) (
+        get_or-set_same s.words (table_index b) 0 0 (omega arith),
+        (x, set_here s.homes (table_index b) (some x) (omega arith), did.1 b (content x) (here (note b (content x)) notes)),
       )))
       (λ ne. ⊎_elim
       (λ (f : IsFree content part A s.words s.homes c). let g = free_apart A s.words s.homes b 0 (some x) c ne f in
       inl (g.0, (g.1.0, g.1.1, g.1.2 ∙ sym (did.2 c (unheld c f.0)))))
       (λ (h : SomeHolds s.views c). inr (still_held s.views id v w c at
-      (λ y i. ⊎_elim (λ (q : b ≡ c). absurd (ne (sym q))) (λ (t : Contains (noted_parts notes) c). note_in notes c t)
-      (cons_cases b (noted_parts notes) c (in_new c y i))) h))
+      (λ y i. ⊎_elim (λ (q : b ≡ c). absurd (ne (sym q))) (λ (t : Contains (parts_of_notes notes) c). note_in notes c t)
+      (cons_cases b (parts_of_notes notes) c (in_new c y i))) h))
       (k.each_part c l))))
       record {
         same_map = λ c p. old.same_map c (subst (λ (m : ℕ). 0 < m) (same_sums c) p);
-        fits = λ r h. subst (λ (q : Record O R). Fits log' q × Fits q.seen q) (only_mine w r alone h)
-            (let f : Fits log' w.mine = fits_with_call log e v.mine w.mine refl (starts_itself log')
+        fits = λ r h. subst (λ (q : Record O R). IsConsistent log' q × IsConsistent q.seen q) (only_mine w r alone h)
+            (let f : IsConsistent log' w.mine = fits_with_call log e v.mine w.mine refl (starts_itself log')
             (old.fits v.mine (here v.mine v.others)).0 in (f, f));
         known = λ r h c st. old.known v.mine (here v.mine v.others) c
             (subst (λ (m : ℕ). 0 < m) (stood_with_call e v.mine log' c)
             (subst (λ (q : Record O R). StandsFor q c) (sym (only_mine w r alone h)) st));
         holding = λ c y h.
-            let i : Contains (noted_parts notes) c = part_in notes c y h in
-            let z = in_old c (there b (noted_parts notes) c i) in
+            let i : Contains (parts_of_notes notes) c = part_in notes c y h in
+            let z = in_old c (there b (parts_of_notes notes) c i) in
             let m = held_apart A s.words s.homes v b 0 (some x) c z.0 (old.holding c z.0 z.1)
-            (λ q. apart (subst (λ (j : ℕ). Contains (noted_parts notes) j) q i)) in
+            (λ q. apart (subst (λ (j : ℕ). Contains (parts_of_notes notes) j) q i)) in
             record {
               within = m.within;
               word_is = m.word_is;
@@ -535,7 +535,7 @@ module _ {S X O R Y : Type 0} (n : ℕ) (content : S → Y) (part : ℕ → X �
       ))
       (λ c. same_sums c)
     where
-      same_sums : (c : ℕ) → stood_in c (after_call v k.log (call_by v.mine.number op reply) notes) ≡ stood_in c v
+      same_sums : (c : ℕ) → times_in_view c (after_call v k.log (call_by v.mine.number op reply) notes) ≡ times_in_view c v
       same_sums c =
           ap (λ (m : ℕ). fold (λ (a : ℕ) (r : Record O R). a + times_standing c r) (0 + m) v.others)
           (stood_with_call (call_by v.mine.number op reply) v.mine [] c)
@@ -546,32 +546,32 @@ module _ {S X O R Y : Type 0} (n : ℕ) (content : S → Y) (part : ℕ → X �
   abbrev Notes : Type 0
   Notes = List (Note Y)
 
-  stands_in : (v : V) → StandsFor v.mine v.mine.number → 0 < stood_in v.mine.number v
+  stands_in : (v : V) → StandsFor v.mine v.mine.number → 0 < times_in_view v.mine.number v
   stands_in v st = let a = stood_of v.mine.number v v.mine (here v.mine v.others) in omega arith
 
-  -- what a refused seat is told
+  -- the effect of a failed step on its seat
   abbrev Refused : M → ℕ → ℕ → V → Type 0
   Refused me b h w = let new : M = (w, me.1) in let missed : M = (with_miss me.0 h b, me.1) in (new ≡ missed)
       × (h < me.0.clients) × ¬ StandsFor me.0.mine h
 
-  takes_there : (slots id : ℕ) (me : M) (b mark : ℕ) → b < n → IsOne me.0 → mark ≡ suc me.0.mine.number
+  takes_there : (slots id : ℕ) (me : M) (b mark : ℕ) → b < n → IsSingleClient me.0 → mark ≡ suc me.0.mine.number
       → ((y : Y) → ¬ Contains me.0.holds (note b y))
-      → Allows Rule slots id me (table_place b) (λ x. either (eqb x 0) mark x)
-      (Took content part (step slots (table_place b) 0 mark none) me)
+      → Allows Invariant slots id me (table_index b) (λ x. either (eqb x 0) mark x)
+      (TakesPart content part (step slots (table_index b) 0 mark none) me)
   takes_there slots id me b mark within one mark_is apart s k deep at small =
       let v : V = me.0 in
-      let word : ℕ = slice_index s.words (table_place b) in
+      let word : ℕ = slice_index s.words (table_index b) in
       dite (ℕ_discrete word 0)
       (λ hit. ⊎_elim
       (λ (f : IsFree content part (state_after answer start k.log) s.words s.homes b).
       let x : S = f.1.0 in
       let w : V = with_part v b (content x) in (
         w,
-        takes (table_place b) x,
+        takes (table_index b) x,
         f.1.1,
-        subst (λ (t : Bool). Rule (stepped s (table_place b) (either t mark word) id me.1 w (takes (table_place b) x))) (sym (eq-eqb word 0 hit))
+        subst (λ (t : Bool). Invariant (stepped s (table_index b) (either t mark word) id me.1 w (takes (table_index b) x))) (sym (eq-eqb word 0 hit))
             (took_kept s k id v b x mark at one.0 one.1 mark_is within hit f.1.1 f.1.2),
-        (λ b' e. told b' e word (w, (table_place b, x) ∷ me.1)
+        (λ b' e. determined b' e word (w, (table_index b, x) ∷ me.1)
             ((λ z. (x, state_after answer start k.log, f.1.2, refl)), (λ h z. absurd (omega arith)))),
       ))
       (λ (t : SomeHolds s.views b). let d = ((k.each_view t.0 t.1 t.3).holding b t.2 t.4).word_is in absurd (omega arith))
@@ -584,8 +584,8 @@ module _ {S X O R Y : Type 0} (n : ℕ) (content : S → Y) (part : ℕ → X �
         w,
         keeps,
         tt,
-        subst (λ (t : Bool). Rule (stepped s (table_place b) (either t mark word) id me.1 w keeps)) (sym (ne_eqb word 0 miss)) m.0,
-        λ b' e. told b' e word (w, me.1) (
+        subst (λ (t : Bool). Invariant (stepped s (table_index b) (either t mark word) id me.1 w keeps)) (sym (ne_eqb word 0 miss)) m.0,
+        λ b' e. determined b' e word (w, me.1) (
           (λ z. absurd (miss z)),
           (λ g z. let same : h ≡ g = omega arith in
               subst (λ (j : ℕ). Refused me b j w) same (
@@ -597,42 +597,42 @@ module _ {S X O R Y : Type 0} (n : ℕ) (content : S → Y) (part : ℕ → X �
         ),
       ))
     where
-      -- the word is that of no other part
-      told : (b' : ℕ) → table_place b ≡ table_place b' → (found : ℕ) (me' : M) → TookPart content part b me found me'
-          → TookPart content part b' me found me'
-      told b' e found me' t = let same : b ≡ b' = omega arith in
-          subst (λ (j : ℕ). TookPart content part j me found me') same t
+      -- the word belongs to no other part
+      determined : (b' : ℕ) → table_index b ≡ table_index b' → (previous : ℕ) (me' : M) → TakesOrMisses content part b me previous me'
+          → TakesOrMisses content part b' me previous me'
+      determined b' e previous me' t = let same : b ≡ b' = omega arith in
+          subst (λ (j : ℕ). TakesOrMisses content part j me previous me') same t
 
-  pub takes_part : (slots id : ℕ) (me : M) (i b mark : ℕ) → i ≡ table_place b → b < n → IsOne me.0
+  pub takes_part : (slots id : ℕ) (me : M) (i b mark : ℕ) → i ≡ table_index b → b < n → IsSingleClient me.0
       → mark ≡ suc me.0.mine.number → ((y : Y) → ¬ Contains me.0.holds (note b y))
-      → Allows Rule slots id me i (λ x. either (eqb x 0) mark x) (Took content part (step slots i 0 mark none) me)
+      → Allows Invariant slots id me i (λ x. either (eqb x 0) mark x) (TakesPart content part (step slots i 0 mark none) me)
   takes_part slots id me i b mark at within one mark_is apart =
       subst
-      (λ (j : ℕ). Allows Rule slots id me j (λ x. either (eqb x 0) mark x) (Took content part (step slots j 0 mark none) me))
+      (λ (j : ℕ). Allows Invariant slots id me j (λ x. either (eqb x 0) mark x) (TakesPart content part (step slots j 0 mark none) me))
       (sym at) (takes_there slots id me b mark within one mark_is apart)
 
-  pub gives_part : (slots id : ℕ) (me : M) (b : ℕ) (x : S) (cs : List (ℕ × S)) (notes : Notes) → IsOne me.0
-      → me.1 ≡ (table_place b, x) ∷ cs → me.0.holds ≡ note b (content x) ∷ notes → ((y : Y) → ¬ Contains notes (note b y))
-      → Allows Rule slots id me (table_place b) (λ _. 0) (λ _. Gave (step slots (table_place b) 0 0 none) me 0)
+  pub gives_part : (slots id : ℕ) (me : M) (b : ℕ) (x : S) (cs : List (ℕ × S)) (notes : Notes) → IsSingleClient me.0
+      → me.1 ≡ (table_index b, x) ∷ cs → me.0.holds ≡ note b (content x) ∷ notes → ((y : Y) → ¬ Contains notes (note b y))
+      → Allows Invariant slots id me (table_index b) (λ _. 0) (λ _. GivesPart (step slots (table_index b) 0 0 none) me 0)
   gives_part slots id me b x cs notes one carried held apart s k deep at small =
       let v : V = me.0 in
-      let w : V = with_holds v (behind_first v.holds) in
-      let same : notes ≡ behind_first v.holds = ap (behind_first {A = Note Y}) (sym held) in (
+      let w : V = with_holds v (tail v.holds) in
+      let same : notes ≡ tail v.holds = ap (tail {A = Note Y}) (sym held) in (
         w,
         gives,
         tt,
-        subst (λ (l : List (ℕ × S)). Rule (stepped s (table_place b) 0 id l w gives)) (sym carried)
-            (subst (λ (l : Notes). Rule record
-            { words = set s.words (table_place b) 0; homes = set s.homes (table_place b) (some x); views = set s.views id (with_holds v l) }) same
+        subst (λ (l : List (ℕ × S)). Invariant (stepped s (table_index b) 0 id l w gives)) (sym carried)
+            (subst (λ (l : Notes). Invariant record
+            { words = set s.words (table_index b) 0; homes = set s.homes (table_index b) (some x); views = set s.views id (with_holds v l) }) same
             (gave_kept s k id v b x notes at one.0 held apart)),
         refl,
       )
 
   pub ends_call : (slots id : ℕ) (me : M) (b : ℕ) (x : S) (cs : List (ℕ × S)) (e : Call O R) (notes : Notes)
-      → IsOne me.0 → e.client ≡ me.0.mine.number → me.1 ≡ (table_place b, x) ∷ cs → noted_parts me.0.holds ≡ b ∷ noted_parts notes
-      → ¬ Contains (noted_parts notes) b
-      → AnswersRightly part answer proper e.operation e.reply me.0.holds (note b (content x) ∷ notes)
-      → Allows Rule slots id me (table_place b) (λ _. 0) (λ _. Ended answer e notes (step slots (table_place b) 0 0 none) me 0)
+      → IsSingleClient me.0 → e.client ≡ me.0.mine.number → me.1 ≡ (table_index b, x) ∷ cs → parts_of_notes me.0.holds ≡ b ∷ parts_of_notes notes
+      → ¬ Contains (parts_of_notes notes) b
+      → HasEffect part answer valid e.operation e.reply me.0.holds (note b (content x) ∷ notes)
+      → Allows Invariant slots id me (table_index b) (λ _. 0) (λ _. EndsWithCall answer e notes (step slots (table_index b) 0 0 none) me 0)
   ends_call slots id me b x cs e notes one by carried same apart done s k deep at small =
       let v : V = me.0 in
       let own : call_by v.mine.number e.operation e.reply ≡ e =
@@ -640,15 +640,15 @@ module _ {S X O R Y : Type 0} (n : ℕ) (content : S → Y) (part : ℕ → X �
       let log = k.log in
       let old = k.each_view id v at in
       let w : V = after_call v log e notes in
-      let new : Rule record { words = set s.words (table_place b) 0; homes = set s.homes (table_place b) (some x); views = set s.views id w } =
-      subst (λ (d : Call O R). Rule record {
-        words = set s.words (table_place b) 0;
-        homes = set s.homes (table_place b) (some x);
+      let new : Invariant record { words = set s.words (table_index b) 0; homes = set s.homes (table_index b) (some x); views = set s.views id w } =
+      subst (λ (d : Call O R). Invariant record {
+        words = set s.words (table_index b) 0;
+        homes = set s.homes (table_index b) (some x);
         views = set s.views id (after_call v log d notes);
       }) own
       (ended_kept s k id v b x notes e.operation e.reply at one.0 one.1 same apart done) in
-      let kept : Rule (stepped s (table_place b) 0 id me.1 w gives) =
-      subst (λ (l : List (ℕ × S)). Rule (stepped s (table_place b) 0 id l w gives)) (sym carried) new in
+      let kept : Invariant (stepped s (table_index b) 0 id me.1 w gives) =
+      subst (λ (l : List (ℕ × S)). Invariant (stepped s (table_index b) 0 id l w gives)) (sym carried) new in
       let mine = (kept.each_view id w (at_new s.views id v w at)).fits w.mine (here w.mine w.others) in
       let known = λ (q : Call O R) (h : Contains (log ++ e ∷ []) q). let r : q.client < clients =
       ⊎_elim (λ (o : Contains log q). k.named q o)
@@ -676,42 +676,42 @@ module _ {S X O R Y : Type 0} (n : ℕ) (content : S → Y) (part : ℕ → X �
         ),
       )
 
-  there_is : (v : V) (i b : ℕ) (x : S) (cs : List (ℕ × S)) → i ≡ table_place b → (me : M)
-      → (let now : M = (v, (i, x) ∷ cs) in me ≡ now) → (let now : M = (v, (table_place b, x) ∷ cs) in me ≡ now)
+  there_is : (v : V) (i b : ℕ) (x : S) (cs : List (ℕ × S)) → i ≡ table_index b → (me : M)
+      → (let now : M = (v, (i, x) ∷ cs) in me ≡ now) → (let now : M = (v, (table_index b, x) ∷ cs) in me ≡ now)
   there_is v i b x cs at me is = is ∙ (λ k. (v, (at k, x) ∷ cs))
 
-  -- the same, at a word and a seat that are known
+  -- the same for a known word and seat
   pub gives_part_as : (slots id : ℕ) (me : M) (v : V) (i b : ℕ) (x : S) (cs : List (ℕ × S)) (notes : Notes)
-      → i ≡ table_place b → (let now : M = (v, (i, x) ∷ cs) in me ≡ now) → IsOne v → v.holds ≡ note b (content x) ∷ notes
+      → i ≡ table_index b → (let now : M = (v, (i, x) ∷ cs) in me ≡ now) → IsSingleClient v → v.holds ≡ note b (content x) ∷ notes
       → ((y : Y) → ¬ Contains notes (note b y))
-      → Allows Rule slots id me i (λ _. 0) (λ _. Gave (step slots i 0 0 none) me 0)
+      → Allows Invariant slots id me i (λ _. 0) (λ _. GivesPart (step slots i 0 0 none) me 0)
   gives_part_as slots id me v i b x cs notes at is one held apart =
-      subst (λ (z : M × ℕ). Allows Rule slots id z.0 z.1 (λ _. 0) (λ _. Gave (step slots z.1 0 0 none) z.0 0))
+      subst (λ (z : M × ℕ). Allows Invariant slots id z.0 z.1 (λ _. 0) (λ _. GivesPart (step slots z.1 0 0 none) z.0 0))
       (λ k. (sym (there_is v i b x cs at me is) k, sym at k))
-      (gives_part slots id (v, (table_place b, x) ∷ cs) b x cs notes one refl held apart)
+      (gives_part slots id (v, (table_index b, x) ∷ cs) b x cs notes one refl held apart)
 
   pub ends_call_as : (slots id : ℕ) (me : M) (v : V) (i b : ℕ) (x : S) (cs : List (ℕ × S)) (e e' : Call O R)
-      (notes notes' : Notes) → i ≡ table_place b → e' ≡ e → notes' ≡ notes → (let now : M = (v, (i, x) ∷ cs) in me ≡ now)
-      → IsOne v → e.client ≡ v.mine.number → noted_parts v.holds ≡ b ∷ noted_parts notes → ¬ Contains (noted_parts notes) b
-      → AnswersRightly part answer proper e.operation e.reply v.holds (note b (content x) ∷ notes)
-      → Allows Rule slots id me i (λ _. 0) (λ _. Ended answer e' notes' (step slots i 0 0 none) me 0)
+      (notes notes' : Notes) → i ≡ table_index b → e' ≡ e → notes' ≡ notes → (let now : M = (v, (i, x) ∷ cs) in me ≡ now)
+      → IsSingleClient v → e.client ≡ v.mine.number → parts_of_notes v.holds ≡ b ∷ parts_of_notes notes → ¬ Contains (parts_of_notes notes) b
+      → HasEffect part answer valid e.operation e.reply v.holds (note b (content x) ∷ notes)
+      → Allows Invariant slots id me i (λ _. 0) (λ _. EndsWithCall answer e' notes' (step slots i 0 0 none) me 0)
   ends_call_as slots id me v i b x cs e e' notes notes' at same_e same_notes is one by same apart done =
-      subst (λ (z : M × Call O R × Notes × ℕ). Allows Rule slots id z.0 z.3 (λ _. 0)
-      (λ _. Ended answer z.1 z.2 (step slots z.3 0 0 none) z.0 0))
+      subst (λ (z : M × Call O R × Notes × ℕ). Allows Invariant slots id z.0 z.3 (λ _. 0)
+      (λ _. EndsWithCall answer z.1 z.2 (step slots z.3 0 0 none) z.0 0))
       (λ k. (sym (there_is v i b x cs at me is) k, sym same_e k, sym same_notes k, sym at k))
-      (ends_call slots id (v, (table_place b, x) ∷ cs) b x cs e notes one by refl same apart done)
+      (ends_call slots id (v, (table_index b, x) ∷ cs) b x cs e notes one by refl same apart done)
 
-  -- what the step tells, at a seat, a call and notes that are known
+  -- the effect of the step for a known seat, call and notes
   pub ended_is : (slots i : ℕ) (me me' : M) (v : V) (x : S) (cs : List (ℕ × S)) (e e' : Call O R)
       (notes notes' : Notes) → e' ≡ e → notes' ≡ notes → (let now : M = (v, (i, x) ∷ cs) in me ≡ now)
-      → map (λ c. c.0) cs ≡ map table_place (noted_parts notes)
-      → Ended answer e' notes' (step {S = S} slots i 0 0 none) me 0 me' → IsCarried me'
-      × EndsCall answer e notes v me'.0
-  ended_is slots i me me' v x cs e e' notes notes' same_e same_notes is carried told =
+      → map (λ c. c.0) cs ≡ map table_index (parts_of_notes notes)
+      → EndsWithCall answer e' notes' (step {S = S} slots i 0 0 none) me 0 me' → IsCarried me'
+      × CallTakesEffect answer e notes v me'.0
+  ended_is slots i me me' v x cs e e' notes notes' same_e same_notes is carried determined =
       let now : M = (v, (i, x) ∷ cs) in
-      let t : Ended answer e notes (step {S = S} slots i 0 0 none) now 0 me' =
-      subst (λ (z : M × Call O R × Notes). Ended answer z.1 z.2 (step {S = S} slots i 0 0 none) z.0 0 me')
-      (λ k. (is k, same_e k, same_notes k)) told in (
+      let t : EndsWithCall answer e notes (step {S = S} slots i 0 0 none) now 0 me' =
+      subst (λ (z : M × Call O R × Notes). EndsWithCall answer z.1 z.2 (step {S = S} slots i 0 0 none) z.0 0 me')
+      (λ k. (is k, same_e k, same_notes k)) determined in (
         subst (λ (m : M). IsCarried m) (sym t.1) carried,
         (t.0, (λ k. (t.1 k).0), t.2, t.3, t.4),
       )

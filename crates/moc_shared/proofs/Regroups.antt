@@ -1,4 +1,4 @@
--- Steps that regroup records: a look at the history, a join and a split.
+-- Steps that regroup records: reading the history, joining seats, and splitting a seat.
 use Rattle.std.proofs.Common.{◌≡◌, ◌≢◌, ◌⊎◌, ℕ, zero, suc, ◌+◌, ◌<◌, ◌≤◌, List, [], ◌∷◌, ◌++◌, map, length, set, refl}
 use Rattle.std.proofs.Common.{sym, ap, ◌∙◌, subst, inl, inr, ⊎_elim, arith, zero-add, sum_by, eqb, cond, Contains}
 use mathlib.Core.Option.{Option, none, some, some-ne-none, some-injective}
@@ -16,39 +16,39 @@ use Rattle.moc_shared.specs.declared.record.Calls.{Calls}
 use Rattle.moc_shared.specs.declared.record.Record.{Record}
 use Rattle.moc_shared.specs.declared.record.Note.{Note}
 use Rattle.moc_shared.specs.declared.record.View.{View}
-use Rattle.moc_shared.specs.History.{StartsWith, Fits, StandsFor, times_standing, IsLegal, IsHistory, MissesMarked}
+use Rattle.moc_shared.specs.History.{StartsWith, IsConsistent, StandsFor, times_standing, IsLegal, IsHistory, MissesMarked}
 use Rattle.moc_shared.specs.Seats.{note}
-use Rattle.moc_shared.specs.Private.Rule.{records, Present, stood_in, stood_by, SomeHolds, ViewFits, Kept}
-use Rattle.moc_shared.specs.Private.Plays.{seen_to, both_of, with_history, gathered, both_views, first_alone, Looked, Gathered, GatheredWith}
-use Rattle.moc_shared.specs.Private.Opening.{no_client, idle_view, seat_for}
+use Rattle.moc_shared.specs.Private.Invariant.{records, IsPresent, times_in_view, times_in_views, SomeHolds, IsConsistentView, TableInvariant}
+use Rattle.moc_shared.specs.Private.StepEffects.{with_seen, merged_record, with_history, merged, joined_views, first_record, ReadsHistory, MergesRecords, MergesWith}
+use Rattle.moc_shared.specs.Private.InitialViews.{no_client, idle_view, view_for}
 use Rattle.moc_shared.proofs.Basics.{here, there, none_in, only, cons_cases, sum_set, sum_set_same, starts_itself}
-use Rattle.moc_shared.proofs.Apart.{stood_of, present_cases}
+use Rattle.moc_shared.proofs.DistinctClients.{stood_of, present_cases}
 
 module _ {S X O R Y : Type 0} (n : ℕ) (content : S → Y) (part : ℕ → X → Y) (answer : X → O → X × R)
-    (proper : X → Type 0) (start : X) (clients : ℕ) where
+    (valid : X → Type 0) (start : X) (clients : ℕ) where
   abbrev V : Type 0
   V = View X O R Y
 
-  abbrev Rule : State S V → Type 0
-  Rule s = Kept n content part answer proper start clients s
+  abbrev Invariant : State S V → Type 0
+  Invariant s = TableInvariant n content part answer valid start clients s
 
   abbrev FitsIn : List (Call O R) → List ℕ → List (Option S) → V → Type 0
-  FitsIn log words homes v = ViewFits n content part answer proper start clients log words homes v
+  FitsIn log words homes v = IsConsistentView n content part answer valid start clients log words homes v
 
-  -- each record that stands for h has the marks of one that did
+  -- each record that stands for h has the marks of an old record that stood for h
   abbrev MarksStay : List V → List V → Type 0
-  MarksStay views views' = (r : Record O R) (h : ℕ) → Present views' r → StandsFor r h → (q : Record O R)
-      × Present views q × StandsFor q h × ((b : ℕ) → Contains q.marks (h, b) → Contains r.marks (h, b))
+  MarksStay views views' = (r : Record O R) (h : ℕ) → IsPresent views' r → StandsFor r h → (q : Record O R)
+      × IsPresent views q × StandsFor q h × ((b : ℕ) → Contains q.marks (h, b) → Contains r.marks (h, b))
 
   abbrev MissesStay : List V → List V → Type 0
-  MissesStay views views' = (r : Record O R) (h b : ℕ) → Present views' r → Contains r.misses (h, b) → (q : Record O R)
-      × Present views q × Contains q.misses (h, b)
+  MissesStay views views' = (r : Record O R) (h b : ℕ) → IsPresent views' r → Contains r.misses (h, b) → (q : Record O R)
+      × IsPresent views q × Contains q.misses (h, b)
 
-  regrouped : (s : State S V) (k : Rule s) (views : List V) → ((b : ℕ) → SomeHolds s.views b → SomeHolds views b)
+  regrouped : (s : State S V) (k : Invariant s) (views : List V) → ((b : ℕ) → SomeHolds s.views b → SomeHolds views b)
       → ((j : ℕ) (u : V) → get_elem? views j ≡ some u → FitsIn k.log s.words s.homes u)
-      → MarksStay s.views views → MissesStay s.views views → ((c : ℕ) → stood_by c views ≤ stood_by c s.views)
-      → ((r : Record O R) × Present views r × (r.seen ≡ k.log))
-      → Rule record { words = s.words; homes = s.homes; views = views }
+      → MarksStay s.views views → MissesStay s.views views → ((c : ℕ) → times_in_views c views ≤ times_in_views c s.views)
+      → ((r : Record O R) × IsPresent views r × (r.seen ≡ k.log))
+      → Invariant record { words = s.words; homes = s.homes; views = views }
   regrouped s k views parts fits marks misses sums shown = record {
     log = k.log;
     legal = k.legal;
@@ -64,7 +64,7 @@ module _ {S X O R Y : Type 0} (n : ℕ) (content : S → Y) (part : ℕ → X �
         let a = misses r h b pr m in
         let z = marks q h pq st in
         z.3 b (k.missed a.0 z.0 a.1 z.1 h b a.2 z.2);
-    alone = λ c. let few = k.alone c in let less = sums c in omega arith;
+    alone = λ c. let within_max = k.alone c in let less = sums c in omega arith;
   }
 
   at_new : (views : List V) (id : ℕ) (v w : V) → get_elem? views id ≡ some v → get_elem? (set views id w) id ≡ some w
@@ -72,7 +72,7 @@ module _ {S X O R Y : Type 0} (n : ℕ) (content : S → Y) (part : ℕ → X �
   at_new (x ∷ xs) zero v w e = refl
   at_new (x ∷ xs) (suc id) v w e = at_new xs id v w e
 
-  -- a part that was held still is, where the new view holds what the old one held
+  -- a part that was held is still held if the new view holds what the old one held
   still_held : (views : List V) (id : ℕ) (v w : V) (b : ℕ) → get_elem? views id ≡ some v → w.holds ≡ v.holds
       → SomeHolds views b → SomeHolds (set views id w) b
   still_held views id v w b at same (i, u, y, e, h) = dite (ℕ_discrete i id)
@@ -87,36 +87,36 @@ module _ {S X O R Y : Type 0} (n : ℕ) (content : S → Y) (part : ℕ → X �
       ))
       (λ other. (i, u, y, set_else views id i w other ∙ e, h))
 
-  seen_cases : (log : List (Call O R)) (rs : List (Record O R)) (r : Record O R) → Contains (map (seen_to log) rs) r
-      → (q : Record O R) × Contains rs q × (seen_to log q ≡ r)
+  seen_cases : (log : List (Call O R)) (rs : List (Record O R)) (r : Record O R) → Contains (map (with_seen log) rs) r
+      → (q : Record O R) × Contains rs q × (with_seen log q ≡ r)
   seen_cases log [] r h = absurd (none_in r h)
   seen_cases log (x ∷ xs) r h =
-      ⊎_elim (λ (e : seen_to log x ≡ r). (x, here x xs, e))
-      (λ (t : Contains (map (seen_to log) xs) r). let u = seen_cases log xs r t in (u.0, there x xs u.0 u.1, u.2))
-      (cons_cases (seen_to log x) (map (seen_to log) xs) r h)
+      ⊎_elim (λ (e : with_seen log x ≡ r). (x, here x xs, e))
+      (λ (t : Contains (map (with_seen log) xs) r). let u = seen_cases log xs r t in (u.0, there x xs u.0 u.1, u.2))
+      (cons_cases (with_seen log x) (map (with_seen log) xs) r h)
 
   seen_stood : (log : List (Call O R)) (c : ℕ) (rs : List (Record O R))
-      → sum_by (times_standing c) (map (seen_to log) rs) ≡ sum_by (times_standing c) rs
+      → sum_by (times_standing c) (map (with_seen log) rs) ≡ sum_by (times_standing c) rs
   seen_stood log c [] = refl
-  seen_stood log c (x ∷ xs) = sum_by-cons (times_standing c) (seen_to log x) (map (seen_to log) xs)
+  seen_stood log c (x ∷ xs) = sum_by-cons (times_standing c) (with_seen log x) (map (with_seen log) xs)
       ∙ ap (λ (m : ℕ). times_standing c x + m) (seen_stood log c xs) ∙ sym (sum_by-cons (times_standing c) x xs)
 
-  looked_kept : (s : State S V) (k : Rule s) (id : ℕ) (v : V) → get_elem? s.views id ≡ some v
-      → Rule record { words = s.words; homes = s.homes; views = set s.views id (with_history v k.log) }
+  looked_kept : (s : State S V) (k : Invariant s) (id : ℕ) (v : V) → get_elem? s.views id ≡ some v
+      → Invariant record { words = s.words; homes = s.homes; views = set s.views id (with_history v k.log) }
   looked_kept s k id v at =
       let w = with_history v k.log in
       let log = k.log in
       let old = k.each_view id v at in
       let was = λ (r : Record O R) (h : Contains (records w) r). let q : (q : Record O R) × Contains (records v) q
-      × (seen_to log q ≡ r) = seen_cases log (records v) r h in q in
-      let same_sums : (c : ℕ) → stood_in c w ≡ stood_in c v = (λ c. seen_stood log c (records v)) in
+      × (with_seen log q ≡ r) = seen_cases log (records v) r h in q in
+      let same_sums : (c : ℕ) → times_in_view c w ≡ times_in_view c v = (λ c. seen_stood log c (records v)) in
       regrouped s k (set s.views id w)
       (λ b h. still_held s.views id v w b at refl h)
       (λ j u e. ⊎_elim
       (λ (t : (j ≡ id) × (w ≡ u)). subst (FitsIn log s.words s.homes) t.1 record {
         same_map = λ c p. old.same_map c (subst (λ (m : ℕ). 0 < m) (same_sums c) p);
         fits = λ r h. let q = was r h in let f = (old.fits q.0 q.1).0 in
-            subst (λ (x : Record O R). Fits log x × Fits x.seen x) q.2
+            subst (λ (x : Record O R). IsConsistent log x × IsConsistent x.seen x) q.2
             ((starts_itself log, f.1), (starts_itself log, f.1));
         known = λ r h c st. let q = was r h in
             old.known q.0 q.1 c (subst (λ (x : Record O R). StandsFor x c) (sym q.2) st);
@@ -140,30 +140,30 @@ module _ {S X O R Y : Type 0} (n : ℕ) (content : S → Y) (part : ℕ → X �
         λ b m. subst
             (λ (x : Record O R). Contains x.marks (h, b)) q.2 m,
       ))
-      (λ (o : Present s.views r). (r, o, st, λ b m. m))
+      (λ (o : IsPresent s.views r). (r, o, st, λ b m. m))
       (present_cases s.views id w r p))
       (λ r h b p m. ⊎_elim
       (λ (i : Contains (records w) r). let q = was r i in
       (q.0, (id, v, at, q.1), subst (λ (x : Record O R). Contains x.misses (h, b)) (sym q.2) m))
-      (λ (o : Present s.views r). (r, o, m))
+      (λ (o : IsPresent s.views r). (r, o, m))
       (present_cases s.views id w r p))
-      (λ c. let e = sum_set_same (stood_in c) s.views id v w at (same_sums c) in omega arith)
+      (λ c. let e = sum_set_same (times_in_view c) s.views id v w at (same_sums c) in omega arith)
       (w.mine, (id, w, at_new s.views id v w at, here w.mine w.others), refl)
 
-  stood_both : (c : ℕ) (r q : Record O R) (log : List (Call O R)) → times_standing c (both_of r q log) ≡ times_standing c r + times_standing c q
+  stood_both : (c : ℕ) (r q : Record O R) (log : List (Call O R)) → times_standing c (merged_record r q log) ≡ times_standing c r + times_standing c q
   stood_both c r q log = sum_by-append (λ (k : Calls O R). cond (eqb k.client c) 1 0) r.own q.own
 
-  stood_two : (c : ℕ) (v : V) (q : Record O R) → v.others ≡ q ∷ [] → stood_in c v ≡ times_standing c v.mine + times_standing c q
+  stood_two : (c : ℕ) (v : V) (q : Record O R) → v.others ≡ q ∷ [] → times_in_view c v ≡ times_standing c v.mine + times_standing c q
   stood_two c v q two = ap (λ (l : List (Record O R)). sum_by (times_standing c) (v.mine ∷ l)) two
       ∙ sum_by-cons (times_standing c) v.mine (q ∷ []) ∙ ap (λ (m : ℕ). times_standing c v.mine + m) (zero-add (times_standing c q))
 
-  gathered_kept : (s : State S V) (k : Rule s) (id : ℕ) (v : V) (q : Record O R) → get_elem? s.views id ≡ some v
+  gathered_kept : (s : State S V) (k : Invariant s) (id : ℕ) (v : V) (q : Record O R) → get_elem? s.views id ≡ some v
       → v.others ≡ q ∷ []
-      → Rule record { words = s.words; homes = s.homes; views = set s.views id (gathered v q k.log) }
-      × StartsWith k.log v.mine.seen × StartsWith k.log q.seen × Fits k.log (both_of v.mine q k.log)
-      × MissesMarked (both_of v.mine q k.log)
+      → Invariant record { words = s.words; homes = s.homes; views = set s.views id (merged v q k.log) }
+      × StartsWith k.log v.mine.seen × StartsWith k.log q.seen × IsConsistent k.log (merged_record v.mine q k.log)
+      × MissesMarked (merged_record v.mine q k.log)
   gathered_kept s k id v q at two =
-      let w = gathered v q k.log in
+      let w = merged v q k.log in
       let log = k.log in
       let old = k.each_view id v at in
       let first = here v.mine v.others in
@@ -171,34 +171,34 @@ module _ {S X O R Y : Type 0} (n : ℕ) (content : S → Y) (part : ℕ → X �
       subst (λ (l : List (Record O R)). Contains (v.mine ∷ l) q) (sym two) (there v.mine (q ∷ []) q (here q [])) in
       let f = (old.fits v.mine first).0 in
       let g = (old.fits q second).0 in
-      let fit : Fits log w.mine = (
+      let fit : IsConsistent log w.mine = (
         starts_itself log,
         λ c i. ⊎_elim (λ (t : Contains v.mine.own c). f.1 c t) (λ (t : Contains q.own c). g.1 c t)
             (Contains-append_cases v.mine.own q.own c i),
       ) in
-      let same_sums : (c : ℕ) → stood_in c w ≡ stood_in c v =
+      let same_sums : (c : ℕ) → times_in_view c w ≡ times_in_view c v =
       (λ c. zero-add (times_standing c w.mine) ∙ stood_both c v.mine q log ∙ sym (stood_two c v q two)) in
       let one = λ (r : Record O R) (h : Contains (records w) r). let e : w.mine ≡ r = only w.mine r h in e in
       let marks : MarksStay s.views (set s.views id w) = (λ r h p st. ⊎_elim
       (λ (i : Contains (records w) r). let e = one r i in
       let st' : StandsFor w.mine h = subst (λ (x : Record O R). StandsFor x h) (sym e) st in let sum =
       stood_both h v.mine q log in pick h r e st' sum)
-      (λ (o : Present s.views r). (r, o, st, λ b m. m))
+      (λ (o : IsPresent s.views r). (r, o, st, λ b m. m))
       (present_cases s.views id w r p)) in
       let misses : MissesStay s.views (set s.views id w) = (λ r h b p m. ⊎_elim
       (λ (i : Contains (records w) r). ⊎_elim (λ (t : Contains v.mine.misses (h, b)). (v.mine, (id, v, at, first), t))
       (λ (t : Contains q.misses (h, b)). (q, (id, v, at, second), t))
       (Contains-append_cases v.mine.misses q.misses (h, b)
       (subst (λ (x : Record O R). Contains x.misses (h, b)) (sym (one r i)) m)))
-      (λ (o : Present s.views r). (r, o, m))
+      (λ (o : IsPresent s.views r). (r, o, m))
       (present_cases s.views id w r p)) in
-      let kept : Rule record { words = s.words; homes = s.homes; views = set s.views id w } =
+      let kept : Invariant record { words = s.words; homes = s.homes; views = set s.views id w } =
       regrouped s k (set s.views id w)
       (λ b h. still_held s.views id v w b at refl h)
       (λ j u e. ⊎_elim
       (λ (t : (j ≡ id) × (w ≡ u)). subst (FitsIn log s.words s.homes) t.1 record {
         same_map = λ c p. old.same_map c (subst (λ (m : ℕ). 0 < m) (same_sums c) p);
-        fits = λ r h. subst (λ (x : Record O R). Fits log x × Fits x.seen x) (one r h) (fit, fit);
+        fits = λ r h. subst (λ (x : Record O R). IsConsistent log x × IsConsistent x.seen x) (one r h) (fit, fit);
         known = λ r h c st. known_one c (subst (λ (x : Record O R). StandsFor x c) (sym (one r h)) st);
         holding = λ b y h. let m = old.holding b y h in let st = m.stands in let sum =
             stood_both v.mine.number v.mine q log in
@@ -216,7 +216,7 @@ module _ {S X O R Y : Type 0} (n : ℕ) (content : S → Y) (part : ℕ → X �
       (at_set s.views id j w u e))
       marks
       misses
-      (λ c. let e = sum_set_same (stood_in c) s.views id v w at (same_sums c) in omega arith)
+      (λ c. let e = sum_set_same (times_in_view c) s.views id v w at (same_sums c) in omega arith)
       (w.mine, (id, w, at_new s.views id v w at, here w.mine w.others), refl) in (
         kept,
         f.0,
@@ -231,16 +231,16 @@ module _ {S X O R Y : Type 0} (n : ℕ) (content : S → Y) (part : ℕ → X �
       second' =
           subst (λ (l : List (Record O R)). Contains (v.mine ∷ l) q) (sym two) (there v.mine (q ∷ []) q (here q []))
 
-      known_one : (c : ℕ) → StandsFor (both_of v.mine q k.log) c → c < clients
+      known_one : (c : ℕ) → StandsFor (merged_record v.mine q k.log) c → c < clients
       known_one c st = dite (ℕ_discrete (times_standing c v.mine) 0)
           (λ z. (k.each_view id v at).known q second' c
           (let sum = stood_both c v.mine q k.log in let z' : times_standing c v.mine ≡ 0 = z in omega arith))
           (λ nz. (k.each_view id v at).known v.mine (here v.mine v.others) c
           (let z' : times_standing c v.mine ≢ 0 = nz in omega arith))
 
-      pick : (h : ℕ) (r : Record O R) → both_of v.mine q k.log ≡ r → StandsFor (both_of v.mine q k.log) h
-          → times_standing h (both_of v.mine q k.log) ≡ times_standing h v.mine + times_standing h q
-          → (x : Record O R) × Present s.views x × StandsFor x h
+      pick : (h : ℕ) (r : Record O R) → merged_record v.mine q k.log ≡ r → StandsFor (merged_record v.mine q k.log) h
+          → times_standing h (merged_record v.mine q k.log) ≡ times_standing h v.mine + times_standing h q
+          → (x : Record O R) × IsPresent s.views x × StandsFor x h
           × ((b : ℕ) → Contains x.marks (h, b) → Contains r.marks (h, b))
       pick h r e st sum = dite (ℕ_discrete (times_standing h v.mine) 0)
           (λ z. (
@@ -262,12 +262,12 @@ module _ {S X O R Y : Type 0} (n : ℕ) (content : S → Y) (part : ℕ → X �
   none_stood : (c : ℕ) → StandsFor (no_client {O = O} {R = R}) c → ⊥
   none_stood c st = omega arith
 
-  joined_kept : (s : State S V) (k : Rule s) (id : ℕ) (v : V) (other : ℕ) (w spent : V) → StandsFor v.mine v.mine.number
+  joined_kept : (s : State S V) (k : Invariant s) (id : ℕ) (v : V) (other : ℕ) (w spent : V) → StandsFor v.mine v.mine.number
       → spent.mine ≡ no_client → spent.others ≡ [] → spent.holds ≡ [] → w.holds ≡ [] → get_elem? s.views id ≡ some v
       → other ≢ id → get_elem? s.views other ≡ some w
-      → Rule record { words = s.words; homes = s.homes; views = set (set s.views id (both_views v w)) other spent }
-  joined_kept s k id v other w spent stands blank lone empty free at apart there_is =
-      let u = both_views v w in
+      → Invariant record { words = s.words; homes = s.homes; views = set (set s.views id (joined_views v w)) other spent }
+  joined_kept s k id v other w spent stands empty_slots lone empty free at apart there_is =
+      let u = joined_views v w in
       let log = k.log in
       let old = k.each_view id v at in
       let and = k.each_view other w there_is in
@@ -276,26 +276,26 @@ module _ {S X O R Y : Type 0} (n : ℕ) (content : S → Y) (part : ℕ → X �
       let from = λ (r : Record O R) (h : Contains (records u) r). let t : Contains (records v) r
       ⊎ Contains (records w) r = Contains-append_cases (records v) (records w) r h in t in
       let spent_is : (r : Record O R) → Contains (records spent) r → no_client ≡ r =
-      (λ r h. sym blank ∙ only spent.mine r (subst (λ (l : List (Record O R)). Contains (spent.mine ∷ l) r) lone h))
+      (λ r h. sym empty_slots ∙ only spent.mine r (subst (λ (l : List (Record O R)). Contains (spent.mine ∷ l) r) lone h))
       in
-      let was : (r : Record O R) → Present (set mid other spent) r → (no_client ≡ r) ⊎ Present s.views r = (λ r p. ⊎_elim
+      let was : (r : Record O R) → IsPresent (set mid other spent) r → (no_client ≡ r) ⊎ IsPresent s.views r = (λ r p. ⊎_elim
       (λ (h : Contains (records spent) r). inl (spent_is r h))
-      (λ (m : Present mid r). ⊎_elim
+      (λ (m : IsPresent mid r). ⊎_elim
       (λ (h : Contains (records u) r). ⊎_elim (λ (a : Contains (records v) r). inr (id, v, at, a))
-      (λ (b : Contains (records w) r). inr (other, w, there_is, b)) (from r h)) (λ (o : Present s.views r). inr o)
+      (λ (b : Contains (records w) r). inr (other, w, there_is, b)) (from r h)) (λ (o : IsPresent s.views r). inr o)
       (present_cases s.views id u r m))
       (present_cases mid other spent r p)) in
-      let sum_u : (c : ℕ) → stood_in c u ≡ stood_in c v + stood_in c w =
+      let sum_u : (c : ℕ) → times_in_view c u ≡ times_in_view c v + times_in_view c w =
       (λ c. sum_by-append (times_standing c) (records v) (records w)) in
-      let sum_spent : (c : ℕ) → stood_in c spent ≡ 0 =
+      let sum_spent : (c : ℕ) → times_in_view c spent ≡ 0 =
       (λ c. ap (λ (l : List (Record O R)). sum_by (times_standing c) (spent.mine ∷ l)) lone
-      ∙ ap (λ (r : Record O R). 0 + times_standing c r) blank) in
+      ∙ ap (λ (r : Record O R). 0 + times_standing c r) empty_slots) in
       regrouped s k (set mid other spent)
       (λ b h. goes b h)
       (λ j x e. ⊎_elim
       (λ (t : (j ≡ other) × (spent ≡ x)). subst (FitsIn log s.words s.homes) t.1 record {
         same_map = λ c p. let z = sum_spent c in absurd (omega arith);
-        fits = λ r h. subst (λ (q : Record O R). Fits log q × Fits q.seen q) (spent_is r h)
+        fits = λ r h. subst (λ (q : Record O R). IsConsistent log q × IsConsistent q.seen q) (spent_is r h)
             (((log, refl), λ c i. absurd (none_in c i)), (([], refl), λ c i. absurd (none_in c i)));
         known = λ r h c st. absurd (none_stood c (subst (λ (q : Record O R). StandsFor q c) (sym (spent_is r h)) st));
         holding = λ b y h. absurd (none_in (note b y) (subst (λ (l : List (Note Y)). Contains l (note b y)) empty h));
@@ -324,25 +324,25 @@ module _ {S X O R Y : Type 0} (n : ℕ) (content : S → Y) (part : ℕ → X �
       (at_set mid other j spent x e))
       (λ r h p st. ⊎_elim
       (λ (z : no_client ≡ r). absurd (none_stood h (subst (λ (q : Record O R). StandsFor q h) (sym z) st)))
-      (λ (o : Present s.views r). (r, o, st, λ b m. m)) (was r p))
+      (λ (o : IsPresent s.views r). (r, o, st, λ b m. m)) (was r p))
       (λ r h b p m. ⊎_elim
       (λ (z : no_client ≡ r). absurd (none_in (h, b) (subst (λ (q : Record O R). Contains q.misses (h, b)) (sym z) m)))
-      (λ (o : Present s.views r). (r, o, m)) (was r p))
-      (λ c. let a = sum_set (stood_in c) s.views id v u at in let b = sum_set (stood_in c) mid other w spent at_mid in
+      (λ (o : IsPresent s.views r). (r, o, m)) (was r p))
+      (λ c. let a = sum_set (times_in_view c) s.views id v u at in let b = sum_set (times_in_view c) mid other w spent at_mid in
       let d = sum_u c in let e = sum_spent c in omega arith)
       (seen_by k.shown.0 k.shown.1 k.shown.2)
     where
-      seen_by : (r : Record O R) → Present s.views r → r.seen ≡ k.log → (q : Record O R)
-          × Present (set (set s.views id (both_views v w)) other spent) q × (q.seen ≡ k.log)
+      seen_by : (r : Record O R) → IsPresent s.views r → r.seen ≡ k.log → (q : Record O R)
+          × IsPresent (set (set s.views id (joined_views v w)) other spent) q × (q.seen ≡ k.log)
       seen_by r (i, x, e, h) all = dite (ℕ_discrete i other)
           (λ z. let one : x ≡ w = some-injective x w
           (sym e ∙ subst (λ (j : ℕ). get_elem? s.views j ≡ some w) (sym z) there_is) in (
             r,
             (
               id,
-              both_views v w,
-              set_else (set s.views id (both_views v w)) other id spent (λ q. apart (sym q))
-                  ∙ at_new s.views id v (both_views v w) at,
+              joined_views v w,
+              set_else (set s.views id (joined_views v w)) other id spent (λ q. apart (sym q))
+                  ∙ at_new s.views id v (joined_views v w) at,
               Contains-append_right (records v) (records w) r
                   (subst (λ (q : V). Contains (records q) r) one h),
             ),
@@ -354,9 +354,9 @@ module _ {S X O R Y : Type 0} (n : ℕ) (content : S → Y) (part : ℕ → X �
             r,
             (
               id,
-              both_views v w,
-              set_else (set s.views id (both_views v w)) other id spent (λ q. apart (sym q))
-                  ∙ at_new s.views id v (both_views v w) at,
+              joined_views v w,
+              set_else (set s.views id (joined_views v w)) other id spent (λ q. apart (sym q))
+                  ∙ at_new s.views id v (joined_views v w) at,
               Contains-append_left (records v) (records w) r
                   (subst (λ (q : V). Contains (records q) r) one h),
             ),
@@ -367,15 +367,15 @@ module _ {S X O R Y : Type 0} (n : ℕ) (content : S → Y) (part : ℕ → X �
             (
               i,
               x,
-              set_else (set s.views id (both_views v w)) other i spent ne
-                  ∙ set_else s.views id i (both_views v w) nz ∙ e,
+              set_else (set s.views id (joined_views v w)) other i spent ne
+                  ∙ set_else s.views id i (joined_views v w) nz ∙ e,
               h,
             ),
             all,
           )))
 
-      -- the parts that were held still are
-      goes : (b : ℕ) → SomeHolds s.views b → SomeHolds (set (set s.views id (both_views v w)) other spent) b
+      -- the parts that were held are still held
+      goes : (b : ℕ) → SomeHolds s.views b → SomeHolds (set (set s.views id (joined_views v w)) other spent) b
       goes b (i, x, y, e, h) = dite (ℕ_discrete i other)
           (λ z. let one : x ≡ w = some-injective x w
           (sym e ∙ subst (λ (j : ℕ). get_elem? s.views j ≡ some w) (sym z) there_is) in
@@ -386,45 +386,45 @@ module _ {S X O R Y : Type 0} (n : ℕ) (content : S → Y) (part : ℕ → X �
           (λ z. let one : x ≡ v = some-injective x v
           (sym e ∙ subst (λ (j : ℕ). get_elem? s.views j ≡ some v) (sym z) at) in (
             id,
-            both_views v w,
+            joined_views v w,
             y,
-            set_else (set s.views id (both_views v w)) other id spent (λ q. apart (sym q))
-                ∙ at_new s.views id v (both_views v w) at,
+            set_else (set s.views id (joined_views v w)) other id spent (λ q. apart (sym q))
+                ∙ at_new s.views id v (joined_views v w) at,
             subst (λ (q : V). Contains q.holds (note b y)) one h,
           ))
           (λ nz. (
             i,
             x,
             y,
-            set_else (set s.views id (both_views v w)) other i spent ne
-                ∙ set_else s.views id i (both_views v w) nz ∙ e,
+            set_else (set s.views id (joined_views v w)) other i spent ne
+                ∙ set_else s.views id i (joined_views v w) nz ∙ e,
             h,
           )))
 
-  cut_kept : (s : State S V) (k : Rule s) (id : ℕ) (v right : V) → StandsFor v.mine v.mine.number
+  cut_kept : (s : State S V) (k : Invariant s) (id : ℕ) (v right : V) → StandsFor v.mine v.mine.number
       → get_elem? s.views id ≡ some v → right.start ≡ v.start → right.clients ≡ v.clients → right.holds ≡ []
       → ((r : Record O R) → Contains (records right) r → (no_client ≡ r) ⊎ Contains v.others r)
       → ((r : Record O R) → Contains v.others r → Contains (records right) r)
-      → ((c : ℕ) → stood_in c right ≡ sum_by (times_standing c) v.others)
-      → Rule record { words = s.words; homes = s.homes; views = set s.views id (first_alone v) ++ right ∷ [] }
+      → ((c : ℕ) → times_in_view c right ≡ sum_by (times_standing c) v.others)
+      → Invariant record { words = s.words; homes = s.homes; views = set s.views id (first_record v) ++ right ∷ [] }
   cut_kept s k id v right stands at same_start same_clients empty theirs keep sums =
-      let left = first_alone v in
+      let left = first_record v in
       let log = k.log in
       let old = k.each_view id v at in
       let mid = set s.views id left in
       let first = here v.mine v.others in
       let map_of = old.same_map v.mine.number (let a = stood_of v.mine.number v v.mine first in omega arith) in
-      let two : (c : ℕ) → stood_in c v ≡ times_standing c v.mine + sum_by (times_standing c) v.others =
+      let two : (c : ℕ) → times_in_view c v ≡ times_standing c v.mine + sum_by (times_standing c) v.others =
       (λ c. sum_by-cons (times_standing c) v.mine v.others) in
-      let in_old = λ (r : Record O R) (h : Contains v.others r). let t : Present s.views r =
+      let in_old = λ (r : Record O R) (h : Contains v.others r). let t : IsPresent s.views r =
       (id, v, at, there v.mine v.others r h) in t in
-      let right_was = λ (r : Record O R) (h : Contains (records right) r). let t : (no_client ≡ r) ⊎ Present s.views r =
+      let right_was = λ (r : Record O R) (h : Contains (records right) r). let t : (no_client ≡ r) ⊎ IsPresent s.views r =
       ⊎_elim (λ z. inl z) (λ o. inr (in_old r o)) (theirs r h) in t in
-      let was : (r : Record O R) → Present (mid ++ right ∷ []) r → (no_client ≡ r) ⊎ Present s.views r = (λ r p. ⊎_elim
+      let was : (r : Record O R) → IsPresent (mid ++ right ∷ []) r → (no_client ≡ r) ⊎ IsPresent s.views r = (λ r p. ⊎_elim
       (λ (e : get_elem? mid p.0 ≡ some p.1). ⊎_elim
       (λ (h : Contains (records left) r). inr
       (id, v, at, subst (λ (q : Record O R). Contains (records v) q) (only v.mine r h) first))
-      (λ (o : Present s.views r). inr o)
+      (λ (o : IsPresent s.views r). inr o)
       (present_cases s.views id left r (p.0, p.1, e, p.3)))
       (λ (e : right ≡ p.1). right_was r (subst (λ (q : V). Contains (records q) r) (sym e) p.3))
       (at_snoc mid right p.1 p.0 p.2)) in
@@ -435,7 +435,7 @@ module _ {S X O R Y : Type 0} (n : ℕ) (content : S → Y) (part : ℕ → X �
       (λ (m : get_elem? mid j ≡ some x). ⊎_elim
       (λ (q : (j ≡ id) × (left ≡ x)). subst (FitsIn log s.words s.homes) q.1 record {
         same_map = λ c p. map_of;
-        fits = λ r h. subst (λ (y : Record O R). Fits log y × Fits y.seen y) (only v.mine r h) (old.fits v.mine first);
+        fits = λ r h. subst (λ (y : Record O R). IsConsistent log y × IsConsistent y.seen y) (only v.mine r h) (old.fits v.mine first);
         known = λ r h c st. old.known v.mine first c
             (subst (λ (y : Record O R). StandsFor y c) (sym (only v.mine r h)) st);
         holding = λ b y h. let d = old.holding b y h in
@@ -453,7 +453,7 @@ module _ {S X O R Y : Type 0} (n : ℕ) (content : S → Y) (part : ℕ → X �
       (λ (q : right ≡ x). subst (FitsIn log s.words s.homes) q record {
         same_map = λ c p. (same_start ∙ map_of.0, same_clients ∙ map_of.1);
         fits = λ r h. ⊎_elim
-            (λ (z : no_client ≡ r). subst (λ (y : Record O R). Fits log y × Fits y.seen y) z
+            (λ (z : no_client ≡ r). subst (λ (y : Record O R). IsConsistent log y × IsConsistent y.seen y) z
             (((log, refl), λ c i. absurd (none_in c i)), (([], refl), λ c i. absurd (none_in c i))))
             (λ (o : Contains v.others r). old.fits r (there v.mine v.others r o)) (theirs r h);
         known = λ r h c st. ⊎_elim
@@ -464,22 +464,22 @@ module _ {S X O R Y : Type 0} (n : ℕ) (content : S → Y) (part : ℕ → X �
       (at_snoc mid right x j e))
       (λ r h p st. ⊎_elim
       (λ (z : no_client ≡ r). absurd (none_stood h (subst (λ (q : Record O R). StandsFor q h) (sym z) st)))
-      (λ (o : Present s.views r). (r, o, st, λ b m. m)) (was r p))
+      (λ (o : IsPresent s.views r). (r, o, st, λ b m. m)) (was r p))
       (λ r h b p m. ⊎_elim
       (λ (z : no_client ≡ r). absurd (none_in (h, b) (subst (λ (q : Record O R). Contains q.misses (h, b)) (sym z) m)))
-      (λ (o : Present s.views r). (r, o, m)) (was r p))
-      (λ c. let a = sum_set (stood_in c) s.views id v left at in let b = sum_by_push (stood_in c) mid right in
-      let d = two c in let e = sums c in let f : stood_in c left ≡ times_standing c v.mine = zero-add (times_standing c v.mine) in
+      (λ (o : IsPresent s.views r). (r, o, m)) (was r p))
+      (λ c. let a = sum_set (times_in_view c) s.views id v left at in let b = sum_by_push (times_in_view c) mid right in
+      let d = two c in let e = sums c in let f : times_in_view c left ≡ times_standing c v.mine = zero-add (times_standing c v.mine) in
       omega arith)
       (seen_by k.shown.0 k.shown.1 k.shown.2)
     where
       two_views : List V
-      two_views = set s.views id (first_alone v) ++ right ∷ []
+      two_views = set s.views id (first_record v) ++ right ∷ []
 
-      at_right : get_elem? two_views (length (set s.views id (first_alone v))) ≡ some right
-      at_right = at_last (set s.views id (first_alone v)) right (length (set s.views id (first_alone v))) refl
+      at_right : get_elem? two_views (length (set s.views id (first_record v))) ≡ some right
+      at_right = at_last (set s.views id (first_record v)) right (length (set s.views id (first_record v))) refl
 
-      seen_by : (r : Record O R) → Present s.views r → r.seen ≡ k.log → (q : Record O R) × Present two_views q
+      seen_by : (r : Record O R) → IsPresent s.views r → r.seen ≡ k.log → (q : Record O R) × IsPresent two_views q
           × (q.seen ≡ k.log)
       seen_by r (i, x, e, h) all = dite (ℕ_discrete i id)
           (λ z. let one : x ≡ v = some-injective x v
@@ -489,58 +489,58 @@ module _ {S X O R Y : Type 0} (n : ℕ) (content : S → Y) (part : ℕ → X �
             r,
             (
               id,
-              first_alone v,
-              at_longer (set s.views id (first_alone v)) (right ∷ []) id (first_alone v)
-                  (at_new s.views id v (first_alone v) at),
-              subst (λ (q : Record O R). Contains (records (first_alone v)) q)
+              first_record v,
+              at_longer (set s.views id (first_record v)) (right ∷ []) id (first_record v)
+                  (at_new s.views id v (first_record v) at),
+              subst (λ (q : Record O R). Contains (records (first_record v)) q)
                   m (here v.mine []),
             ),
             all,
           ))
-          (λ (o : Contains v.others r). (r, (length (set s.views id (first_alone v)), right, at_right, keep r o), all))
+          (λ (o : Contains v.others r). (r, (length (set s.views id (first_record v)), right, at_right, keep r o), all))
           (cons_cases v.mine v.others r (subst (λ (q : V). Contains (records q) r) one h)))
           (λ nz. (
             r,
             (
               i,
               x,
-              at_longer (set s.views id (first_alone v)) (right ∷ []) i x
-                  (set_else s.views id i (first_alone v) nz ∙ e),
+              at_longer (set s.views id (first_record v)) (right ∷ []) i x
+                  (set_else s.views id i (first_record v) nz ∙ e),
               h,
             ),
             all,
           ))
 
-  split_kept : (s : State S V) (k : Rule s) (id : ℕ) (v : V) → StandsFor v.mine v.mine.number
+  split_kept : (s : State S V) (k : Invariant s) (id : ℕ) (v : V) → StandsFor v.mine v.mine.number
       → get_elem? s.views id ≡ some v
-      → Rule record {
+      → Invariant record {
         words = s.words;
         homes = s.homes;
-        views = set s.views id (first_alone v) ++ seat_for v.start v.clients v.others ∷ [];
+        views = set s.views id (first_record v) ++ view_for v.start v.clients v.others ∷ [];
       }
   split_kept s k id v stands at = cut v.others refl
     where
       cut : (rs : List (Record O R)) → v.others ≡ rs
-          → Rule record {
+          → Invariant record {
             words = s.words;
             homes = s.homes;
-            views = set s.views id (first_alone v) ++ seat_for v.start v.clients rs ∷ [];
+            views = set s.views id (first_record v) ++ view_for v.start v.clients rs ∷ [];
           }
       cut [] e =
           cut_kept s k id v (idle_view v.start v.clients) stands at refl refl refl (λ r h. inl (only no_client r h))
           (λ r h. absurd (none_in r (subst (λ (l : List (Record O R)). Contains l r) e h)))
           (λ c. sym (ap (sum_by (times_standing c)) e))
       cut (r ∷ rs) e =
-          cut_kept s k id v (seat_for v.start v.clients (r ∷ rs)) stands at refl refl refl
+          cut_kept s k id v (view_for v.start v.clients (r ∷ rs)) stands at refl refl refl
           (λ q h. inr (subst (λ (l : List (Record O R)). Contains l q) (sym e) h))
           (λ q h. subst (λ (l : List (Record O R)). Contains l q) e h) (λ c. sym (ap (sum_by (times_standing c)) e))
 
   abbrev M : Type 0
   M = Me S V
 
-  -- what the table's calls ask
-  -- the rule's history is one of the map that the view of a client knows
-  history_of : (s : State S V) (k : Rule s) (id : ℕ) (v : V) → get_elem? s.views id ≡ some v
+  -- The requirements of the table's calls: the history of the invariant is one of the map that the view of a client
+  -- knows.
+  history_of : (s : State S V) (k : Invariant s) (id : ℕ) (v : V) → get_elem? s.views id ≡ some v
       → StandsFor v.mine v.mine.number → IsHistory answer v.start v.clients k.log
   history_of s k id v at stands =
       let sum = stood_of v.mine.number v v.mine (here v.mine v.others) in
@@ -550,40 +550,40 @@ module _ {S X O R Y : Type 0} (n : ℕ) (content : S → Y) (part : ℕ → X �
       )
 
   pub looks : (slots id : ℕ) (me : M) (b : ℕ) → StandsFor me.0.mine me.0.mine.number
-      → Allows Rule slots id me b (λ x. x) (Looked answer (step slots b 0 0 none) me)
+      → Allows Invariant slots id me b (λ x. x) (ReadsHistory answer (step slots b 0 0 none) me)
   looks slots id me b stands s k deep at small =
       let v : V = me.0 in
       let old = k.each_view id v at in (
         with_history v k.log,
         keeps,
         tt,
-        subst (λ (l : List ℕ). Rule record
+        subst (λ (l : List ℕ). Invariant record
             { words = l; homes = s.homes; views = set s.views id (with_history v k.log) })
             (sym (set-get_or s.words b 0)) (looked_kept s k id v at),
         (k.log, refl, history_of s k id v at stands, λ r h. let f = (old.fits r h).0 in (f.0, f)),
       )
 
   pub gathers : (slots id : ℕ) (me : M) (b : ℕ) (q : Record O R) → StandsFor me.0.mine me.0.mine.number
-      → me.0.others ≡ q ∷ [] → Allows Rule slots id me b (λ x. x) (Gathered answer (step slots b 0 0 none) me)
+      → me.0.others ≡ q ∷ [] → Allows Invariant slots id me b (λ x. x) (MergesRecords answer (step slots b 0 0 none) me)
   gathers slots id me b q stands two s k deep at small =
       let v : V = me.0 in
       let g = gathered_kept s k id v q at two in (
-        gathered v q k.log,
+        merged v q k.log,
         keeps,
         tt,
-        subst (λ (l : List ℕ). Rule record { words = l; homes = s.homes; views = set s.views id (gathered v q k.log) })
+        subst (λ (l : List ℕ). Invariant record { words = l; homes = s.homes; views = set s.views id (merged v q k.log) })
             (sym (set-get_or s.words b 0)) g.0,
         λ q' two'. let same : q ≡ q' = cc in
-            subst (λ (x : Record O R). GatheredWith answer x me (gathered v q k.log, me.1)) same
+            subst (λ (x : Record O R). MergesWith answer x me (merged v q k.log, me.1)) same
             (k.log, refl, history_of s k id v at stands, g.1, g.2, g.3, g.4),
       )
 
   pub joins : (id : ℕ) (v : V) (other : ℕ) (w spent : V) → StandsFor v.mine v.mine.number → spent.mine ≡ no_client
-      → spent.others ≡ [] → spent.holds ≡ [] → w.holds ≡ [] → Joins Rule id v other w (both_views v w) spent
-  joins id v other w spent stands blank lone empty free s k at apart there_is =
-      joined_kept s k id v other w spent stands blank lone empty free at apart
-      (sym (set_else s.views id other (both_views v w) apart) ∙ there_is)
+      → spent.others ≡ [] → spent.holds ≡ [] → w.holds ≡ [] → Joins Invariant id v other w (joined_views v w) spent
+  joins id v other w spent stands empty_slots lone empty free s k at apart there_is =
+      joined_kept s k id v other w spent stands empty_slots lone empty free at apart
+      (sym (set_else s.views id other (joined_views v w) apart) ∙ there_is)
 
   pub splits : (id : ℕ) (v : V) → StandsFor v.mine v.mine.number
-      → Splits Rule id v (first_alone v) (seat_for v.start v.clients v.others)
+      → Splits Invariant id v (first_record v) (view_for v.start v.clients v.others)
   splits id v stands s k at = split_kept s k id v stands at

@@ -1,4 +1,4 @@
--- What `prepare` makes, and what a query leaves, answer a batch.
+-- The results of `prepare_changes` and of a query are the effect of the batch.
 use Rattle.std.proofs.Common.{◌≡◌, ℕ, zero, suc, ◌<◌, ◌/◌, ◌&&◌, ◌||◌, Bool, true, false, true≢false, nat_eq, List, []}
 use Rattle.std.proofs.Common.{◌∷◌, length, refl, sym, ap, ◌∙◌, subst, inl, inr, arith, Option, Some, None, is_some}
 use Rattle.std.proofs.Common.{get_or, eq-eqb, ne_eqb, Contains}
@@ -15,20 +15,20 @@ use Rattle.moc_parts.specs.Objects.{IsLocal, AgreeOn, base_pixel}
 use Rattle.moc_parts.specs.Parts.{union_of}
 use Rattle.moc_parts.specs.Commands.{is_update, set_after}
 use Rattle.moc_parts.specs.Batches.{batches, footprint_of_all, set_after_all, AreCommands}
-use Rattle.moc_parts.specs.Laws.{BatchesAreLocal}
-use Rattle.moc_parts.specs.Prepared.{AreChanges, AreRepliesTo, Preparation, part_if, found_in}
+use Rattle.moc_parts.specs.Theorems.{BatchesAreLocal}
+use Rattle.moc_parts.specs.Prepared.{AreChanges, AreRepliesTo, Preparation, part_if, content_or_empty}
 use Rattle.moc_parts.specs.declared.command.Command.{Command}
 use Rattle.moc_parts.specs.declared.command.Command.TheVariants.{Add, Remove, Keep, Claim, Invert, Degrade, Count, Read}
 use Rattle.moc_parts.specs.declared.command.Command.TheVariants.{Near}
 use Rattle.moc_parts.specs.declared.reply.Reply.{Reply}
 use Rattle.moc_shared.specs.Seats.{note, Pointer}
-use Rattle.moc_shared.specs.Private.Rule.{noted_parts}
-use Rattle.moc_shared.specs.Private.Seats.{PartNote, content, shared, part, IsProper, at_place, note_if, notes_below, list_of, AreOwn, IsFootprint}
+use Rattle.moc_shared.specs.Private.Invariant.{parts_of_notes}
+use Rattle.moc_shared.specs.Private.Seats.{PartNote, content, shared, part, IsInSky, slot_at, note_if, notes_below, list_of, AreWithinOwnParts, IsFootprint}
 use Rattle.moc_shared.specs.Private.Slots.{changed_content, lists_of, AreCopies, Edits, replies_to}
 use Rattle.moc_shared.specs.Batches.{batch_answer}
 use Rattle.moc_shared.proofs.Basics.{none_in}
-use Rattle.moc_shared.proofs.Places.{notes_none, notes_next, notes_upto, note_place, place_note, notes_below_lt}
-use Rattle.moc_shared.proofs.Places.{part_note}
+use Rattle.moc_shared.proofs.SlotIndices.{notes_none, notes_next, notes_upto, note_place, place_note, notes_below_lt}
+use Rattle.moc_shared.proofs.SlotIndices.{part_note}
 use Rattle.moc_shared.proofs.Unions.{union_at, union_within, in_sky, get_beyond, and_true}
 
 pub some_is : (o : Option Pointer) → is_some o ≡ true → (x : Pointer) × (o ≡ Some x)
@@ -43,23 +43,23 @@ some_content : (s : Option Pointer) → is_some (content s) ≡ is_some s
 some_content (Some p) = refl
 some_content None = refl
 
--- rows of slots with pointers at the same places are noted with the same parts
-step_parts : (n : ℕ) (o u : Option Pointer) (xs ys : List PartNote) → is_some o ≡ is_some u → noted_parts xs ≡ noted_parts ys
-    → noted_parts (note_if n o xs) ≡ noted_parts (note_if n u ys)
+-- slots with pointers at the same indices have notes of the same parts
+step_parts : (n : ℕ) (o u : Option Pointer) (xs ys : List PartNote) → is_some o ≡ is_some u → parts_of_notes xs ≡ parts_of_notes ys
+    → parts_of_notes (note_if n o xs) ≡ parts_of_notes (note_if n u ys)
 step_parts n (Some x) (Some y) xs ys same below = ap (λ (l : List ℕ). n ∷ l) below
 step_parts n (Some x) None xs ys same below = absurd (true≢false same)
 step_parts n None (Some y) xs ys same below = absurd (true≢false (sym same))
 step_parts n None None xs ys same below = below
 
 pub parts_same : (xs ys : List (Option Pointer)) (n : ℕ)
-    → ((b : ℕ) → b < n → is_some (at_place xs b) ≡ is_some (at_place ys b))
-    → noted_parts (notes_below xs n) ≡ noted_parts (notes_below ys n)
-parts_same xs ys zero each = ap (λ (l : List PartNote). noted_parts l) (notes_none xs ∙ sym (notes_none ys))
+    → ((b : ℕ) → b < n → is_some (slot_at xs b) ≡ is_some (slot_at ys b))
+    → parts_of_notes (notes_below xs n) ≡ parts_of_notes (notes_below ys n)
+parts_same xs ys zero each = ap (λ (l : List PartNote). parts_of_notes l) (notes_none xs ∙ sym (notes_none ys))
 parts_same xs ys (suc n) each =
-    ap (λ (l : List PartNote). noted_parts l) (notes_next xs n)
-    ∙ step_parts n (at_place xs n) (at_place ys n) (notes_below xs n) (notes_below ys n) (each n (omega arith))
+    ap (λ (l : List PartNote). parts_of_notes l) (notes_next xs n)
+    ∙ step_parts n (slot_at xs n) (slot_at ys n) (notes_below xs n) (notes_below ys n) (each n (omega arith))
     (parts_same xs ys n (λ b l. each b (omega arith)))
-    ∙ sym (ap (λ (l : List PartNote). noted_parts l) (notes_next ys n))
+    ∙ sym (ap (λ (l : List PartNote). parts_of_notes l) (notes_next ys n))
 
 step_notes : (n : ℕ) (o u : Option Pointer) (xs ys : List PartNote) → content o ≡ content u → xs ≡ ys
     → note_if n o xs ≡ note_if n u ys
@@ -68,29 +68,29 @@ step_notes n (Some x) None xs ys same below = absurd (cc)
 step_notes n None (Some y) xs ys same below = absurd (cc)
 step_notes n None None xs ys same below = below
 
--- copies are noted as what they copy
+-- copies have the same notes as the originals
 pub notes_same : (xs ys : List (Option Pointer)) (n : ℕ) → AreCopies xs ys → notes_below ys n ≡ notes_below xs n
 notes_same xs ys zero each = notes_none ys ∙ sym (notes_none xs)
 notes_same xs ys (suc n) each = notes_next ys n
-    ∙ step_notes n (at_place ys n) (at_place xs n) (notes_below ys n) (notes_below xs n) (each n)
+    ∙ step_notes n (slot_at ys n) (slot_at xs n) (notes_below ys n) (notes_below xs n) (each n)
     (notes_same xs ys n each) ∙ sym (notes_next xs n)
 
 some_inside : (a b : NumberSet) → Some a ≡ Some b → a ≡ b
 some_inside a b e = cc
 
--- the set that a slot shares, where it is noted
-noted_list : (slots : List (Option Pointer)) (b : ℕ) (a : NumberSet) → b < 12 → is_some (at_place slots b) ≡ true
+-- the set of a slot with a note
+noted_list : (slots : List (Option Pointer)) (b : ℕ) (a : NumberSet) → b < 12 → is_some (slot_at slots b) ≡ true
     → ((c : ℕ) (y : Option NumberSet) → Contains (notes_below slots 12) (note c y) → y ≡ part c a)
-    → list_of (at_place slots b) ≡ part_of a b
+    → list_of (slot_at slots b) ≡ part_of a b
 unfolding part
 noted_list slots b a l some noted =
-    let s = some_is (at_place slots b) some in
+    let s = some_is (slot_at slots b) some in
     let e : Some _ ≡ Some (part_of a b) = noted b (shared s.0) (place_note slots 12 b s.0 l s.1) in
     ap list_of s.1 ∙ some_inside _ (part_of a b) e
 
--- in the footprint, a set agrees with what was found, where the notes say so
-pub agrees : (cs : List Command) (slots : List (Option Pointer)) (a : NumberSet) → length slots ≡ 12 → AreOwn slots
-    → IsFootprint cs slots → IsProper a
+-- a set agrees with the taken contents in the footprint if it agrees with the notes
+pub agrees : (cs : List Command) (slots : List (Option Pointer)) (a : NumberSet) → length slots ≡ 12 → AreWithinOwnParts slots
+    → IsFootprint cs slots → IsInSky a
     → ((b : ℕ) (y : Option NumberSet) → Contains (notes_below slots 12) (note b y) → y ≡ part b a)
     → AgreeOn (footprint_of_all cs) (union_of (lists_of slots)) a
 unfolding base_pixel
@@ -112,11 +112,11 @@ and_none : (x : Bool) → (x && false) ≡ false
 and_none true = refl
 and_none false = refl
 
--- where two sets of the sky have the same pixels outside of the footprint, they have the same parts there
+-- two sets in the sky with the same pixels outside the footprint have the same parts there
 pub same_part : (cs : List Command) (slots : List (Option Pointer)) (a b : NumberSet) → IsFootprint cs slots
     → IsWithin a pixels → IsWithin b pixels
     → ((q : ℕ) → footprint_of_all cs (base_pixel q) ≡ false → finset.contains b q ≡ finset.contains a q)
-    → (k : ℕ) → ¬ Contains (noted_parts (notes_below slots 12)) k → part k b ≡ part k a
+    → (k : ℕ) → ¬ Contains (parts_of_notes (notes_below slots 12)) k → part k b ≡ part k a
 unfolding base_pixel part
 same_part cs slots a b whole v w out k none =
     ap (λ (s : NumberSet). Some s)
@@ -126,7 +126,7 @@ same_part cs slots a b whole v w out k none =
     untouched : k < 12 → footprint_of_all cs k ≡ false
     untouched l = elim (cases_Bool (footprint_of_all cs k)) [
       | inl t ↦
-          let s = some_is (at_place slots k) (whole k l ∙ t) in
+          let s = some_is (slot_at slots k) (whole k l ∙ t) in
           absurd (none (part_note (notes_below slots 12) k (shared s.0) (place_note slots 12 k s.0 l s.1)))
       | inr f ↦ f
     ]
@@ -146,7 +146,7 @@ itself : (cs : List Command) (a : NumberSet) → AgreeOn (footprint_of_all cs) a
 itself cs a q touched = refl
 
 pub replies_same : (cs : List Command) (slots : List (Option Pointer)) (r : List Reply) → length slots ≡ 12
-    → AreOwn slots → AreRepliesTo cs (union_of (lists_of slots)) r → r ≡ replies_to slots cs
+    → AreWithinOwnParts slots → AreRepliesTo cs (union_of (lists_of slots)) r → r ≡ replies_to slots cs
 unfolding replies_to
 replies_same cs slots r long own each =
     each (union_of (lists_of slots)) (union_within slots long own) (itself cs (union_of (lists_of slots)))
@@ -164,9 +164,9 @@ part_if_alike : (t : Bool) (a b : NumberSet) (n : ℕ) → (t ≡ true → part_
 part_if_alike true a b n same = ap Some (same refl)
 part_if_alike false a b n same = refl
 
--- the set of a slot is its part of all
-part_found : (slots : List (Option Pointer)) (b : ℕ) → AreOwn slots
-    → part_of (union_of (lists_of slots)) b ≡ list_of (at_place slots b)
+-- the set of a slot is the part of the union
+part_found : (slots : List (Option Pointer)) (b : ℕ) → AreWithinOwnParts slots
+    → part_of (union_of (lists_of slots)) b ≡ list_of (slot_at slots b)
 part_found slots b own =
     same_members _ _ (λ q. contains-part_of whole b q ∙ one q (ℕ_discrete (q / base_pixel_size) b))
   where
@@ -174,64 +174,64 @@ part_found slots b own =
     whole = union_of (lists_of slots)
 
     here : NumberSet
-    here = list_of (at_place slots b)
+    here = list_of (slot_at slots b)
 
     one : (q : ℕ) → Dec (q / base_pixel_size ≡ b)
         → (finset.contains whole q && nat_eq (q / base_pixel_size) b) ≡ finset.contains here q
     one q (yes e) = ap (λ (t : Bool). finset.contains whole q && t) (eq-eqb (q / base_pixel_size) b e)
         ∙ and_true (finset.contains whole q) ∙ union_at slots q own
-        ∙ ap (λ (k : ℕ). finset.contains (list_of (at_place slots k)) q) e
+        ∙ ap (λ (k : ℕ). finset.contains (list_of (slot_at slots k)) q) e
     one q (no ne) =
         let no : nat_eq (q / base_pixel_size) b ≡ false = ne_eqb (q / base_pixel_size) b ne in
         ap (λ (t : Bool). finset.contains whole q && t) no ∙ and_none (finset.contains whole q)
         ∙ sym (and_none (finset.contains here q)) ∙ sym (ap (λ (t : Bool). finset.contains here q && t) no)
         ∙ sym (contains-part_of here b q) ∙ ap (λ (a : NumberSet). finset.contains a q) (own b)
 
--- what a part that was found becomes
-changed_is : (s : Option Pointer) (new : Option NumberSet) (found after : NumberSet) (b : ℕ) (t : Bool)
-    → list_of s ≡ found → is_some s ≡ t → unwrap_or new found ≡ part_of after b
+-- the new content of a part
+changed_is : (s : Option Pointer) (new : Option NumberSet) (previous after : NumberSet) (b : ℕ) (t : Bool)
+    → list_of s ≡ previous → is_some s ≡ t → unwrap_or new previous ≡ part_of after b
     → changed_content new (content s) ≡ part_if t after b
-changed_is (Some p) new found after b true same some is = ap (λ (a : NumberSet). Some (unwrap_or new a)) same ∙ ap Some is
-changed_is (Some p) new found after b false same some is = absurd (true≢false some)
-changed_is None new found after b true same some is = absurd (true≢false (sym some))
-changed_is None new found after b false same some is = refl
+changed_is (Some p) new previous after b true same some is = ap (λ (a : NumberSet). Some (unwrap_or new a)) same ∙ ap Some is
+changed_is (Some p) new previous after b false same some is = absurd (true≢false some)
+changed_is None new previous after b true same some is = absurd (true≢false (sym some))
+changed_is None new previous after b false same some is = refl
 
--- what the changes make of what was found answers the batch
-pub edits_from : (cs : List Command) (found edited : List (Option Pointer)) (p : Preparation)
-    → length found ≡ 12 → AreOwn found → IsFootprint cs found → AreChanges cs (union_of (lists_of found)) p
+-- the changes of the contents are the effect of the batch
+pub edits_from : (cs : List Command) (previous edited : List (Option Pointer)) (p : Preparation)
+    → length previous ≡ 12 → AreWithinOwnParts previous → IsFootprint cs previous → AreChanges cs (union_of (lists_of previous)) p
     → ((b : ℕ) → b < 12
-    → content (at_place edited b) ≡ changed_content (get_or p.lists b None) (content (at_place found b)))
-    → Edits cs found edited
+    → content (slot_at edited b) ≡ changed_content (get_or p.lists b None) (content (slot_at previous b)))
+    → Edits cs previous edited
 unfolding batch_answer replies_to
-edits_from cs found edited p long own whole changes each =
-    let u : NumberSet = union_of (lists_of found) in
-    let u_within = union_within found long own in
-    let told = changes.told in
+edits_from cs previous edited p long own whole changes each =
+    let u : NumberSet = union_of (lists_of previous) in
+    let u_within = union_within previous long own in
+    let determined = changes.determined in
     let now =
     λ (a : NumberSet) (v : IsWithin a pixels) (agree : AgreeOn (footprint_of_all cs) u a) (b : ℕ) (l : b < 12).
-    let e : content (at_place edited b) ≡ part_if (footprint_of_all cs b) (set_after_all a cs) b = each b l
-    ∙ changed_is (at_place found b) (get_or p.lists b None) (part_of u b) (set_after_all u cs) b (footprint_of_all cs b)
-    (sym (part_found found b own)) (whole b l) (changes.parts b l)
-    ∙ part_if_alike (footprint_of_all cs b) (set_after_all u cs) (set_after_all a cs) b (told.inside a v agree b) in
+    let e : content (slot_at edited b) ≡ part_if (footprint_of_all cs b) (set_after_all a cs) b = each b l
+    ∙ changed_is (slot_at previous b) (get_or p.lists b None) (part_of u b) (set_after_all u cs) b (footprint_of_all cs b)
+    (sym (part_found previous b own)) (whole b l) (changes.parts b l)
+    ∙ part_if_alike (footprint_of_all cs b) (set_after_all u cs) (set_after_all a cs) b (determined.inside a v agree b) in
     e in
     record {
       same_parts =
-          parts_same edited found 12
-          (λ b l. sym (some_content (at_place edited b))
+          parts_same edited previous 12
+          (λ b l. sym (some_content (slot_at edited b))
           ∙ ap (λ (o : Option NumberSet). is_some o) (now u u_within (itself cs u) b l)
           ∙ some_part_if (footprint_of_all cs b) (set_after_all u cs) b ∙ sym (whole b l));
-      answers = λ a v noted.
-          let agree = agrees cs found a long own whole v noted in (
-            sym (told.replied a v agree) ∙ told.replied u u_within (itself cs u),
+      execution = λ a v noted.
+          let agree = agrees cs previous a long own whole v noted in (
+            sym (determined.replied a v agree) ∙ determined.replied u u_within (itself cs u),
             (λ b y h.
                 let q = note_place edited 12 b y h in
                 let l = notes_below_lt edited 12 b y h in
                 part_if_some (footprint_of_all cs b) (set_after_all a cs) b y
                 (ap (λ (o : Option NumberSet). is_some o) (sym q.2))
                 (sym q.2 ∙ ap content (sym q.1) ∙ now a v agree b l)),
-            (λ k none. same_part cs found a (set_after_all a cs) whole v (told.stays a v) (told.outside a v) k
+            (λ k none. same_part cs previous a (set_after_all a cs) whole v (determined.stays a v) (determined.outside a v) k
                 none),
-            told.stays a v,
+            determined.stays a v,
           );
     }
 
@@ -250,62 +250,62 @@ or_none : (x y : Bool) → (x || y) ≡ false → (x ≡ false) × (y ≡ false)
 or_none true y e = absurd (true≢false e)
 or_none false y e = (refl, e)
 
--- a query changes nothing
+-- a query does not change the set
 pub unchanged : (cs : List Command) (a : NumberSet) → list_any is_update cs ≡ false → set_after_all a cs ≡ a
 unchanged [] a q = refl
 unchanged (c ∷ cs) a q = let both = or_none (is_update c) (list_any is_update cs) q in
     ap (λ (s : NumberSet). set_after_all s cs) (unchanged_by c a both.0) ∙ unchanged cs a both.1
 
-pub own_copies : (found copies : List (Option Pointer)) → AreCopies found copies → AreOwn found → AreOwn copies
-own_copies found copies same own b =
-    subst (λ (o : Option NumberSet). part_of (found_in o) b ≡ found_in o) (sym (same b)) (own b)
+pub own_copies : (previous copies : List (Option Pointer)) → AreCopies previous copies → AreWithinOwnParts previous → AreWithinOwnParts copies
+own_copies previous copies same own b =
+    subst (λ (o : Option NumberSet). part_of (content_or_empty o) b ≡ content_or_empty o) (sym (same b)) (own b)
 
-pub footprint_copies : (cs : List Command) (found copies : List (Option Pointer)) → AreCopies found copies
-    → IsFootprint cs found → IsFootprint cs copies
-footprint_copies cs found copies same whole b l = sym (some_content (at_place copies b))
-    ∙ ap (λ (o : Option NumberSet). is_some o) (same b) ∙ some_content (at_place found b) ∙ whole b l
+pub footprint_copies : (cs : List Command) (previous copies : List (Option Pointer)) → AreCopies previous copies
+    → IsFootprint cs previous → IsFootprint cs copies
+footprint_copies cs previous copies same whole b l = sym (some_content (slot_at copies b))
+    ∙ ap (λ (o : Option NumberSet). is_some o) (same b) ∙ some_content (slot_at previous b) ∙ whole b l
 
--- a query leaves what was found, and answers by the copies
-pub leaves : (cs : List Command) (found copies : List (Option Pointer)) → length copies ≡ 12 → AreOwn found
-    → IsFootprint cs found → AreCopies found copies → list_any is_update cs ≡ false → IsLocal batches cs
-    → Edits cs copies found
+-- a query leaves the contents unchanged, and has the replies that the copies give
+pub leaves : (cs : List Command) (previous copies : List (Option Pointer)) → length copies ≡ 12 → AreWithinOwnParts previous
+    → IsFootprint cs previous → AreCopies previous copies → list_any is_update cs ≡ false → IsLocal batches cs
+    → Edits cs copies previous
 unfolding batch_answer replies_to
-leaves cs found copies long own_found whole_found same query local =
-    let own = own_copies found copies same own_found in
-    let whole = footprint_copies cs found copies same whole_found in
+leaves cs previous copies long own_found whole_found same query local =
+    let own = own_copies previous copies same own_found in
+    let whole = footprint_copies cs previous copies same whole_found in
     let u : NumberSet = union_of (lists_of copies) in
     let u_within = union_within copies long own in
     record {
-      same_parts = ap (λ (l : List PartNote). noted_parts l) (sym (notes_same found copies 12 same));
-      answers = λ a v noted. (
+      same_parts = ap (λ (l : List PartNote). parts_of_notes l) (sym (notes_same previous copies 12 same));
+      execution = λ a v noted. (
         local.reply a u v u_within (λ q t. sym (agrees cs copies a long own whole v noted q t)),
         (λ b y h. noted b y
-            (subst (λ (l : List PartNote). Contains l (note b y)) (sym (notes_same found copies 12 same)) h)
+            (subst (λ (l : List PartNote). Contains l (note b y)) (sym (notes_same previous copies 12 same)) h)
             ∙ ap (part b) (sym (unchanged cs a query))),
         (λ k none. ap (part k) (unchanged cs a query)),
         local.stays a v,
       );
     }
 
-pub noted_at : (slots : List (Option Pointer)) (b : ℕ) → b < 12 → is_some (at_place slots b) ≡ true
-    → Contains (noted_parts (notes_below slots 12)) b
-noted_at slots b l some = let s = some_is (at_place slots b) some in
+pub noted_at : (slots : List (Option Pointer)) (b : ℕ) → b < 12 → is_some (slot_at slots b) ≡ true
+    → Contains (parts_of_notes (notes_below slots 12)) b
+noted_at slots b l some = let s = some_is (slot_at slots b) some in
     part_note (notes_below slots 12) b (shared s.0) (place_note slots 12 b s.0 l s.1)
 
--- a footprint is not empty, and neither is what is made of it
-pub never_none : (found edited : List (Option Pointer)) (b : ℕ) → b < 12 → is_some (at_place found b) ≡ true
-    → noted_parts (notes_below edited 12) ≡ noted_parts (notes_below found 12) → ((k : ℕ) → at_place edited k ≡ None) → ⊥
-never_none found edited b l some same none =
+-- a footprint is not empty, and neither are its new contents
+pub never_none : (previous edited : List (Option Pointer)) (b : ℕ) → b < 12 → is_some (slot_at previous b) ≡ true
+    → parts_of_notes (notes_below edited 12) ≡ parts_of_notes (notes_below previous 12) → ((k : ℕ) → slot_at edited k ≡ None) → ⊥
+never_none previous edited b l some same none =
     let empty : notes_below edited 12 ≡ [] = notes_upto edited 0 12 (λ k l. none k) ∙ notes_none edited in
     none_in b
-    (subst (λ (l : List ℕ). Contains l b) (sym same ∙ ap (λ (l : List PartNote). noted_parts l) empty)
-    (noted_at found b l some))
+    (subst (λ (l : List ℕ). Contains l b) (sym same ∙ ap (λ (l : List PartNote). parts_of_notes l) empty)
+    (noted_at previous b l some))
 
 pub local_batch : (cs : List Command) → BatchesAreLocal → 0 < length cs → AreCommands cs → IsLocal batches cs
-local_batch [] law some proper = absurd (omega arith)
-local_batch (c ∷ cs) law some proper = law c cs proper
+local_batch [] law some valid = absurd (omega arith)
+local_batch (c ∷ cs) law some valid = law c cs valid
 
--- some part was found, since a footprint is never empty
-pub some_found : (cs : List Command) (found : List (Option Pointer)) → IsFootprint cs found → IsLocal batches cs
-    → (b : ℕ) × (b < 12) × (is_some (at_place found b) ≡ true)
-some_found cs found whole local = let s = local.some in (s.0, s.1, whole s.0 s.1 ∙ s.2)
+-- some part was taken, because a footprint is not empty
+pub some_found : (cs : List Command) (previous : List (Option Pointer)) → IsFootprint cs previous → IsLocal batches cs
+    → (b : ℕ) × (b < 12) × (is_some (slot_at previous b) ≡ true)
+some_found cs previous whole local = let s = local.some in (s.0, s.1, whole s.0 s.1 ∙ s.2)

@@ -1,4 +1,4 @@
--- The union of sets that lie each in its own base pixel.
+-- The union of sets that are each within their own base pixel.
 use Rattle.std.proofs.Common.{◌≡◌, ◌≢◌, ℕ, zero, suc, ◌+◌, ◌*◌, ◌%◌, ◌<◌, ◌≤◌, ◌/◌, ◌&&◌, ◌||◌, Bool, true, false}
 use Rattle.std.proofs.Common.{true≢false, List, [], ◌∷◌, length, refl, sym, ap, ◌∙◌, subst, inl, inr, arith}
 use Rattle.std.proofs.Common.{Option, Some, None, get_or, add-zero, div-add-mod', eq-eqb, ne_eqb, lt-ltb}
@@ -11,10 +11,10 @@ use Rattle.moc_lists.specs.RangeList.{NumberSet, pixel_count}
 use Rattle.moc_lists.specs.Lemmas.Members.{same_members}
 use Rattle.moc_ranges.specs.Lemmas.Members.{contains-part_of, contains-pixels}
 use Rattle.moc_ranges.specs.Operations.{base_pixel_size, pixels, part_of, IsWithin}
-use Rattle.moc_parts.specs.Parts.{union_of, LieInParts}
-use Rattle.moc_shared.proofs.Owned.{part_again, own_none}
+use Rattle.moc_parts.specs.Parts.{union_of, AreWithinParts}
+use Rattle.moc_shared.proofs.SlotSets.{part_again, own_none}
 use Rattle.moc_shared.specs.Seats.{Pointer}
-use Rattle.moc_shared.specs.Private.Seats.{content, part, at_place, list_of, IsOwn, AreOwn}
+use Rattle.moc_shared.specs.Private.Seats.{content, part, slot_at, list_of, IsWithinPart, AreWithinOwnParts}
 use Rattle.moc_shared.specs.Private.Slots.{lists_of}
 
 and_false : (x : Bool) → (x && false) ≡ false
@@ -29,23 +29,23 @@ or_false : (x : Bool) → (x || false) ≡ x
 or_false true = refl
 or_false false = refl
 
--- a set in one base pixel has no pixel of another
+-- a set within one base pixel has no pixel in another
 pub elsewhere : (a : NumberSet) (k q : ℕ) → part_of a k ≡ a → q / base_pixel_size ≢ k → finset.contains a q ≡ false
 elsewhere a k q own ne = ap (λ (s : NumberSet). finset.contains s q) (sym own) ∙ contains-part_of a k q
     ∙ ap (λ (t : Bool). finset.contains a q && t) (ne_eqb (q / base_pixel_size) k ne) ∙ and_false (finset.contains a q)
 
--- the sets lie in the base pixels from k on
+-- the sets are within the base pixels from k on
 abbrev OwnFrom : ℕ → List NumberSet → Type 0
 OwnFrom k [] = Unit {0}
 OwnFrom k (a ∷ sets) = (part_of a k ≡ a) × OwnFrom (suc k) sets
 
-own_from : (k : ℕ) (slots : List (Option Pointer)) → ((b : ℕ) → IsOwn (k + b) (at_place slots b))
+own_from : (k : ℕ) (slots : List (Option Pointer)) → ((b : ℕ) → IsWithinPart (k + b) (slot_at slots b))
     → OwnFrom k (lists_of slots)
 own_from k [] own = tt
 own_from k (s ∷ ss) own = (
-  subst (λ (j : ℕ). IsOwn j s) (add-zero k) (own 0),
+  subst (λ (j : ℕ). IsWithinPart j s) (add-zero k) (own 0),
   own_from (suc k) ss
-      (λ b. subst (λ (j : ℕ). IsOwn j (at_place ss b)) (let e : k + suc b ≡ suc k + b = omega arith in e) (own (suc b))),
+      (λ b. subst (λ (j : ℕ). IsWithinPart j (slot_at ss b)) (let e : k + suc b ≡ suc k + b = omega arith in e) (own (suc b))),
 )
 
 union_before : (sets : List NumberSet) (k q : ℕ) → OwnFrom k sets → q / base_pixel_size < k
@@ -68,18 +68,18 @@ union_in (a ∷ sets) k q (suc d) own e =
     ∙ union_in sets (suc k) q d own.1 (omega arith)
 
 pub list_at : (slots : List (Option Pointer)) (b : ℕ)
-    → get_or (lists_of slots) b finset.empty ≡ list_of (at_place slots b)
+    → get_or (lists_of slots) b finset.empty ≡ list_of (slot_at slots b)
 list_at [] b = refl
 list_at (s ∷ ss) zero = refl
 list_at (s ∷ ss) (suc b) = list_at ss b
 
--- a pixel is in the union where it is in the set of its base pixel
-pub union_at : (slots : List (Option Pointer)) (q : ℕ) → AreOwn slots
-    → finset.contains (union_of (lists_of slots)) q ≡ finset.contains (list_of (at_place slots (q / base_pixel_size))) q
+-- a pixel is in the union if and only if it is in the set of its base pixel
+pub union_at : (slots : List (Option Pointer)) (q : ℕ) → AreWithinOwnParts slots
+    → finset.contains (union_of (lists_of slots)) q ≡ finset.contains (list_of (slot_at slots (q / base_pixel_size))) q
 union_at slots q own =
     union_in (lists_of slots) 0 q (q / base_pixel_size)
     (own_from 0 slots
-    (λ b. subst (λ (j : ℕ). IsOwn j (at_place slots b)) (let e : b ≡ 0 + b = omega arith in e) (own b)))
+    (λ b. subst (λ (j : ℕ). IsWithinPart j (slot_at slots b)) (let e : b ≡ 0 + b = omega arith in e) (own b)))
     (let e : q / base_pixel_size ≡ 0 + q / base_pixel_size = omega arith in e)
     ∙ ap (λ (a : NumberSet). finset.contains a q) (list_at slots (q / base_pixel_size))
 
@@ -87,13 +87,13 @@ lists_long : (slots : List (Option Pointer)) → length (lists_of slots) ≡ len
 lists_long [] = refl
 lists_long (s ∷ ss) = ap suc (lists_long ss)
 
-pub lie_in_parts : (slots : List (Option Pointer)) → length slots ≡ 12 → AreOwn slots → LieInParts (lists_of slots)
+pub lie_in_parts : (slots : List (Option Pointer)) → length slots ≡ 12 → AreWithinOwnParts slots → AreWithinParts (lists_of slots)
 lie_in_parts slots long own = record {
   twelve = lists_long slots ∙ long;
   own = λ b l. subst (λ (a : NumberSet). part_of a b ≡ a) (sym (list_at slots b)) (own b);
 }
 
--- a pixel of the sky is in one of twelve base pixels, and the other way round
+-- a pixel is in the sky if and only if it is in one of the twelve base pixels
 sky_base : (q : ℕ) → q < pixel_count → q / base_pixel_size < 12
 sky_base q l =
     let x : ℕ = q / base_pixel_size in
@@ -101,7 +101,7 @@ sky_base q l =
     let e : x * 288230376151711744 + r ≡ q = div-add-mod' q base_pixel_size in
     let z : x < 12 = omega arith in z
 
--- pixels of a set in the sky are in one of twelve base pixels
+-- the pixels of a set in the sky are in one of the twelve base pixels
 pub in_sky : (a : NumberSet) (q : ℕ) → IsWithin a pixels → 12 ≤ q / base_pixel_size → finset.contains a q ≡ false
 in_sky a q within far = elim (cases_Bool (finset.contains a q)) [
   | inl t ↦ let l = sky_base q (ltb-true q pixel_count (sym (contains-pixels q) ∙ within.each q t)) in
@@ -109,12 +109,12 @@ in_sky a q within far = elim (cases_Bool (finset.contains a q)) [
   | inr f ↦ f
 ]
 
-pub get_beyond : (slots : List (Option Pointer)) (b : ℕ) → length slots ≤ b → at_place slots b ≡ None
+pub get_beyond : (slots : List (Option Pointer)) (b : ℕ) → length slots ≤ b → slot_at slots b ≡ None
 get_beyond [] b l = refl
 get_beyond (s ∷ ss) zero l = absurd (omega arith)
 get_beyond (s ∷ ss) (suc b) l = get_beyond ss b (omega arith)
 
-pub union_within : (slots : List (Option Pointer)) → length slots ≡ 12 → AreOwn slots
+pub union_within : (slots : List (Option Pointer)) → length slots ≡ 12 → AreWithinOwnParts slots
     → IsWithin (union_of (lists_of slots)) pixels
 union_within slots long own = record { each = λ q has. contains-pixels q ∙ lt-ltb q pixel_count (below q has) }
   where
@@ -133,7 +133,7 @@ union_within slots long own = record { each = λ q has. contains-pixels q ∙ lt
     below q has = elim (cases_lt (q / base_pixel_size) 12) [
       | inl l ↦ base_sky q l
       | inr far ↦
-          let none : at_place slots (q / base_pixel_size) ≡ None =
+          let none : slot_at slots (q / base_pixel_size) ≡ None =
           get_beyond slots (q / base_pixel_size) (omega (arith, long, far)) in
           absurd (true≢false
           (sym has ∙ union_at slots q own ∙ ap (λ (s : Option Pointer). finset.contains (list_of s) q) none
@@ -148,24 +148,24 @@ unfolding part
 slot_list (Some p) b a e = some_set _ (part_of a b) e
 slot_list None b a e = absurd (cc)
 
--- slots that stand for the parts of a set of pixels are that set together
+-- the union of slots that have the parts of a set is the set
 pub union_whole : (slots : List (Option Pointer)) (a : NumberSet) → length slots ≡ 12 → IsWithin a pixels
-    → ((b : ℕ) → b < 12 → content (at_place slots b) ≡ part b a) → union_of (lists_of slots) ≡ a
+    → ((b : ℕ) → b < 12 → content (slot_at slots b) ≡ part b a) → union_of (lists_of slots) ≡ a
 union_whole slots a long within each = same_members _ _ (λ q. union_at slots q own ∙ one q)
   where
-    own : AreOwn slots
+    own : AreWithinOwnParts slots
     own b = elim (cases_lt b 12) [
-      | inl l ↦ subst (λ (s : NumberSet). part_of s b ≡ s) (sym (slot_list (at_place slots b) b a (each b l)))
+      | inl l ↦ subst (λ (s : NumberSet). part_of s b ≡ s) (sym (slot_list (slot_at slots b) b a (each b l)))
           (part_again a b)
-      | inr far ↦ subst (λ (s : Option Pointer). IsOwn b s) (sym (get_beyond slots b (omega (arith, long, far))))
+      | inr far ↦ subst (λ (s : Option Pointer). IsWithinPart b s) (sym (get_beyond slots b (omega (arith, long, far))))
           (own_none b)
     ]
 
-    one : (q : ℕ) → finset.contains (list_of (at_place slots (q / base_pixel_size))) q ≡ finset.contains a q
+    one : (q : ℕ) → finset.contains (list_of (slot_at slots (q / base_pixel_size))) q ≡ finset.contains a q
     one q = elim (cases_lt (q / base_pixel_size) 12) [
       | inl l ↦
           let b : ℕ = q / base_pixel_size in
-          ap (λ (s : NumberSet). finset.contains s q) (slot_list (at_place slots b) b a (each b l))
+          ap (λ (s : NumberSet). finset.contains s q) (slot_list (slot_at slots b) b a (each b l))
           ∙ contains-part_of a b q ∙ ap (λ (t : Bool). finset.contains a q && t) (eq-eqb b b refl)
           ∙ and_true (finset.contains a q)
       | inr far ↦

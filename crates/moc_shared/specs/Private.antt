@@ -1,11 +1,12 @@
--- What serves the contracts of private functions.
-pub mod Rule
+-- Definitions for private contracts. Public contracts use three of them: `IsClientOf` and `IsHoldingOf` of `Seated`,
+-- and `SatisfiesInvariant` of `Seats`.
+pub mod Invariant
 pub mod Seats
 pub mod Seated
-pub mod Answering
-pub mod Plays
-pub mod Opening
+pub mod OperationEffects
+pub mod StepEffects
+pub mod InitialViews
 pub mod Slots
-pub mod Starts
+pub mod InitialSlots
 pub mod Held
-pub mod Answered
+pub mod CommandResults

@@ -1,4 +1,4 @@
-//! The table of words and slots, its rule, and the steps on it.
+//! The table of lock words and slots, its invariant, and the atomic steps on it.
 pub mod layout;
 pub mod locks;
 pub mod seats;

@@ -1,8 +1,9 @@
--- The belt: the squares of a lattice, which repeats after four squares to one side and four back.
+-- The belt as squares of a lattice, which repeats after a shift of four squares on one axis and minus four on the
+-- other.
 use Rattle.std.proofs.Common.{◌≡◌, ℕ, ◌+◌, ◌-◌, ◌*◌, ◌/◌, ◌%◌, ◌<◌, ◌≤◌, ◌⊎◌, inl, inr, arith, refl, ap, ◌&&◌, ◌==◌, Bool, true}
 use Rattle.std.proofs.lemmas.Bool.{agree_below_at, and_parts, eqb-true}
 use Rattle.std.proofs.Math.Nat.{mul-le-mul_right}
-use Rattle.moc_sphere.specs.Private.Sides.{NamesOnePoint}
+use Rattle.moc_sphere.specs.Private.Sides.{IsSameCorner}
 use Rattle.moc_sphere.specs.Rings.{row_factor, column_factor, column_at}
 use Rattle.moc_sphere.specs.Touching.{corner_row}
 use Rattle.moc_sphere.proofs.Lattice.{Hop, split, same_rest}
@@ -14,10 +15,10 @@ IsSquare f a b =
     ⊎ (((4 ≤ f) × (f < 8) × (a + 4 ≡ f) × (b + f ≡ 8))
     ⊎ ((8 ≤ f) × (f < 12) × (a + 8 ≡ f) × (b + f ≡ 11)))
 
--- A hop in the lattice is one of the names of a point.
-pub NamesOnePoint-hop : (n f g a b c d X Y Z W : ℕ) → 0 < n → IsSquare f a b → IsSquare g c d
-    → X ≤ n → Y ≤ n → Z ≤ n → W ≤ n → Hop n a b c d X Y Z W → NamesOnePoint n f X Y g Z W
-NamesOnePoint-hop n f g a b c d X Y Z W pos p q xn yn zn wn hop = grind arith
+-- A hop in the lattice makes two corners the same point.
+pub IsSameCorner-hop : (n f g a b c d X Y Z W : ℕ) → 0 < n → IsSquare f a b → IsSquare g c d
+    → X ≤ n → Y ≤ n → Z ≤ n → W ≤ n → Hop n a b c d X Y Z W → IsSameCorner n f X Y g Z W
+IsSameCorner-hop n f g a b c d X Y Z W pos p q xn yn zn wn hop = grind arith
 
 abbrev tables_agree : ℕ → Bool
 tables_agree f = (row_factor f == 2 + f / 4) && (column_factor f + f / 4 % 2 == 2 * (f % 4) + 1)
@@ -28,21 +29,21 @@ row_factor_is f h = eqb-true _ _ (and_parts _ _ (agree_below_at tables_agree (λ
 pub column_factor_is : (f : ℕ) → f < 12 → column_factor f + f / 4 % 2 ≡ 2 * (f % 4) + 1
 column_factor_is f h = eqb-true _ _ (and_parts _ _ (agree_below_at tables_agree (λ _. true) 12 f refl h)).1
 
--- The square of a base pixel, against its row factor and its column factor.
+-- The square of a base pixel, in terms of its row factor and its column factor.
 pub record Square (f a b : ℕ) : Type 0 where
   pub is : IsSquare f a b
   pub rows : row_factor f + a + b ≡ 7
   pub columns : a + 4 ≡ column_factor f + b
   pub low : 2 ≤ row_factor f
-  pub few : column_factor f ≤ 7
+  pub bounded : column_factor f ≤ 7
 
 pub square_of : (f : ℕ) → f < 12 → Square f (f % 4 + 1 - (f / 4 + 1) / 2) (4 - f % 4 - f / 4 / 2)
 square_of f h =
     let r = row_factor_is f h in
     let c = column_factor_is f h in
-    record { is = grind arith; rows = grind arith; columns = grind arith; low = grind arith; few = grind arith }
+    record { is = grind arith; rows = grind arith; columns = grind arith; low = grind arith; bounded = grind arith }
 
--- Two lattice corners with one row, whose columns have one rest, are a hop apart.
+-- Two lattice corners in one row whose columns are congruent are a hop apart.
 pub hop_from_columns : (n J K a b L M c d X Y Z W : ℕ) → 0 < n
     → X ≤ n → Y ≤ n → Z ≤ n → W ≤ n
     → J + a + b ≡ 7 → a + 4 ≡ K + b → 2 ≤ J → K ≤ 7
@@ -65,13 +66,13 @@ hop_from_columns n J K a b L M c d X Y Z W pos xn yn zn wn j k jlow kfew l m llo
       | inr (inr e) ↦ inr (inr (split n (a + 4) c X Z pos xn zn (omega arith), split n b (d + 4) Y W pos yn wn (omega arith)))
     ]
 
--- Two corners in the belt that have one row and one column are two names of one point.
-pub NamesOnePoint-belt : (n f g X Y Z W : ℕ) → 0 < n → f < 12 → g < 12 → X ≤ n → Y ≤ n → Z ≤ n → W ≤ n
-    → corner_row n f X Y ≡ corner_row n g Z W → column_at n f X Y ≡ column_at n g Z W → NamesOnePoint n f X Y g Z W
+-- Two corners in the belt that have the same row and the same column are the same point.
+pub IsSameCorner-belt : (n f g X Y Z W : ℕ) → 0 < n → f < 12 → g < 12 → X ≤ n → Y ≤ n → Z ≤ n → W ≤ n
+    → corner_row n f X Y ≡ corner_row n g Z W → column_at n f X Y ≡ column_at n g Z W → IsSameCorner n f X Y g Z W
 unfolding corner_row
-NamesOnePoint-belt n f g X Y Z W pos fn gn xn yn zn wn rows columns =
+IsSameCorner-belt n f g X Y Z W pos fn gn xn yn zn wn rows columns =
     let s = square_of f fn in
     let t = square_of g gn in
-    NamesOnePoint-hop n f g _ _ _ _ X Y Z W pos s.is t.is xn yn zn wn
+    IsSameCorner-hop n f g _ _ _ _ X Y Z W pos s.is t.is xn yn zn wn
     (hop_from_columns n (row_factor f) (column_factor f) _ _ (row_factor g) (column_factor g) _ _ X Y Z W pos xn yn zn wn
-    s.rows s.columns s.low s.few t.rows t.columns t.low t.few rows columns)
+    s.rows s.columns s.low s.bounded t.rows t.columns t.low t.bounded rows columns)

@@ -1,9 +1,9 @@
--- From corners to cells: two cells share a corner exactly where the one lies beside the other.
+-- From corners to cells: two cells share a corner if and only if one is beside the other.
 use Rattle.std.proofs.Common.{◌≡◌, ℕ, ◌+◌, ◌-◌, ◌<◌, ◌≤◌, inl, inr, arith, refl, max}
-use Rattle.moc_sphere.specs.Private.Sides.{NamesOnePoint, IsBeside, IsBeyondNorthEast, IsBeyondSouthWest, IsBeyondNorthWest, IsBeyondSouthEast, IsBeyondNorth, IsBeyondSouth, IsBeyondEast, IsBeyondWest}
+use Rattle.moc_sphere.specs.Private.Sides.{IsSameCorner, IsBeside, IsBeyondNorthEast, IsBeyondSouthWest, IsBeyondNorthWest, IsBeyondSouthEast, IsBeyondNorth, IsBeyondSouth, IsBeyondEast, IsBeyondWest}
 use Rattle.moc_sphere.proofs.Shared.{IsCorner}
 
--- the cell (z, w) lies beyond a side, at a place p along it that is at most one from the place u
+-- the cell (z, w) is beyond a side, at a position p along it that differs by at most one from the position u
 abbrev pub NearAlong : ℕ → ℕ → (ℕ → Type 0) → Type 0
 NearAlong n u Beyond = (p : ℕ) × (p < n) × (p ≤ u + 1) × (u ≤ p + 1) × Beyond p
 
@@ -76,7 +76,7 @@ reach_south_east n f x y g z w xn yn at (p, pn, above, below, h) =
     (p + 1 - x, 0, omega arith, omega arith, inr (inr (inr (inr (inl (omega arith, omega arith, omega arith, rw e h))))))
 
 pub Reaches-from_corners : (n f x y X Y g z w Z W : ℕ) → f < 12 → x < n → y < n → z < n → w < n
-    → IsCorner x y X Y → IsCorner z w Z W → NamesOnePoint n f X Y g Z W → Reaches n f x y g z w
+    → IsCorner x y X Y → IsCorner z w Z W → IsSameCorner n f X Y g Z W → Reaches n f x y g z w
 Reaches-from_corners n f x y X Y g z w Z W fn xn yn zn wn c d m =
     elim m [
       | inl h ↦ (z + 1 - x, w + 1 - y, omega arith, omega arith, inl (omega arith, omega arith, omega arith, omega arith, omega arith, omega arith, omega arith))
@@ -102,18 +102,18 @@ Reaches-from_corners n f x y X Y g z w Z W fn xn yn zn wn c d m =
           (0, 2, omega arith, omega arith, inr (inr (inr (inr (inr (inr (inr (inr (omega arith, omega arith, vertex_west n f g z w Z W zn wn d h.2)))))))))
     ]
 
--- The corner (X, Y) of base pixel f is one of the cell (z, w) of base pixel g.
+-- The corner (X, Y) of base pixel f is a corner of the cell (z, w) of base pixel g.
 pub record IsCornerOf (n f X Y g z w : ℕ) : Type 0 where
   pub Z : ℕ
   pub W : ℕ
   pub corner : IsCorner z w Z W
-  pub meets : NamesOnePoint n f X Y g Z W
+  pub meets : IsSameCorner n f X Y g Z W
 
-corner_of_at : (n f X Y g z w Z W : ℕ) → z ≤ Z → Z ≤ z + 1 → w ≤ W → W ≤ w + 1 → NamesOnePoint n f X Y g Z W → IsCornerOf n f X Y g z w
+corner_of_at : (n f X Y g z w Z W : ℕ) → z ≤ Z → Z ≤ z + 1 → w ≤ W → W ≤ w + 1 → IsSameCorner n f X Y g Z W → IsCornerOf n f X Y g z w
 corner_of_at n f X Y g z w Z W a b c d m =
     record { Z = Z; W = W; corner = record { from_x = a; to_x = b; from_y = c; to_y = d }; meets = m }
 
-shares_north_east : (n f U g Z W : ℕ) → IsBeyondNorthEast n f U g Z W → NamesOnePoint n f n U g Z W
+shares_north_east : (n f U g Z W : ℕ) → IsBeyondNorthEast n f U g Z W → IsSameCorner n f n U g Z W
 shares_north_east n f U g Z W h = inr (inl (refl, h))
 
 corner_of_north_east : (n f U g z w p : ℕ) → p < n → p ≤ U → U ≤ p + 1 → IsBeyondNorthEast (n - 1) f p g z w → IsCornerOf n f n U g z w
@@ -124,7 +124,7 @@ corner_of_north_east n f U g z w p pn low high h =
       | inr (inr a) ↦ corner_of_at n f n U g z w 0 U (omega arith) (omega arith) (omega arith) (omega arith) (shares_north_east n f U g 0 U (grind arith))
     ]
 
-shares_south_west : (n f U g Z W : ℕ) → IsBeyondSouthWest n f U g Z W → NamesOnePoint n f 0 U g Z W
+shares_south_west : (n f U g Z W : ℕ) → IsBeyondSouthWest n f U g Z W → IsSameCorner n f 0 U g Z W
 shares_south_west n f U g Z W h = inr (inr (inl (refl, h)))
 
 corner_of_south_west : (n f U g z w p : ℕ) → p < n → p ≤ U → U ≤ p + 1 → IsBeyondSouthWest (n - 1) f p g z w → IsCornerOf n f 0 U g z w
@@ -135,7 +135,7 @@ corner_of_south_west n f U g z w p pn low high h =
       | inr (inr a) ↦ corner_of_at n f 0 U g z w U 0 (omega arith) (omega arith) (omega arith) (omega arith) (shares_south_west n f U g U 0 (grind arith))
     ]
 
-shares_north_west : (n f U g Z W : ℕ) → IsBeyondNorthWest n f U g Z W → NamesOnePoint n f U n g Z W
+shares_north_west : (n f U g Z W : ℕ) → IsBeyondNorthWest n f U g Z W → IsSameCorner n f U n g Z W
 shares_north_west n f U g Z W h = inr (inr (inr (inl (refl, h))))
 
 corner_of_north_west : (n f U g z w p : ℕ) → p < n → p ≤ U → U ≤ p + 1 → IsBeyondNorthWest (n - 1) f p g z w → IsCornerOf n f U n g z w
@@ -146,7 +146,7 @@ corner_of_north_west n f U g z w p pn low high h =
       | inr (inr a) ↦ corner_of_at n f U n g z w U 0 (omega arith) (omega arith) (omega arith) (omega arith) (shares_north_west n f U g U 0 (grind arith))
     ]
 
-shares_south_east : (n f U g Z W : ℕ) → IsBeyondSouthEast n f U g Z W → NamesOnePoint n f U 0 g Z W
+shares_south_east : (n f U g Z W : ℕ) → IsBeyondSouthEast n f U g Z W → IsSameCorner n f U 0 g Z W
 shares_south_east n f U g Z W h = inr (inr (inr (inr (inl (refl, h)))))
 
 corner_of_south_east : (n f U g z w p : ℕ) → p < n → p ≤ U → U ≤ p + 1 → IsBeyondSouthEast (n - 1) f p g z w → IsCornerOf n f U 0 g z w
@@ -157,7 +157,7 @@ corner_of_south_east n f U g z w p pn low high h =
       | inr (inr a) ↦ corner_of_at n f U 0 g z w 0 U (omega arith) (omega arith) (omega arith) (omega arith) (shares_south_east n f U g 0 U (grind arith))
     ]
 
-shares_north : (n f g Z W : ℕ) → IsBeyondNorth n f g Z W → NamesOnePoint n f n n g Z W
+shares_north : (n f g Z W : ℕ) → IsBeyondNorth n f g Z W → IsSameCorner n f n n g Z W
 shares_north n f g Z W h = inr (inr (inr (inr (inr (inl (refl, refl, h))))))
 
 corner_of_north : (n f g z w : ℕ) → 0 < n → IsBeyondNorth (n - 1) f g z w → IsCornerOf n f n n g z w
@@ -167,7 +167,7 @@ corner_of_north n f g z w pos h =
       | inr a ↦ corner_of_at n f n n g z w 0 0 (omega arith) (omega arith) (omega arith) (omega arith) (shares_north n f g 0 0 (grind arith))
     ]
 
-shares_south : (n f g Z W : ℕ) → IsBeyondSouth n f g Z W → NamesOnePoint n f 0 0 g Z W
+shares_south : (n f g Z W : ℕ) → IsBeyondSouth n f g Z W → IsSameCorner n f 0 0 g Z W
 shares_south n f g Z W h = inr (inr (inr (inr (inr (inr (inl (refl, refl, h)))))))
 
 corner_of_south : (n f g z w : ℕ) → 0 < n → IsBeyondSouth (n - 1) f g z w → IsCornerOf n f 0 0 g z w
@@ -177,29 +177,29 @@ corner_of_south n f g z w pos h =
       | inr a ↦ corner_of_at n f 0 0 g z w 0 0 (omega arith) (omega arith) (omega arith) (omega arith) (shares_south n f g 0 0 (grind arith))
     ]
 
-shares_east : (n f g Z W : ℕ) → IsBeyondEast n f g Z W → NamesOnePoint n f n 0 g Z W
+shares_east : (n f g Z W : ℕ) → IsBeyondEast n f g Z W → IsSameCorner n f n 0 g Z W
 shares_east n f g Z W h = inr (inr (inr (inr (inr (inr (inr (inl (refl, refl, h))))))))
 
 corner_of_east : (n f g z w : ℕ) → 0 < n → IsBeyondEast (n - 1) f g z w → IsCornerOf n f n 0 g z w
 corner_of_east n f g z w pos h =
     corner_of_at n f n 0 g z w 0 n (omega arith) (omega arith) (omega arith) (omega arith) (shares_east n f g 0 n (grind arith))
 
-shares_west : (n f g Z W : ℕ) → IsBeyondWest n f g Z W → NamesOnePoint n f 0 n g Z W
+shares_west : (n f g Z W : ℕ) → IsBeyondWest n f g Z W → IsSameCorner n f 0 n g Z W
 shares_west n f g Z W h = inr (inr (inr (inr (inr (inr (inr (inr ((refl, refl, h)))))))))
 
 corner_of_west : (n f g z w : ℕ) → 0 < n → IsBeyondWest (n - 1) f g z w → IsCornerOf n f 0 n g z w
 corner_of_west n f g z w pos h =
     corner_of_at n f 0 n g z w n 0 (omega arith) (omega arith) (omega arith) (omega arith) (shares_west n f g n 0 (grind arith))
 
--- the same corner by other names of its coordinates
+-- the same corner with equal coordinates
 moved : (n f X Y U V g z w : ℕ) → X ≡ U → Y ≡ V → IsCornerOf n f U V g z w → IsCornerOf n f X Y g z w
 moved n f X Y U V g z w a b c = rw (a, b) c
 
--- On the plane of a base pixel a corner at X is one of the cell at s - 1.
+-- On an axis of a base pixel, a corner at X is a corner of the cell at s - 1.
 abbrev pub Adjoins : ℕ → ℕ → Type 0
 Adjoins X s = (X ≤ s) × (s ≤ X + 1)
 
--- A corner of a base pixel that is one of the cell beside, on its plane, is one of that cell.
+-- A corner of a base pixel that adjoins the cell beside, in coordinates of the base pixel, is a corner of this cell.
 pub corner_of_beside : (n f X Y s t g z w : ℕ) → 0 < n → X ≤ n → Y ≤ n → Adjoins X s → Adjoins Y t → IsBeside n f s t g z w → IsCornerOf n f X Y g z w
 corner_of_beside n f X Y s t g z w pos xn yn (xs, sx) (yt, ty) b =
     elim b [
@@ -214,9 +214,10 @@ corner_of_beside n f X Y s t g z w pos xn yn (xs, sx) (yt, ty) b =
       | inr (inr (inr (inr (inr (inr (inr (inr h))))))) ↦ moved n f X Y 0 n g z w (omega arith) (omega arith) (corner_of_west n f g z w pos h.2)
     ]
 
--- Two corners, one of the cell beside: the corner is one of that cell on the plane too.
+-- If one of two equal corners is a corner of the cell beside, then it adjoins this cell in coordinates of the base
+-- pixel.
 module _ (n f X Y s t g z w Z W : ℕ) (pos : 0 < n) (fn : f < 12) (xn : X ≤ n) (yn : Y ≤ n) (zn : z < n) (wn : w < n)
-    (c : IsCorner z w Z W) (m : NamesOnePoint n f X Y g Z W) where
+    (c : IsCorner z w Z W) (m : IsSameCorner n f X Y g Z W) where
   adjoins_inside : ((1 ≤ s) × (s ≤ n) × (1 ≤ t) × (t ≤ n) × (g ≡ f) × (z + 1 ≡ s) × (w + 1 ≡ t)) → Adjoins X s × Adjoins Y t
   adjoins_inside a = grind arith
 
@@ -264,9 +265,9 @@ pub record Shared (n f x y g z w : ℕ) : Type 0 where
   pub Y : ℕ
   pub Z : ℕ
   pub W : ℕ
-  pub mine : IsCorner x y X Y
-  pub yours : IsCorner z w Z W
-  pub meets : NamesOnePoint n f X Y g Z W
+  pub in_first : IsCorner x y X Y
+  pub in_second : IsCorner z w Z W
+  pub meets : IsSameCorner n f X Y g Z W
 
 pub Shared-from_beside : (n f x y a b g z w : ℕ) → f < 12 → x < n → y < n → a < 3 → b < 3
     → IsBeside n f (x + a) (y + b) g z w → Shared n f x y g z w
@@ -279,12 +280,12 @@ Shared-from_beside n f x y a b g z w fn xn yn an bn s =
       Y = Y;
       Z = c.Z;
       W = c.W;
-      mine = record { from_x = omega arith; to_x = omega arith; from_y = omega arith; to_y = omega arith };
-      yours = c.corner;
+      in_first = record { from_x = omega arith; to_x = omega arith; from_y = omega arith; to_y = omega arith };
+      in_second = c.corner;
       meets = c.meets;
     }
 
--- A cell beside another, by a step other than no step, is another cell.
+-- A cell beside another, by a step other than step 4, is a different cell.
 pub apart_from_beside : (n f x y a b g z w : ℕ) → f < 12 → x < n → y < n → a < 3 → b < 3 → (a ≡ 1 → b ≡ 1 → ⊥)
     → IsBeside n f (x + a) (y + b) g z w → f ≡ g → x ≡ z → y ≡ w → ⊥
 apart_from_beside n f x y a b g z w fn xn yn an bn step s e p q = grind arith

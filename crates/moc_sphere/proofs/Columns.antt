@@ -1,4 +1,4 @@
--- The row and the column of a corner, region by region.
+-- The row and the column of a corner, zone by zone.
 use Rattle.std.proofs.Common.{◌≡◌, ℕ, ◌+◌, ◌-◌, ◌*◌, ◌/◌, ◌%◌, ◌<◌, ◌≤◌, arith, ap, ◌∙◌}
 use Rattle.std.proofs.lemmas.Bool.{and_from, and_left, and_right, le-leb, lt-leb, cond-true, cond-false, ne_eqb, eq-eqb}
 use Rattle.std.proofs.Math.Nat.{min-eq_left, min-eq_right}

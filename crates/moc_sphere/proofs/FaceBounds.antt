@@ -1,4 +1,4 @@
--- The bounds of a cell's place in its base pixel, and that a place has one cell.
+-- The bounds of a cell's coordinates in its base pixel; coordinates identify the cell.
 use Rattle.std.proofs.Common.{◌≡◌, ℕ, ◌^◌, ◌<◌, subst}
 use Rattle.std.proofs.lemmas.Nat.{pow_pos}
 use Rattle.moc_sphere.specs.CellNumber.{cell_count}
@@ -21,6 +21,6 @@ y_of-below k i = y_of-lt k i
 pub same_cell : (k i j : ℕ) → face_of k i ≡ face_of k j → x_of k i ≡ x_of k j → y_of k i ≡ y_of k j → i ≡ j
 same_cell k i j f x y = same_index k i j (record { face = f; right = x; up = y })
 
--- a number whose base pixel is one of the twelve is a cell's
+-- a number whose base pixel is one of the twelve is the index of a cell
 pub index_below : (k i : ℕ) → face_of k i < 12 → i < cell_count k
 index_below k i l = subst (λ j. j < cell_count k) (index_of-face k i) (index_in_range k (face_of k i) (x_of k i) (y_of k i) l)

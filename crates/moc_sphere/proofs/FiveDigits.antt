@@ -22,7 +22,7 @@ x_last i = sym (x_of-digits 5 (i / 1024) (i % 1024)) ∙ ap (x_of 5) (omega arit
 y_last : (i : ℕ) → y_of 5 (i % 1024) ≡ y_of 5 i
 y_last i = sym (y_of-digits 5 (i / 1024) (i % 1024)) ∙ ap (y_of 5) (omega arith)
 
--- the entry of the last five digits, as the code looks it up
+-- the table entry of the last five digits, as the code reads it
 pub looked_up : (i : ℕ) → get_or FIVE_DIGITS (bit_and i 1023) 0 ≡ x_of 5 i + 4294967296 * y_of 5 i
 unfolding places_of
 looked_up i =
@@ -46,7 +46,7 @@ y_more k i =
     let e = ap (y_of k) deep in
     omega (arith, e)
 
--- x and y of fifteen digits, by five of them each
+-- x and y of fifteen digits, from three times five digits
 x_fifteen : (s : ℕ) → x_of 15 s ≡ x_of 5 s + 32 * x_of 5 (s / 1024) + 1024 * x_of 5 (s / 1048576)
 x_fifteen s =
     let e : s / 1024 / 1024 ≡ s / 1048576 = omega arith in
@@ -62,7 +62,7 @@ pub fifteen_together : (s a b c : ℕ) → a ≡ x_of 5 s + 4294967296 * y_of 5 
     → a + 32 * b + 1024 * c ≡ x_of 15 s + 4294967296 * y_of 15 s
 fifteen_together s a b c first second third = omega (arith, x_fifteen s, y_fifteen s)
 
--- x and y of thirty digits, by fifteen of them each
+-- x and y of thirty digits, from two times fifteen digits
 x_thirty : (s : ℕ) → x_of 30 s ≡ x_of 15 s + 32768 * x_of 15 (s / 1073741824)
 x_thirty s =
     let e1 : s / 1024 / 1024 ≡ s / 1048576 = omega arith in

@@ -1,4 +1,4 @@
--- The steps from a cell that has its place off the border of its base pixel.
+-- The steps from a cell that is not on the border of its base pixel.
 use Rattle.std.proofs.Common.{◌≡◌, ◌≢◌, ℕ, zero, suc, ◌+◌, ◌-◌, ◌*◌, ◌/◌, ◌%◌, ◌^◌, ◌<◌, ◌≤◌, ◌↔◌, List, [], ◌∷◌, get_or, Contains, inl, refl, sym, ap, ◌∙◌, arith}
 use Rattle.std.specs.List.Sorted.{IsStrictlyIncreasing}
 use Rattle.moc_sphere.specs.CellNumber.{cell_count}
@@ -15,7 +15,7 @@ use Rattle.moc_sphere.proofs.SpreadSteps.{spread_of-rises}
 use Rattle.moc_sphere.specs.Private.Sides.{IsAtStep}
 use Rattle.moc_sphere.proofs.Touching.{Touches-from_step, step_from_Touches}
 
--- a step leads to the index of the place, in the same base pixel
+-- a step leads to the index of the cell there, in the same base pixel
 pub step_inside : (k i f x y d j : ℕ) → face_of k i ≡ f → x_of k i ≡ x → y_of k i ≡ y → f < 12 → 0 < x → x + 1 < 2 ^ k → 0 < y → y + 1 < 2 ^ k
     → d < 9 → j ≡ index_of k f (x + d / 3 - 1) (y + d % 3 - 1) → IsAtStep k i d j
 step_inside k i f x y d j ef ex ey fb xp xl yp yl db ej =
@@ -28,9 +28,9 @@ step_inside k i f x y d j ef ex ey fb xp xl yp yl db ej =
       inl (omega arith, omega arith, omega arith, omega arith, face ∙ sym ef, omega arith, omega arith),
     )
 
--- ---- the sums of the code
+-- ---- the sums that the code computes
 
--- the spread coordinates of the cell and of those beside it, and the first number of its base pixel
+-- the spread coordinates of the cell and of the cells beside it, and the first index of its base pixel
 pub record IsAround (k f x y first p q r s t u : ℕ) : Type 0 where
   pub order_in_range : k ≤ 29
   pub face_in_range : f < 12
@@ -63,13 +63,13 @@ up_at p q r (suc (suc (suc a))) x ep eq er pos l = absurd (omega arith)
 pub in_word : (k x : ℕ) → k ≤ 29 → x + 1 < 2 ^ k → x + 1 < 2 ^ 32
 in_word k x small l = omega (arith, two_pow_le k small)
 
--- the spread coordinate of a place beside the cell, put after the first number of the base pixel, is a number
+-- the spread coordinate of a cell beside, added to the first index of the base pixel, fits in 64 bits
 pub across_fits : (k f x s j v : ℕ) → j ≡ k → j ≤ 29 → v ≡ f → f < 12 → x < 2 ^ k → s ≡ spread_of 32 x → v * 2 ^ (2 * j) % 2 ^ 64 + s < 2 ^ 64
 across_fits k f x s j v level small base fb l e =
     omega (arith, index_code k j f v x 0 s (spread_of 32 0) (omega arith) level base fb l (side_positive k) e refl, index_fits k f x 0 (omega arith) fb)
 
 module _ (k f x y first p q r s t u : ℕ) (around : IsAround k f x y first p q r s t u) where
-  -- the sum at a step is the number of the place there
+  -- the sum at a step is the index of the cell there
   pub sum_is : (d : ℕ) → d < 9 → sum_at ((first + p) ∷ (first + q) ∷ (first + r) ∷ []) (2 * s ∷ 2 * t ∷ 2 * u ∷ []) d ≡ index_of k f (x + d / 3 - 1) (y + d % 3 - 1)
   sum_is d db =
       let a = across_at first p q r (d / 3) x around.x_before around.x_here around.x_after around.x_above (omega arith) in
@@ -98,7 +98,7 @@ module _ (k f x y first p q r s t u : ℕ) (around : IsAround k f x y first p q 
   up_rises (suc zero) l = omega (arith, spread_of-rises 32 y (y + 1) (omega arith) (omega (arith, two_pow_le k around.order_in_range)))
   up_rises (suc (suc a)) l = absurd (omega arith)
 
-  -- the sums but the middle one are the cells that touch
+  -- the sums except the middle one are the cells that touch
   pub sums_touch : (i : ℕ) (items : List ℕ) → i < cell_count k → face_of k i ≡ f → x_of k i ≡ x → y_of k i ≡ y
       → ((j : ℕ) → Contains items j ↔ ((d : ℕ) × (d < 9) × (d ≢ 4) × (j ≡ sum_at ((first + p) ∷ (first + q) ∷ (first + r) ∷ []) (2 * s ∷ 2 * t ∷ 2 * u ∷ []) d)))
       → (j : ℕ) → Contains items j ↔ Touches k i j

@@ -21,7 +21,7 @@ nearer_north n r s u least = elim (cases_lt r n) [
       ap (λ t. 2 * t * (t - 1) + 4 * n * (r - t)) e ∙ sym (start_from_n n r g u)
 ]
 
--- the same for the row as far from the other pole, with the rows from it on
+-- the same for the row at this distance from the other pole, with the rows from it on
 both_caps : (n r : ℕ) → 0 < r → r < n → row_start n (4 * n - r) + 2 * r * (r - 1) + 4 * r ≡ 12 * n * n
 both_caps n zero pos l = absurd (omega arith)
 both_caps n (suc p) pos l =
@@ -51,17 +51,17 @@ nearer_south n r s pos u least = elim (cases_lt r n) [
       ap (λ t. row_start n (4 * n - r) + (2 * t * (t - 1) + 4 * n * (r - t)) + 4 * t) e ∙ both_belts n r g u
 ]
 
--- ---- the place in a row of the first eight base pixels
+-- ---- the position in a row of the first eight base pixels
 
 row_of_first : (n f x y J : ℕ) → f < 8 → J ≡ 2 + f / 4 → row_at n f x y ≡ J * n - x - y - 1
 row_of_first n f x y J w is = ap (λ m. m * n - x - y - 1) (row_factor_is f (omega arith) ∙ sym is)
 
--- the place, counted from the western edge, which may lie to the east of the row's first cell
+-- the position, counted from the western edge, which may be to the east of the row's first cell
 pub record IsWest (n east edge place : ℕ) : Type 0 where
   pub past : edge ≤ east → east ≡ place + edge
   pub round : east < edge → east + 4 * n ≡ place + edge
 
--- a place in the northern cap
+-- a position in the northern cap
 west_cap : (n f x y r q : ℕ) → f < 4 → x < n → y < n → r ≡ row_at n f x y → r < n → q ≡ f % 4 → (q + 1) * r + x ≡ place_in_row n f x y + n
 west_cap n f x y r q w l u row low east =
     let rows : row_at n f x y ≡ 2 * n - x - y - 1 = row_of_first n f x y 2 (omega arith) (omega arith) in
@@ -69,7 +69,7 @@ west_cap n f x y r q w l u row low east =
     place_below_n n f x y (omega arith) ∙ (λ i. sym east i * sym row i + (n - 1 - y)) in
     omega arith
 
--- a place in the belt
+-- a position in the belt
 west_belt : (n f x y r q c : ℕ) → r ≡ row_at n f x y → n ≤ r → r ≤ 3 * n → column_at n f x y ≡ c → place_in_row n f x y ≡ c / 2
 west_belt n f x y r q c row low high column = place_from_n n f x y (omega arith) (omega arith) ∙ ap (λ c. c / 2) column
 

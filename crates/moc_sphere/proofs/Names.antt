@@ -1,8 +1,8 @@
--- Each name of a corner is the same point of the sphere.
+-- All coordinates of a corner, in any base pixel, are the same point of the sphere.
 use Rattle.std.proofs.Common.{◌≡◌, ℕ, ◌+◌, ◌-◌, ◌*◌, ◌%◌, ◌<◌, ◌≤◌, ◌⊎◌, inl, inr, arith, refl, ap, ◌∙◌, sym}
 use Rattle.std.proofs.lemmas.Bool.{cases_lt}
 use Rattle.std.proofs.Math.Nat.{add-mod_right}
-use Rattle.moc_sphere.specs.Private.Sides.{NamesOnePoint}
+use Rattle.moc_sphere.specs.Private.Sides.{IsSameCorner}
 use Rattle.moc_sphere.specs.Rings.{column_factor, column_at}
 use Rattle.moc_sphere.specs.Touching.{corner_row, corner_column, polar_column}
 use Rattle.moc_sphere.proofs.Shared.{IsSamePoint}
@@ -20,7 +20,7 @@ join n a b X Z s =
       | inr (inr e) ↦ let p : a * n ≡ b * n + n = omega (arith, ap (λ t. t * n) e.0) in omega arith
     ]
 
--- a rest is the same a round later
+-- a number and the number one period later are congruent
 pub rest_of_equal : (m a b : ℕ) → (a ≡ b) ⊎ ((a ≡ b + m) ⊎ (b ≡ a + m)) → a % m ≡ b % m
 rest_of_equal m a b h =
     elim h [
@@ -29,20 +29,20 @@ rest_of_equal m a b h =
       | inr (inr e) ↦ sym (ap (λ t. t % m) e ∙ add-mod_right a m)
     ]
 
-pub NamesOnePoint-names : (n f g X Y Z W : ℕ) → f < 12 → X ≤ n → Y ≤ n → NamesOnePoint n f X Y g Z W → (g < 12) × (Z ≤ n) × (W ≤ n)
-NamesOnePoint-names n f g X Y Z W fn xn yn m = grind arith
+pub IsSameCorner-names : (n f g X Y Z W : ℕ) → f < 12 → X ≤ n → Y ≤ n → IsSameCorner n f X Y g Z W → (g < 12) × (Z ≤ n) × (W ≤ n)
+IsSameCorner-names n f g X Y Z W fn xn yn m = grind arith
 
 -- the rows
-pub NamesOnePoint-row : (n f g X Y Z W R S : ℕ) → X ≤ n → Y ≤ n → NamesOnePoint n f X Y g Z W
+pub IsSameCorner-row : (n f g X Y Z W R S : ℕ) → X ≤ n → Y ≤ n → IsSameCorner n f X Y g Z W
     → ((f < 4) × (R + X + Y ≡ 2 * n)) ⊎ (((4 ≤ f) × (f < 8) × (R + X + Y ≡ 3 * n)) ⊎ ((8 ≤ f) × (f < 12) × (R + X + Y ≡ 4 * n)))
     → ((g < 4) × (S + Z + W ≡ 2 * n)) ⊎ (((4 ≤ g) × (g < 8) × (S + Z + W ≡ 3 * n)) ⊎ ((8 ≤ g) × (g < 12) × (S + Z + W ≡ 4 * n)))
     → R ≡ S
-NamesOnePoint-row n f g X Y Z W R S xn yn m k l = grind arith
+IsSameCorner-row n f g X Y Z W R S xn yn m k l = grind arith
 
 -- the belt
 pub hop_from_Meets : (n f g a b c d X Y Z W R : ℕ) → 0 < n → X ≤ n → Y ≤ n → IsSquare f a b → IsSquare g c d
     → ((f < 4) × (R + X + Y ≡ 2 * n)) ⊎ (((4 ≤ f) × (f < 8) × (R + X + Y ≡ 3 * n)) ⊎ ((8 ≤ f) × (f < 12) × (R + X + Y ≡ 4 * n)))
-    → n ≤ R → R ≤ 3 * n → NamesOnePoint n f X Y g Z W → Hop n a b c d X Y Z W
+    → n ≤ R → R ≤ 3 * n → IsSameCorner n f X Y g Z W → Hop n a b c d X Y Z W
 hop_from_Meets n f g a b c d X Y Z W R pos xn yn p q k low high m = grind arith
 
 pub columns_from_hop : (n K a b M c d X Y Z W : ℕ) → X ≤ n → Y ≤ n → Z ≤ n → W ≤ n
@@ -68,11 +68,11 @@ columns_from_hop n K a b M c d X Y Z W xn yn zn wn k m hop =
 
 -- the caps
 pub turn_north_from_Meets : (n m f g X Y Z W : ℕ) → 0 < m → m < n → f < 4 → g < 12 → X ≤ n → Y ≤ n → m + X + Y ≡ 2 * n
-    → NamesOnePoint n f X Y g Z W → (g < 4) × Turn m f g (n - Y) (n - W)
+    → IsSameCorner n f X Y g Z W → (g < 4) × Turn m f g (n - Y) (n - W)
 turn_north_from_Meets n m f g X Y Z W pos low fn gn xn yn e h = grind arith
 
 pub turn_south_from_Meets : (n m f g X Y Z W : ℕ) → 0 < m → m < n → 8 ≤ f → f < 12 → g < 12 → X ≤ n → Y ≤ n → m ≡ X + Y
-    → NamesOnePoint n f X Y g Z W → (8 ≤ g) × Turn m (f - 8) (g - 8) X Z
+    → IsSameCorner n f X Y g Z W → (8 ≤ g) × Turn m (f - 8) (g - 8) X Z
 turn_south_from_Meets n m f g X Y Z W pos low fl fn gn xn yn e h = grind arith
 
 pub columns_from_turn : (m a c s t : ℕ) → Turn m a c s t → (a * m + s) % (4 * m) ≡ (c * m + t) % (4 * m)
@@ -83,15 +83,15 @@ columns_from_turn m a c s t turn =
       | inr (inr e) ↦ let u = join m (a + 4) c s t e in rest_of_equal (4 * m) _ _ (inr (inr (omega arith)))
     ]
 
-module _ (n f g X Y Z W : ℕ) (pos : 0 < n) (fn : f < 12) (xn : X ≤ n) (yn : Y ≤ n) (h : NamesOnePoint n f X Y g Z W) where
+module _ (n f g X Y Z W : ℕ) (pos : 0 < n) (fn : f < 12) (xn : X ≤ n) (yn : Y ≤ n) (h : IsSameCorner n f X Y g Z W) where
   same_row : corner_row n f X Y ≡ corner_row n g Z W
   same_row =
-      let t = NamesOnePoint-names n f g X Y Z W fn xn yn h in
-      NamesOnePoint-row n f g X Y Z W _ _ xn yn h (kind n f X Y fn xn yn) (kind n g Z W t.0 t.1 t.2)
+      let t = IsSameCorner-names n f g X Y Z W fn xn yn h in
+      IsSameCorner-row n f g X Y Z W _ _ xn yn h (kind n f X Y fn xn yn) (kind n g Z W t.0 t.1 t.2)
 
   same_in_belt : n ≤ corner_row n f X Y → corner_row n f X Y ≤ 3 * n → column_at n f X Y ≡ column_at n g Z W
   same_in_belt low high =
-      let t = NamesOnePoint-names n f g X Y Z W fn xn yn h in
+      let t = IsSameCorner-names n f g X Y Z W fn xn yn h in
       let p = square_of f fn in
       let q = square_of g t.0 in
       columns_from_hop n (column_factor f) _ _ (column_factor g) _ _ X Y Z W xn yn t.1 t.2 p.columns q.columns
@@ -99,7 +99,7 @@ module _ (n f g X Y Z W : ℕ) (pos : 0 < n) (fn : f < 12) (xn : X ≤ n) (yn : 
 
   same_in_north : (m : ℕ) → m ≡ corner_row n f X Y → m < n → polar_column m f X Y ≡ polar_column m g Z W
   same_in_north m is low =
-      let t = NamesOnePoint-names n f g X Y Z W fn xn yn h in
+      let t = IsSameCorner-names n f g X Y Z W fn xn yn h in
       let k = kind n f X Y fn xn yn in
       let l = kind n g Z W t.0 t.1 t.2 in
       let r = same_row in
@@ -114,7 +114,7 @@ module _ (n f g X Y Z W : ℕ) (pos : 0 < n) (fn : f < 12) (xn : X ≤ n) (yn : 
 
   same_in_south : (m : ℕ) → m + corner_row n f X Y ≡ 4 * n → m < n → polar_column m f X Y ≡ polar_column m g Z W
   same_in_south m is low =
-      let t = NamesOnePoint-names n f g X Y Z W fn xn yn h in
+      let t = IsSameCorner-names n f g X Y Z W fn xn yn h in
       let k = kind n f X Y fn xn yn in
       let l = kind n g Z W t.0 t.1 t.2 in
       let r = same_row in

@@ -1,4 +1,4 @@
--- The neighbour of a cell in a direction is where a step leads.
+-- The neighbour of a cell in a direction is the cell that a step leads to.
 use Rattle.std.proofs.Common.{◌≡◌, ℕ, zero, suc, ◌+◌, ◌/◌, ◌%◌, ◌^◌, ◌*◌, ◌<◌, Bool, true, false, ◌&&◌, ◌||◌, List, [], ◌∷◌, Contains, refl, sym, ap, subst, ◌∙◌, arith}
 use Rattle.std.specs.Prelude.{if◌then◌else◌, Option, None, Some, MatchOption, IfSome}
 use Rattle.std.specs.List.{list_any}
@@ -10,7 +10,7 @@ use Rattle.moc_sphere.specs.Touching.{Point, corner_point, corner_points, corner
 use Rattle.moc_sphere.specs.Private.Sides.{corners_of_step, goes_down, goes_up, IsAtStep, IsBeside}
 use Rattle.moc_sphere.specs.declared.direction.Direction.{Direction}
 use Rattle.moc_sphere.proofs.Shared.{IsCorner, at_corner, corner_in, found_in, same_from_test, same_point, Touches-from_test}
-use Rattle.moc_sphere.proofs.Points.{NamesOnePoint-from_same_point}
+use Rattle.moc_sphere.proofs.Points.{IsSameCorner-from_same_point}
 use Rattle.moc_sphere.proofs.Names.{same_point-from_Meets}
 use Rattle.moc_sphere.proofs.Cells.{Adjoins, adjoins_from_beside, corner_of_beside}
 use Rattle.moc_sphere.proofs.FaceBounds.{face_of-below, x_of-below, y_of-below, side_positive}
@@ -23,7 +23,7 @@ same_test true t f g = sym (f refl)
 same_test false true f g = g refl
 same_test false false f g = refl
 
--- the step, of the corners that it goes towards
+-- the step that goes towards the given corners
 abbrev pub across_of : List Bool → ℕ
 across_of (s ∷ e ∷ w ∷ n ∷ []) = (if s || w then 0 else 1) + (if e || n then 1 else 0)
 across_of _ = 0
@@ -53,7 +53,7 @@ step_across a b d e p q same = subst (λ n. n ≡ d) p (subst (λ n. across_of (
 step_up : (a b d e : ℕ) → up_of (corners_of_step a b) ≡ b → up_of (corners_of_step d e) ≡ e → corners_of_step a b ≡ corners_of_step d e → b ≡ e
 step_up a b d e p q same = subst (λ n. n ≡ e) p (subst (λ n. up_of (corners_of_step a b) ≡ n) q (ap up_of same))
 
--- steps that go towards the same corners are one
+-- steps that go towards the same corners are equal
 same_step : (s t : ℕ) → s < 9 → t < 9 → corners_of_step (s / 3) (s % 3) ≡ corners_of_step (t / 3) (t % 3) → s ≡ t
 same_step s t sb tb e =
     let p = step_back (s / 3) (s % 3) (omega arith) (omega arith) in
@@ -62,7 +62,7 @@ same_step s t sb tb e =
     let b = step_up (s / 3) (s % 3) (t / 3) (t % 3) p.1 q.1 e in
     omega arith
 
--- ---- the corners that a cell shares with the one at a step
+-- ---- the corners that a cell shares with the cell at a step
 
 module _ (k i j a b : ℕ) (al : a < 3) (bl : b < 3) (ib : i < 12 * 4 ^ k) (jb : j < 12 * 4 ^ k)
     (at : IsBeside (2 ^ k) (face_of k i) (x_of k i + a) (y_of k i + b) (face_of k j) (x_of k j) (y_of k j)) where
@@ -83,7 +83,7 @@ module _ (k i j a b : ℕ) (al : a < 3) (bl : b < 3) (ib : i < 12 * 4 ^ k) (jb :
       let v = at_corner k j (corner X Y) (Contains-from_any (λ p q. same_from_test p q) (corner X Y) (corner_points k j) h) in
       let zc = v.corner.to_x in
       let wc = v.corner.to_y in
-      let m = NamesOnePoint-from_same_point (2 ^ k) (face_of k i) (face_of k j) X Y v.X v.Y (side_positive k) (face_of-below k i ib) (face_of-below k j jb)
+      let m = IsSameCorner-from_same_point (2 ^ k) (face_of k i) (face_of k j) X Y v.X v.Y (side_positive k) (face_of-below k i ib) (face_of-below k j jb)
       (omega arith) (omega arith) (omega arith) (omega arith) (record { row = ap (λ p. p.row) (sym v.is); column = ap (λ p. p.column) (sym v.is) }) in
       adjoins_from_beside (2 ^ k) (face_of k i) X Y (x_of k i + a) (y_of k i + b) (face_of k j) (x_of k j) (y_of k j) v.X v.Y (side_positive k) (face_of-below k i ib)
       (omega arith) (omega arith) zn wn v.corner m at
@@ -167,7 +167,7 @@ own_corners k i =
 
 touching_test : (k i j : ℕ) → (i ≡ j → ⊥) → any (corners_shared k i j) ≡ true → is_touching k i j ≡ true
 unfolding is_touching corners_shared corner_points
-touching_test k i j apart h = and_from _ _ (not_from_false _ (ne_eqb i j apart)) h
+touching_test k i j distinct h = and_from _ _ (not_from_false _ (ne_eqb i j distinct)) h
 
 pub neighbour_at_step : (k i : ℕ) (d : Direction) (s j : ℕ) → i < 12 * 4 ^ k → s < 9 → corners_of_step (s / 3) (s % 3) ≡ corners_of d → IsAtStep k i s j → IsNeighbour k d i j
 neighbour_at_step k i d s j ib sb e (jb, h) =
@@ -175,24 +175,24 @@ neighbour_at_step k i d s j ib sb e (jb, h) =
 
 pub step_of_neighbour : (k i : ℕ) (d : Direction) (s j : ℕ) → i < 12 * 4 ^ k → s < 9 → (s ≡ 4 → ⊥) → corners_of_step (s / 3) (s % 3) ≡ corners_of d → IsNeighbour k d i j → IsAtStep k i s j
 step_of_neighbour k i d s j ib sb off e (jb, shared) =
-    let mine : corners_shared k i j ≡ corners_of_step (s / 3) (s % 3) = shared ∙ sym e in
-    let apart : i ≡ j → ⊥ =
+    let in_first : corners_shared k i j ≡ corners_of_step (s / 3) (s % 3) = shared ∙ sym e in
+    let distinct : i ≡ j → ⊥ =
     λ same.
     let own : corners_shared k i j ≡ corners_of_step 1 1 = subst (λ l. corners_shared k i l ≡ corners_of_step 1 1) same (own_corners k i) in
-    off (same_step s 4 sb (omega arith) (sym mine ∙ own)) in
-    let t = Touches-from_test k i j ib jb (touching_test k i j apart (ap any mine ∙ some_corner (s / 3) (s % 3) (omega arith) (omega arith))) in
-    of_step (step_from_Touches k i j t) mine
+    off (same_step s 4 sb (omega arith) (sym in_first ∙ own)) in
+    let t = Touches-from_test k i j ib jb (touching_test k i j distinct (ap any in_first ∙ some_corner (s / 3) (s % 3) (omega arith) (omega arith))) in
+    of_step (step_from_Touches k i j t) in_first
   where
     of_step : ((u : ℕ) × (u < 9) × (u ≡ 4 → ⊥) × IsAtStep k i u j) → corners_shared k i j ≡ corners_of_step (s / 3) (s % 3) → IsAtStep k i s j
-    of_step (u, ub, _, at) mine =
+    of_step (u, ub, _, at) in_first =
         let there = shared_at_step k i j (u / 3) (u % 3) (omega arith) (omega arith) ib jb at.1 in
-        subst (λ v. IsAtStep k i v j) (same_step u s ub sb (sym there ∙ mine)) at
+        subst (λ v. IsAtStep k i v j) (same_step u s ub sb (sym there ∙ in_first)) at
 
--- what a search at a step gave: the cell there, or nothing where there is none
+-- the result of a search at a step: the cell there, or `None` if no cell is there
 abbrev pub IsFoundAt : ℕ → ℕ → ℕ → Option CellNumber → Type 0
 IsFoundAt k i s r = MatchOption r ((j : ℕ) → ¬ IsAtStep k i s j) (λ c. (c.order ≡ k) × IsAtStep k i s c.index)
 
--- it is the neighbour in the direction of the step, if there is one
+-- the result is the neighbour in the direction of the step, if there is one
 module _ (k i : ℕ) (d : Direction) (s : ℕ) (ib : i < 12 * 4 ^ k) (sb : s < 9) (off : s ≡ 4 → ⊥) (e : corners_of_step (s / 3) (s % 3) ≡ corners_of d) where
   pub one_found : (r : Option CellNumber) → IsFoundAt k i s r → IfSome r (λ c. (c.order ≡ k) × IsNeighbour k d i c.index)
   one_found None h = tt
@@ -202,7 +202,7 @@ module _ (k i : ℕ) (d : Direction) (s : ℕ) (ib : i < 12 * 4 ^ k) (sb : s < 9
   one_only None none j h = absurd (none j (step_of_neighbour k i d s j ib sb off e h))
   one_only (Some c) (o, at) j h = ap Some (cell_is c k j o (one_at_step k i s c.index j at (step_of_neighbour k i d s j ib sb off e h)))
 
-  -- and touches
+  -- the result touches the cell
   pub one_touches : (r : Option CellNumber) → IsFoundAt k i s r → IfSome r (λ c. Touches k i c.index)
   one_touches None h = tt
   one_touches (Some c) (o, at) = Touches-from_step k i s c.index ib sb off at

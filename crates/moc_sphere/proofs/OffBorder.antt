@@ -1,4 +1,4 @@
--- Spread coordinates that are off the border of a base pixel.
+-- Spread coordinates that are not on the border of a base pixel.
 use Rattle.std.proofs.Common.{◌≡◌, ℕ, zero, suc, ◌+◌, ◌-◌, ◌*◌, ◌/◌, ◌%◌, ◌^◌, ◌<◌, ◌≤◌, inl, inr, refl, sym, ap, ◌∙◌, arith}
 use Rattle.std.proofs.lemmas.Bool.{cases_lt}
 use Rattle.moc_sphere.specs.Faces.{x_of, y_of}
@@ -24,7 +24,7 @@ below k x s l e less = elim (cases_lt (x + 1) (2 ^ k)) [
       absurd (omega (arith, e, ap (spread_of 32) z, less))
 ]
 
--- the cell of order k at (x, y) is off the border
+-- the cell of order k at (x, y) is not on the border
 pub record IsOff (k x y : ℕ) : Type 0 where
   pub x_above : 0 < x
   pub x_below : x + 1 < 2 ^ k

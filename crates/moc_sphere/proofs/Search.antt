@@ -1,4 +1,4 @@
--- What the search through the nine steps has found so far.
+-- The cells that the search through the nine steps has found so far.
 use Rattle.std.proofs.Common.{◌≡◌, ℕ, ◌+◌, ◌-◌, ◌<◌, ◌≤◌, ◌*◌, ◌/◌, ◌%◌, ◌^◌, ◌⊎◌, ◌↔◌, List, [], length, Contains, inl, inr, arith, sym, subst}
 use Rattle.std.specs.List.Sorted.{IsStrictlyIncreasing}
 use Rattle.std.proofs.lemmas.Bool.{cases_lt}
@@ -9,7 +9,7 @@ use Rattle.moc_sphere.proofs.Touching.{Touches-from_step, step_from_Touches}
 use Rattle.moc_sphere.proofs.FaceBounds.{same_cell}
 
 pub record Found (k i step : ℕ) (items : List ℕ) : Type 0 where
-  pub rising : IsStrictlyIncreasing items
+  pub ascending : IsStrictlyIncreasing items
   pub early : step ≤ 4 → length items ≤ step
   pub late : 4 < step → length items + 1 ≤ step
   pub sound : (j : ℕ) → Contains items j → (d : ℕ) × (d < step) × (d ≡ 4 → ⊥) × IsAtStep k i d j
@@ -17,7 +17,7 @@ pub record Found (k i step : ℕ) (items : List ℕ) : Type 0 where
 
 pub found_first : (k i : ℕ) → Found k i 0 []
 found_first k i = record {
-  rising = λ a h. absurd (omega arith);
+  ascending = λ a h. absurd (omega arith);
   early = λ h. omega arith;
   late = λ h. absurd (omega arith);
   sound = λ j (a, al, e). absurd (omega arith);
@@ -77,10 +77,10 @@ module _ (k i step : ℕ) (items : List ℕ) (found : Found k i step items) wher
   late_so_far : (step ≡ 4 → ⊥) → 4 < step + 1 → length items + 1 ≤ step
   late_so_far off h = elim (cases_lt 4 step) [ inl s ↦ found.late s | inr s ↦ absurd (off (omega arith)) ]
 
-  -- a step that leads nowhere
+  -- a step that leads to no cell
   pub found_none : (step ≡ 4 → ⊥) → ((j : ℕ) → IsAtStep k i step j → ⊥) → Found k i (step + 1) items
   found_none off none = record {
-    rising = found.rising;
+    ascending = found.ascending;
     early = λ h. omega (arith, found.early (omega arith));
     late = λ h. omega (arith, late_so_far off h);
     sound = λ j c. let r = found.sound j c in (r.0, omega (arith, r.1), r.2, r.3);
@@ -94,10 +94,10 @@ module _ (k i step : ℕ) (items : List ℕ) (found : Found k i step items) wher
             | inr s ↦ let e : d ≡ step = omega arith in absurd (none j (subst (λ t. IsAtStep k i t j) e here))
           ]
 
-  -- no step
+  -- step 4, which leads to the cell itself
   pub found_skip : step ≡ 4 → Found k i (step + 1) items
   found_skip four = record {
-    rising = found.rising;
+    ascending = found.ascending;
     early = λ h. absurd (omega arith);
     late = λ h. omega (arith, found.early (omega arith));
     sound = λ j c. let r = found.sound j c in (r.0, omega (arith, r.1), r.2, r.3);
@@ -107,8 +107,8 @@ module _ (k i step : ℕ) (items : List ℕ) (found : Found k i step items) wher
   -- a step that leads to cell v
   pub found_some : (v : ℕ) (more : List ℕ) → (step ≡ 4 → ⊥) → IsAtStep k i step v → IsStrictlyIncreasing more
       → length more ≤ length items + 1 → ((j : ℕ) → Contains more j ↔ ((j ≡ v) ⊎ Contains items j)) → Found k i (step + 1) more
-  found_some v more off at_v rising len has = record {
-    rising = rising;
+  found_some v more off at_v ascending len has = record {
+    ascending = ascending;
     early = λ h. omega (arith, found.early (omega arith));
     late = λ h. omega (arith, late_so_far off h);
     sound = λ j c. sound_some off at_v j ((has j).0 c);

@@ -7,7 +7,7 @@ use Rattle.std.specs.List.{list_any}
 use Rattle.moc_sphere.specs.Faces.{face_of, x_of, y_of}
 use Rattle.moc_sphere.specs.Touching.{corner_row, corner_column, Point, corner_point, corner_points, Touches, is_touching, is_same_point}
 
--- Two corners are one point of the sphere.
+-- Two corners are the same point of the sphere.
 pub record IsSamePoint (n f X Y g Z W : ℕ) : Type 0 where
   pub row : corner_row n f X Y ≡ corner_row n g Z W
   pub column : corner_column n f X Y ≡ corner_column n g Z W
@@ -24,11 +24,11 @@ pub record SharesCorner (k i j : ℕ) : Type 0 where
   pub Y : ℕ
   pub Z : ℕ
   pub W : ℕ
-  pub mine : IsCorner (x_of k i) (y_of k i) X Y
-  pub yours : IsCorner (x_of k j) (y_of k j) Z W
+  pub in_first : IsCorner (x_of k i) (y_of k i) X Y
+  pub in_second : IsCorner (x_of k j) (y_of k j) Z W
   pub point : IsSamePoint (2 ^ k) (face_of k i) X Y (face_of k j) Z W
 
--- a corner's point is in the list
+-- the point of a corner is in the list
 pub corner_in : (k i X Y : ℕ) → IsCorner (x_of k i) (y_of k i) X Y → Contains (corner_points k i) (corner_point (2 ^ k) (face_of k i) X Y)
 unfolding corner_points
 corner_in k i X Y c =
@@ -53,7 +53,7 @@ corner_in k i X Y c =
           ]
     ]
 
--- a point of the list is a corner's
+-- a point of the list is the point of a corner
 pub record AtCorner (k i : ℕ) (p : Point) : Type 0 where
   pub X : ℕ
   pub Y : ℕ
@@ -74,16 +74,16 @@ at_corner k i p (suc (suc (suc (suc m))), h, _) = absurd (omega arith)
 
 pub shared_from_Touches : (k i j : ℕ) → Touches k i j → SharesCorner k i j
 shared_from_Touches k i j t =
-    let a = at_corner k i t.point t.mine in
-    let b = at_corner k j t.point t.yours in
+    let a = at_corner k i t.point t.in_first in
+    let b = at_corner k j t.point t.in_second in
     let e = a.is ∙ sym b.is in
     record {
       X = a.X;
       Y = a.Y;
       Z = b.X;
       W = b.Y;
-      mine = a.corner;
-      yours = b.corner;
+      in_first = a.corner;
+      in_second = b.corner;
       point = record { row = ap (λ p. p.row) e; column = ap (λ p. p.column) e };
     }
 
@@ -93,15 +93,15 @@ same_point p q a b =
     ap (λ t. of t p.column) a ∙ ap (of q.row) b
 
 pub Touches-from_shared : (k i j : ℕ) → i < 12 * 4 ^ k → j < 12 * 4 ^ k → (i ≡ j → ⊥) → SharesCorner k i j → Touches k i j
-Touches-from_shared k i j ib jb apart s =
+Touches-from_shared k i j ib jb distinct s =
     let e = same_point (corner_point (2 ^ k) (face_of k i) s.X s.Y) (corner_point (2 ^ k) (face_of k j) s.Z s.W) s.point.row s.point.column in
     record {
       first = ib;
       second = jb;
-      apart = apart;
+      distinct = distinct;
       point = corner_point (2 ^ k) (face_of k i) s.X s.Y;
-      mine = corner_in k i s.X s.Y s.mine;
-      yours = subst (λ p. Contains (corner_points k j) p) (sym e) (corner_in k j s.Z s.W s.yours);
+      in_first = corner_in k i s.X s.Y s.in_first;
+      in_second = subst (λ p. Contains (corner_points k j) p) (sym e) (corner_in k j s.Z s.W s.in_second);
     }
 
 pub same_to_itself : (p : Point) → is_same_point p p ≡ true
@@ -115,13 +115,13 @@ same_from_test p q h =
 pub found_in : (p : Point) (ps : List Point) → Contains ps p → list_any (is_same_point p) ps ≡ true
 found_in p ps (m, h, e) = list_any_at (is_same_point p) ps m p h (ap (is_same_point p) e ∙ same_to_itself p)
 
--- The test answers whether two cells of one order touch.
+-- The test returns whether two cells of one order touch.
 pub is_touching-from : (k i j : ℕ) → Touches k i j → is_touching k i j ≡ true
 unfolding is_touching
 is_touching-from k i j t =
-    and_from _ _ (not_from_false _ (ne_eqb i j t.apart))
-    (list_any_at (λ p. list_any (is_same_point p) (corner_points k j)) (corner_points k i) t.mine.0 t.point t.mine.1
-    (ap (λ q. list_any (is_same_point q) (corner_points k j)) t.mine.2 ∙ found_in t.point (corner_points k j) t.yours))
+    and_from _ _ (not_from_false _ (ne_eqb i j t.distinct))
+    (list_any_at (λ p. list_any (is_same_point p) (corner_points k j)) (corner_points k i) t.in_first.0 t.point t.in_first.1
+    (ap (λ q. list_any (is_same_point q) (corner_points k j)) t.in_first.2 ∙ found_in t.point (corner_points k j) t.in_second))
 
 pub Touches-from_test : (k i j : ℕ) → i < 12 * 4 ^ k → j < 12 * 4 ^ k → is_touching k i j ≡ true → Touches k i j
 unfolding is_touching
@@ -131,8 +131,8 @@ Touches-from_test k i j ib jb h =
     record {
       first = ib;
       second = jb;
-      apart = λ e. false≢true (sym (not_from_true _ (eq-eqb i j e)) ∙ t.0);
+      distinct = λ e. false≢true (sym (not_from_true _ (eq-eqb i j e)) ∙ t.0);
       point = a.1;
-      mine = (a.0, a.2, a.3);
-      yours = Contains-from_any (λ x y. same_from_test x y) a.1 (corner_points k j) a.4;
+      in_first = (a.0, a.2, a.3);
+      in_second = Contains-from_any (λ x y. same_from_test x y) a.1 (corner_points k j) a.4;
     }

@@ -1,4 +1,4 @@
--- The spread numbers of the numbers before and after one.
+-- The spread bits of the numbers before and after a number.
 use Rattle.std.proofs.Common.{◌≡◌, ℕ, zero, suc, ◌+◌, ◌-◌, ◌*◌, ◌/◌, ◌%◌, ◌^◌, ◌<◌, inl, inr, refl, ap, sym, ◌∙◌, arith}
 use Rattle.std.specs.Prelude.{bit_and}
 use Rattle.std.proofs.lemmas.Bool.{cases_lt}
@@ -16,11 +16,11 @@ spread_of-rises (suc k) x y lt fits = elim (cases_lt (x / 2) (y / 2)) [
   | inr same ↦ let e : x / 2 ≡ y / 2 = omega arith in let rest = ap (spread_of k) e in omega arith
 ]
 
--- a spread number of a positive number is positive
+-- the spread bits of a positive number are positive
 pub spread_of-positive : (k x : ℕ) → 0 < x → x < 2 ^ k → 0 < spread_of k x
 spread_of-positive k x pos fits = omega (arith, spread_of-rises k 0 x pos fits)
 
--- the greatest spread number
+-- the greatest number of spread bits
 pub spread_of-most : spread_of 32 (2 ^ 32 - 1) ≡ 0x5555_5555_5555_5555
 unfolding spread_of
 spread_of-most = refl
@@ -34,7 +34,7 @@ x_of-alone k x fits =
     let e : spread_of k x ≡ spread_of k x + 2 * spread_of k 0 = omega arith in
     ap (x_of k) e ∙ x_of-spread k x 0 fits
 
--- ---- one less: a digit 0 borrows, and gives the bit 1
+-- ---- subtraction of one: a digit 0 borrows, and gives the bit 1
 
 borrowed : (k x : ℕ) → 0 < x → x < 2 ^ k → x_of k (spread_of k x - 1) ≡ x - 1
 unfolding x_of spread_of
@@ -56,9 +56,9 @@ borrowed (suc k) x pos fits =
           rw (up, low, rest) (omega arith)
     ]
 
--- ---- one more, where each place between is filled: a digit 1 carries
+-- ---- addition of one, if each position between is set: a digit 1 carries
 
--- the places between k bits
+-- the positions between k bits
 filling : ℕ → ℕ
 filling zero = 0
 filling (suc k) = 4 * filling k + 2
@@ -96,9 +96,9 @@ carried (suc k) x fits =
           rw (up, low, rest) (omega arith)
     ]
 
--- ---- as the code has them
+-- ---- as the code computes them
 
--- the places of the bits of a spread number, and no others
+-- the mask keeps exactly the positions of spread bits
 pub spread_mask : (s : ℕ) → bit_and s 0x5555_5555_5555_5555 ≡ spread_of 32 (x_of 32 s)
 spread_mask s = spaced_ones (x_of 32 s) (bit_and s 0x5555_5555_5555_5555) (spaced_even s 0x5555_5555_5555_5555 comb_1) (and_below s 0x5555_5555_5555_5555 (omega arith))
 

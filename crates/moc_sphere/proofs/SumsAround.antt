@@ -1,11 +1,11 @@
--- The nine sums but the middle one, put in order by five comparisons.
+-- The nine sums except the middle one, sorted by five comparisons.
 use Rattle.std.proofs.Common.{◌≡◌, ◌≢◌, ℕ, zero, suc, ◌<◌, ◌↔◌, min, max, List, [], ◌∷◌, ◌++◌, Contains, refl, sym, subst, inl, inr, arith}
 use Rattle.std.specs.List.Sorted.{IsStrictlyIncreasing, IsPermutation}
 use Rattle.std.proofs.lemmas.Bool.{cases_lt}
 use Rattle.std.proofs.lemmas.List.Sorted.{IsPermutation-refl, IsPermutation-sym, IsPermutation-swap, IsPermutation-append_right, IsPermutation-trans, Contains-permutation}
 use Rattle.moc_sphere.specs.Private.Sums.{sum_at}
 
--- ---- what the comparisons settle: of the sums beside the middle one, p and q come before it, s and t after it
+-- ---- what the comparisons settle: of the sums beside the middle one, p and q precede it, s and t follow it
 pub record IsOrdered (z p q m n s t w : ℕ) (A B C D E F b c d e : ℕ) : Type 0 where
   pub first : z < A
   pub second : A < b
@@ -42,7 +42,7 @@ ordered z p q m n s t w A B C D E F b c d e zp zq pm qn ps pt qs qt ms nt sw tw 
 
 -- ---- the sums stay the same
 
--- two neighbours of a list, put in order
+-- two neighbours of a list, sorted
 pub sorts_two : (before after : List ℕ) (a b lesser greater : ℕ) → lesser ≡ min a b → greater ≡ max a b → IsPermutation (before ++ a ∷ b ∷ after) (before ++ lesser ∷ greater ∷ after)
 sorts_two before after a b lesser greater is_lesser is_greater = IsPermutation-append_right before (a ∷ b ∷ after) (lesser ∷ greater ∷ after) (elim (cases_lt b a) [
   | inr le ↦
@@ -92,14 +92,14 @@ place_of_sum across up j (suc (suc (suc (suc (suc (suc (suc zero))))))) l off e 
 place_of_sum across up j (suc (suc (suc (suc (suc (suc (suc (suc zero)))))))) l off e = (7, omega arith, sym e)
 place_of_sum across up j (suc (suc (suc (suc (suc (suc (suc (suc (suc d))))))))) l off e = absurd (omega arith)
 
--- a list with the sums as they are compared has just the sums
+-- a list that is a permutation of the sums as they are compared has exactly the sums
 pub has_sums : (across up result : List ℕ) → IsPermutation (compared across up) result → (j : ℕ) → Contains result j ↔ ((d : ℕ) × (d < 9) × (d ≢ 4) × (j ≡ sum_at across up d))
 has_sums across up result same j = (
   (λ has. sum_of_place across up j (Contains-permutation result (compared across up) j (IsPermutation-sym (compared across up) result same) has)),
   (λ sum. Contains-permutation (compared across up) result j same (place_of_sum across up j sum.0 sum.1 sum.2 sum.3)),
 )
 
--- eight numbers that rise
+-- eight numbers in ascending order
 pub eight_rise : (a b c d e f g h : ℕ) → a < b → b < c → c < d → d < e → e < f → f < g → g < h → IsStrictlyIncreasing (a ∷ b ∷ c ∷ d ∷ e ∷ f ∷ g ∷ h ∷ [])
 eight_rise a b c d e f g h ab bc cd de ef fg gh zero l = ab
 eight_rise a b c d e f g h ab bc cd de ef fg gh (suc zero) l = bc

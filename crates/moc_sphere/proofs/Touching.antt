@@ -1,10 +1,10 @@
--- Two cells touch exactly where a step of less than two cells leads from the one to the other.
+-- Two cells touch exactly if a step of less than two cells leads from one to the other.
 use Rattle.std.proofs.Common.{◌≡◌, ℕ, ◌+◌, ◌*◌, ◌/◌, ◌%◌, ◌^◌, ◌<◌, arith, ap, sym}
 use Rattle.moc_sphere.specs.Faces.{face_of, x_of, y_of}
 use Rattle.moc_sphere.specs.Touching.{Touches}
 use Rattle.moc_sphere.proofs.Shared.{Touches-from_shared, shared_from_Touches}
 use Rattle.moc_sphere.specs.Private.Sides.{IsAtStep, IsBeside}
-use Rattle.moc_sphere.proofs.Points.{NamesOnePoint-from_same_point}
+use Rattle.moc_sphere.proofs.Points.{IsSameCorner-from_same_point}
 use Rattle.moc_sphere.proofs.Names.{same_point-from_Meets}
 use Rattle.moc_sphere.proofs.Cells.{Reaches, Reaches-from_corners, Shared-from_beside, apart_from_beside}
 use Rattle.moc_sphere.proofs.FaceBounds.{face_of-below, x_of-below, y_of-below, side_positive, same_cell}
@@ -24,15 +24,15 @@ Touches-from_step k i d j ib db off (jb, h) =
       Y = s.Y;
       Z = s.Z;
       W = s.W;
-      mine = s.mine;
-      yours = s.yours;
+      in_first = s.in_first;
+      in_second = s.in_second;
       point =
-          let mx = s.mine.to_x in
-          let my = s.mine.to_y in
+          let mx = s.in_first.to_x in
+          let my = s.in_first.to_y in
           same_point-from_Meets (2 ^ k) (face_of k i) (face_of k j) s.X s.Y s.Z s.W (side_positive k) f (omega arith) (omega arith) s.meets;
     })
 
--- the step's number, and that no step leads to the cell itself
+-- the number of the step, and that no step but step 4 leads to the cell itself
 numbered : (n f x y g z w : ℕ) → x < n → y < n → Reaches n f x y g z w
     → (d : ℕ) × (d < 9) × (d ≡ 4 → (f ≡ g) × (x ≡ z) × (y ≡ w)) × IsBeside n f (x + d / 3) (y + d % 3) g z w
 numbered n f x y g z w xn yn (a, b, an, bn, h) =
@@ -56,23 +56,23 @@ step_from_Touches k i j t =
     let y = y_of-below k i in
     let z = x_of-below k j in
     let w = y_of-below k j in
-    let mx = v.mine.to_x in
-    let my = v.mine.to_y in
-    let yx = v.yours.to_x in
-    let yy = v.yours.to_y in
-    let m = NamesOnePoint-from_same_point (2 ^ k) (face_of k i) (face_of k j) v.X v.Y v.Z v.W (side_positive k) f g
+    let mx = v.in_first.to_x in
+    let my = v.in_first.to_y in
+    let yx = v.in_second.to_x in
+    let yy = v.in_second.to_y in
+    let m = IsSameCorner-from_same_point (2 ^ k) (face_of k i) (face_of k j) v.X v.Y v.Z v.W (side_positive k) f g
     (omega arith) (omega arith) (omega arith) (omega arith) v.point in
     let r = Reaches-from_corners (2 ^ k) (face_of k i) (x_of k i) (y_of k i) v.X v.Y (face_of k j) (x_of k j) (y_of k j) v.Z v.W f x y z w
-    v.mine v.yours m in
+    v.in_first v.in_second m in
     let u = numbered (2 ^ k) (face_of k i) (x_of k i) (y_of k i) (face_of k j) (x_of k j) (y_of k j) x y r in
-    (u.0, u.1, λ e. t.apart (let q = u.2 e in same_cell k i j q.0 q.1 q.2), (t.second, u.3))
+    (u.0, u.1, λ e. t.distinct (let q = u.2 e in same_cell k i j q.0 q.1 q.2), (t.second, u.3))
 
 pub Touches-sym : (k i j : ℕ) → Touches k i j → Touches k j i
 Touches-sym k i j t = record {
   first = t.second;
   second = t.first;
-  apart = λ e. t.apart (sym e);
+  distinct = λ e. t.distinct (sym e);
   point = t.point;
-  mine = t.yours;
-  yours = t.mine;
+  in_first = t.in_second;
+  in_second = t.in_first;
 }

@@ -1,4 +1,4 @@
--- The definition against known cells.
+-- The definition, checked against known cells.
 use Rattle.std.proofs.Common.{◌≡◌, [], ◌∷◌, refl, true, false}
 use Rattle.moc_sphere.specs.Faces.{x_of, y_of}
 use Rattle.moc_sphere.specs.Touching.{corner_row, polar_column, corner_column, corner_points, corners_shared, is_touching, touching_cells}

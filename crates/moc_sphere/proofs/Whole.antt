@@ -1,4 +1,4 @@
--- The rising list of the touching cells, as a filter of all cells of the order.
+-- The ascending list of the touching cells is a filter of all cells of the order.
 use Rattle.std.proofs.Common.{◌≡◌, ℕ, ◌+◌, ◌*◌, ◌^◌, ◌<◌, ◌↔◌, List, Contains, Bool, true, ◌&&◌, arith, refl, ap, sym, ◌∙◌}
 use Rattle.std.specs.List.{filter, range_with_len, list_any}
 use Rattle.std.specs.Prelude.{eqb}

@@ -5,7 +5,7 @@ use Rattle.std.proofs.lemmas.Nat.{pow-add}
 use Rattle.std.proofs.Math.Nat.{one-le-pow}
 use Rattle.moc_sphere.specs.CellNumber.{cell_count, cell_size}
 
--- a cell has a pixel
+-- a cell has at least one pixel
 pub cell_size-positive : (k : ℕ) → 0 < cell_size k
 unfolding cell_size
 cell_size-positive k = one-le-pow (29 - k) 4 (lit< tt)

@@ -1,4 +1,4 @@
--- Words that the contracts of private functions cite, and no public one.
+-- Definitions that only contracts of private functions use.
 pub mod RingFormula
 pub mod Sides
 pub mod Spread

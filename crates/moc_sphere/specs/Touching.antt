@@ -1,4 +1,4 @@
--- The corner points of cells, by row and column in the row; when two cells touch (Górski and others 2005).
+-- The corner points of cells, by row and by column in the row; when two cells touch (Górski et al. 2005).
 use Rattle.std.specs.Prelude.{◌≡◌, ◌≢◌, ℕ, ◌+◌, ◌-◌, ◌*◌, ◌/◌, ◌%◌, ◌^◌, ◌<◌, min, List, [], ◌∷◌, Contains, Bool, not}
 use Rattle.std.specs.Prelude.{true, false, map, nat_le, ◌==◌, ◌&&◌, if◌then◌else◌}
 use Rattle.std.specs.List.{filter, list_any, range_with_len}
@@ -13,14 +13,14 @@ use Rattle.moc_sphere.specs.declared.direction.Direction.TheVariants.{NorthEast,
 unfoldable pub corner_row : ℕ → ℕ → ℕ → ℕ → ℕ
 corner_row n f X Y = row_factor f * n - X - Y
 
--- The column of a corner m rows from a pole, in whole steps. The pole itself has the column 0; else 4m steps go round,
--- m for each of the four base pixels that meet at the pole, and half of X + m - Y lie to the east of the base pixel's
--- own western edge.
+-- The column of a corner m rows from a pole, in whole steps. The pole itself has column 0. Otherwise 4m steps go round,
+-- m for each of the four base pixels that meet at the pole; (X + m - Y) / 2 of them are to the east of the base pixel's
+-- western edge.
 unfoldable pub polar_column : ℕ → ℕ → ℕ → ℕ → ℕ
 polar_column m f X Y = if m == 0 then 0 else ((f % 4 * m + (X + m - Y) / 2) % (4 * m))
 
--- The column of the corner (X, Y) of base pixel f: in the belt, for the rows n to 3n, counted as that of a cell is, in
--- half steps, of which 8n go round; else round the near pole.
+-- The column of the corner (X, Y) of base pixel f. In the belt (rows n to 3n), it is counted as the column of a cell,
+-- in half steps, with 8n round the sky. In a cap, it is counted round the near pole.
 unfoldable pub corner_column : ℕ → ℕ → ℕ → ℕ → ℕ
 corner_column n f X Y =
     let R = corner_row n f X Y in
@@ -45,33 +45,34 @@ corner_points k i =
     corner_point n f x y ∷ corner_point n f (x + 1) y ∷ corner_point n f x (y + 1) ∷ corner_point n f (x + 1) (y + 1)
     ∷ []
 
--- Two cells i and j of order k touch: they differ, and share a corner point.
+-- Two cells i and j of order k touch: they are different, and share a corner point.
 pub record Touches (k i j : ℕ) : Type 0 where
   pub first : i < cell_count k
   pub second : j < cell_count k
-  pub apart : i ≢ j
+  pub distinct : i ≢ j
   pub point : Point
-  pub mine : Contains (corner_points k i) point
-  pub yours : Contains (corner_points k j) point
+  pub in_first : Contains (corner_points k i) point
+  pub in_second : Contains (corner_points k j) point
 
--- Two points are one.
+-- Whether two points are equal.
 abbrev pub is_same_point : Point → Point → Bool
 is_same_point p q = (p.row == q.row) && (p.column == q.column)
 
--- Whether two cells of order k touch, as a test.
+-- Whether two cells of order k touch, as a Boolean.
 unfoldable pub is_touching : ℕ → ℕ → ℕ → Bool
 is_touching k i j =
     not (i == j) && list_any (λ p. list_any (is_same_point p) (corner_points k j)) (corner_points k i)
 
--- The cells that touch cell i of order k, rising. A specification's list: it runs through all cells of the order.
+-- The cells that touch cell i of order k, in ascending order. The definition searches all cells of the order.
 unfoldable pub touching_cells : ℕ → ℕ → List ℕ
 touching_cells k i = filter (is_touching k i) (range_with_len 0 (cell_count k))
 
--- Which of the corner points of cell i, south, east, west and north, cell j has as well: all four where it is cell i.
+-- For each corner point of cell i (south, east, west and north), whether cell j has it too; all four if j is i.
 unfoldable pub corners_shared : ℕ → ℕ → ℕ → List Bool
 corners_shared k i j = map (λ p. list_any (is_same_point p) (corner_points k j)) (corner_points k i)
 
--- The corners that a cell shares with its neighbour in a direction: the two of a side, or the one that lies there.
+-- The corners that a cell shares with its neighbour in a direction: both ends of a side, or the one corner in this
+-- direction.
 abbrev pub corners_of : Direction → List Bool
 corners_of SouthWest = true ∷ false ∷ true ∷ false ∷ []
 corners_of West = false ∷ false ∷ true ∷ false ∷ []
@@ -82,17 +83,17 @@ corners_of East = false ∷ true ∷ false ∷ false ∷ []
 corners_of SouthEast = true ∷ true ∷ false ∷ false ∷ []
 corners_of South = true ∷ false ∷ false ∷ false ∷ []
 
--- Cell j of order k is the neighbour of cell i in a direction: it shares just the corners that lie there.
+-- Cell j of order k is the neighbour of cell i in a direction: it shares exactly the corners in this direction.
 abbrev pub IsNeighbour : ℕ → Direction → ℕ → ℕ → Type 0
 IsNeighbour k d i j = (j < cell_count k) × (corners_shared k i j ≡ corners_of d)
 
--- The place of a direction in healpy's order, from 0.
-abbrev pub healpy_place : Direction → ℕ
-healpy_place SouthWest = 0
-healpy_place West = 1
-healpy_place NorthWest = 2
-healpy_place North = 3
-healpy_place NorthEast = 4
-healpy_place East = 5
-healpy_place SouthEast = 6
-healpy_place South = 7
+-- The position of a direction in healpy's order, from 0.
+abbrev pub healpy_index : Direction → ℕ
+healpy_index SouthWest = 0
+healpy_index West = 1
+healpy_index NorthWest = 2
+healpy_index North = 3
+healpy_index NorthEast = 4
+healpy_index East = 5
+healpy_index SouthEast = 6
+healpy_index South = 7

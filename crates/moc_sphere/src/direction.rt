@@ -1,10 +1,11 @@
-//! The directions in which a cell has neighbours.
+//! The directions from a cell to its neighbours.
 ghost use Rattle.std.specs.Prelude.{◌≡◌, ◌≢◌, ◌/◌, ◌%◌, ◌<◌};
 ghost use Rattle.moc_sphere.specs.Touching.{corners_of};
 ghost use Rattle.moc_sphere.specs.Private.Sides.{corners_of_step};
 
-/// Where a neighbour of a cell lies: a cell is a diamond, with a side to the north-east and so on, and a corner to the
-/// north, east, south and west. They are ordered as in `ALL`.
+/// The direction from a cell to a neighbour. A cell is a diamond: it has sides to the north-east, north-west,
+/// south-west and south-east, and corners to the north, east, south and west. The order of the variants is that of
+/// `ALL`.
 #[derive(Clone, Copy, Debug, PartialEq, Eq, PartialOrd, Ord, Hash)]
 pub enum Direction {
     SouthWest,
@@ -18,7 +19,7 @@ pub enum Direction {
 }
 
 impl Direction {
-    /// All of them, in healpy's order.
+    /// All directions, in healpy's order.
     pub const ALL: [Direction; 8] = [
         Direction::SouthWest,
         Direction::West,
@@ -30,7 +31,7 @@ impl Direction {
         Direction::South,
     ];
 
-    /// The number of the step in this direction: of nine, row by row, by x and then by y.
+    /// Returns the number of the step in this direction. The nine steps are numbered by x and then by y.
     pub(crate) fn step(self) -> u32
         ensures small { result < 9 }
         // Step 4 leads to the cell itself.

@@ -1,36 +1,38 @@
-//! The cells that touch a cell: HEALPix's neighbours.
+//! The cells that touch a cell, which HEALPix calls its neighbours.
 ghost use Rattle.smallvec.specs.SmallVec.{small_vec_len};
 ghost use Rattle.moc_sphere.specs.CellNumber.{cell_number, IsCell};
 ghost use Rattle.moc_sphere.specs.Faces.{IsAt, x_of, y_of};
 ghost use Rattle.moc_sphere.specs.Private.Spread.{spread_of};
-ghost use Rattle.moc_sphere.specs.Touching.{IsNeighbour, Touches, healpy_place, touching_cells};
+ghost use Rattle.moc_sphere.specs.Touching.{IsNeighbour, Touches, healpy_index, touching_cells};
 ghost use Rattle.moc_sphere.specs.Private.Sides.{IsAtStep};
 ghost use Rattle.moc_sphere.specs.declared.direction.Direction.{Direction};
 ghost use Rattle.std.specs.List.Sorted.{IsStrictlyIncreasing};
 ghost use Rattle.std.specs.Prelude.{◌≡◌, ℕ, ◌-◌, ◌<◌, ◌≤◌, ◌^◌, ◌↔◌, All, Contains, IfSome, MatchOption, get_or, map};
 
-use crate::bits::{spread_after, spread_before};
+use crate::ascending::{insert_sorted, sums_around};
+use crate::bits::{spread_decrement, spread_increment};
 use crate::cell::Cell;
 use crate::direction::Direction;
-use crate::rising::{insert_rising, sums_around};
-use crate::sides::{Xyf, beside};
+use crate::sides::{FaceXy, beside};
 use smallvec::SmallVec;
 use std::alloc::Global;
 
 impl Cell {
-    /// The numbers of the cells that share a corner point with this one (HEALPix: its neighbours), rising: 8 of them, 7
-    /// at a vertex where three base pixels meet, and 6 at order 0. A fixed number of steps; no memory is taken.
+    /// Returns the indices of the cells that share a corner point with this cell, in ascending order. HEALPix calls
+    /// these cells its neighbours. There are 8 of them, or 7 at a vertex where three base pixels meet, or 6 at order 0.
+    ///
+    /// Takes a constant number of steps and does not allocate.
     pub fn touching(self, alloc: Global) -> SmallVec<u64, 8>
-        ensures rising { IsStrictlyIncreasing result.items }
+        ensures ascending { IsStrictlyIncreasing result.items }
         ensures touch { (j : ℕ) → Contains result.items j ↔ Touches self.order self.index j }
 
-        // As a list, the one that the definition names.
+        // The result is the list of the definition.
         ensures whole { result.items ≡ touching_cells self.order self.index }
 
         // Touching is symmetric.
         ensures back { (j : ℕ) → Contains result.items j → Touches self.order j self.index }
 
-        ensures few { small_vec_len result ≤ 8 }
+        ensures bounded { small_vec_len result ≤ 8 }
         ensures inline { result.capacity ≡ 8 }
     {
         let (x, y, last) = self.spread_xy();
@@ -41,12 +43,12 @@ impl Cell {
         touching_across(self, face, x, y, alloc)
     }
 
-    /// The cells that share a corner point with this one, rising: those that `touching` tells by their numbers. A fixed
-    /// number of steps; no memory is taken.
+    /// Returns the cells that share a corner point with this cell, in ascending order: the cells of the indices that
+    /// `touching` returns. Takes a constant number of steps and does not allocate.
     pub fn touching_cells(self, alloc: Global) -> SmallVec<Cell, 8>
         ensures whole { result.items ≡ map (cell_number self.order) (touching_cells self.order self.index) }
         ensures touch { All (λ c. (c.order ≡ self.order) × Touches self.order self.index c.index) result.items }
-        ensures few { small_vec_len result ≤ 8 }
+        ensures bounded { small_vec_len result ≤ 8 }
         ensures inline { result.capacity ≡ 8 }
     {
         let order = self.order();
@@ -57,7 +59,8 @@ impl Cell {
         cells
     }
 
-    /// The neighbour in a direction; `None` over a corner where only three cells meet. A fixed number of steps.
+    /// Returns the neighbour in a direction, or `None` at a corner where only three cells meet. Takes a constant number
+    /// of steps.
     pub fn neighbour(self, direction: Direction) -> Option<Cell>
         ensures found { IfSome result
             (λ c. (c.order ≡ self.order) × IsNeighbour self.order direction self.index c.index) }
@@ -66,20 +69,20 @@ impl Cell {
         ensures touch { IfSome result (λ c. Touches self.order self.index c.index) }
     {
         let (face, x, y) = self.face_xy();
-        neighbour_of(self, Xyf::new(u32::from(face), x, y), direction)
+        neighbour_of(self, FaceXy::new(u32::from(face), x, y), direction)
     }
 
-    /// The neighbours in all directions, in healpy's order: south-west, west, north-west, north, north-east, east,
-    /// south-east, south. Each is what `neighbour` gives. A fixed number of steps.
+    /// Returns the neighbours in all directions, in healpy's order: south-west, west, north-west, north, north-east,
+    /// east, south-east, south. Each entry is the result of `neighbour`. Takes a constant number of steps.
     pub fn neighbours(self) -> [Option<Cell>; 8]
-        ensures found { (d : Direction) → IfSome (get_or result (healpy_place d) None)
+        ensures found { (d : Direction) → IfSome (get_or result (healpy_index d) None)
             (λ c. (c.order ≡ self.order) × IsNeighbour self.order d self.index c.index) }
         ensures only { (d : Direction) (j : ℕ) → IsNeighbour self.order d self.index j
-            → get_or result (healpy_place d) None ≡ Some (cell_number self.order j) }
+            → get_or result (healpy_index d) None ≡ Some (cell_number self.order j) }
         ensures touch { All (λ cell. IfSome cell (λ c. Touches self.order self.index c.index)) result }
     {
         let (face, x, y) = self.face_xy();
-        let from = Xyf::new(u32::from(face), x, y);
+        let from = FaceXy::new(u32::from(face), x, y);
         [
             neighbour_of(self, from, Direction::SouthWest),
             neighbour_of(self, from, Direction::West),
@@ -93,8 +96,8 @@ impl Cell {
     }
 }
 
-/// The neighbour of a cell, which has this place, in a direction.
-fn neighbour_of(cell: Cell, from: Xyf, direction: Direction) -> Option<Cell>
+/// Returns the neighbour in a direction of the cell at `from`.
+fn neighbour_of(cell: Cell, from: FaceXy, direction: Direction) -> Option<Cell>
     requires face { from.face < 12 }
     requires place { IsAt cell from.face from.x from.y }
     requires x { from.x < 2 ^ cell.order }
@@ -106,9 +109,9 @@ fn neighbour_of(cell: Cell, from: Xyf, direction: Direction) -> Option<Cell>
     at_step(cell, from, direction.step())
 }
 
-/// The cell at a step from one, which has this place, if there is a cell. Steps are numbered row by row of nine, by x
+/// Returns the cell one step from the cell at `from`, or `None` if no cell is there. The nine steps are numbered by x
 /// and then by y; step 4 leads to the cell itself.
-fn at_step(cell: Cell, from: Xyf, step: u32) -> Option<Cell>
+fn at_step(cell: Cell, from: FaceXy, step: u32) -> Option<Cell>
     requires face { from.face < 12 }
     requires place { IsAt cell from.face from.x from.y }
     requires x { from.x < 2 ^ cell.order }
@@ -122,7 +125,8 @@ fn at_step(cell: Cell, from: Xyf, step: u32) -> Option<Cell>
     Some(Cell::at_place(order, to.face as u8, to.x, to.y))
 }
 
-/// The cells that touch a cell, whose x and y, spread, are off the border of the base pixel: all lie in that one.
+/// Returns the indices of the cells that touch a cell inside its base pixel. Requires the spread bits of x and y; the
+/// cell is not on the border of the base pixel.
 #[inline]
 fn touching_in_face(cell: Cell, x: u64, y: u64, alloc: Global) -> SmallVec<u64, 8>
     requires cell { IsCell cell }
@@ -132,35 +136,39 @@ fn touching_in_face(cell: Cell, x: u64, y: u64, alloc: Global) -> SmallVec<u64, 
     requires x_below { x < spread_of 32 (2 ^ cell.order - 1) }
     requires y_above { 0 < y }
     requires y_below { y < spread_of 32 (2 ^ cell.order - 1) }
-    ensures rising { IsStrictlyIncreasing result.items }
+    ensures ascending { IsStrictlyIncreasing result.items }
     ensures touch { (j : ℕ) → Contains result.items j ↔ Touches cell.order cell.index j }
-    ensures few { small_vec_len result ≤ 8 }
+    ensures bounded { small_vec_len result ≤ 8 }
     ensures inline { result.capacity ≡ 8 }
 {
     let digits = 2 * cell.order().get();
     let first = (cell.index() >> digits) << digits;
-    let across = [first + spread_before(x), first + x, first + spread_after(x)];
-    let up = [2 * spread_before(y), 2 * y, 2 * spread_after(y)];
+    let across = [
+        first + spread_decrement(x),
+        first + x,
+        first + spread_increment(x),
+    ];
+    let up = [2 * spread_decrement(y), 2 * y, 2 * spread_increment(y)];
     SmallVec::from_buf(alloc, sums_around(across, up))
 }
 
-/// The cells that touch a cell, which has this place, in whatever base pixels they lie.
+/// Returns the indices of the cells that touch the cell at x and y of a base pixel, in any base pixels.
 fn touching_across(cell: Cell, face: u8, x: u32, y: u32, alloc: Global) -> SmallVec<u64, 8>
     requires face { face < 12 }
     requires place { IsAt cell face x y }
     requires x { x < 2 ^ cell.order }
     requires y { y < 2 ^ cell.order }
-    ensures rising { IsStrictlyIncreasing result.items }
+    ensures ascending { IsStrictlyIncreasing result.items }
     ensures touch { (j : ℕ) → Contains result.items j ↔ Touches cell.order cell.index j }
-    ensures few { small_vec_len result ≤ 8 }
+    ensures bounded { small_vec_len result ≤ 8 }
     ensures inline { result.capacity ≡ 8 }
 {
-    let from = Xyf::new(u32::from(face), x, y);
+    let from = FaceXy::new(u32::from(face), x, y);
     let mut cells = SmallVec::new(alloc);
     for step in 0u32..9 {
         if step != 4 {
             if let Some(near) = at_step(cell, from, step) {
-                insert_rising(&mut cells, near.index());
+                insert_sorted(&mut cells, near.index());
             }
         }
     }

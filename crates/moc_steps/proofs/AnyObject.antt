@@ -1,4 +1,4 @@
--- The laws of any object.
+-- The theorems for any sequential object.
 use Rattle.std.proofs.Common.{◌≡◌, ℕ, List, [], ◌∷◌, ◌++◌, count_by, None, Some, refl, sym, ap, subst, ◌∙◌}
 use Rattle.std.specs.Prelude.{fold}
 use Rattle.moc_lists.specs.RangeList.{NumberSet}
@@ -6,8 +6,8 @@ use Rattle.moc_ranges.specs.Operations.{pixels, IsWithin}
 use Rattle.moc_parts.specs.Objects.{Object}
 use Rattle.moc_steps.specs.Machine.{Step, Running, AreLocal, ArePermitted, refusal, World, start_world, world_after_all, client_at}
 use Rattle.moc_steps.specs.Machine.{world_after}
-use Rattle.moc_steps.specs.Orders.{operations, fates_after, AreProgress, numbers_in, times}
-use Rattle.moc_steps.specs.Laws.{ArePlayed, HasOneOrder, CanGoOn, EndsWell, IsReached, RepliesByEntry, led_to}
+use Rattle.moc_steps.specs.Orders.{operations, operations_after, AreProgress, operation_numbers, occurrences}
+use Rattle.moc_steps.specs.Theorems.{AreValidSteps, HasOneOrder, CanContinue, ExtendsOrder, IsReachable, RepliesByEntry, reached_world}
 use Rattle.moc_steps.proofs.Cases.{is_midway}
 use Rattle.moc_steps.proofs.Sky.{covers_of}
 use Rattle.moc_steps.proofs.Headline.{explains, part_inside, together, at_end, run_keeps, run_grows, run_append}
@@ -20,7 +20,7 @@ use Rattle.moc_steps.proofs.Measure.{steps_bounded}
 use Rattle.moc_steps.proofs.Invariant.{Explained}
 
 module _ {Op Reply : Type 0} (o : Object Op Reply) where
-  pub one_order : (start : NumberSet) (steps : List (Step Op)) → ArePlayed o start steps → HasOneOrder o start steps
+  pub one_order : (start : NumberSet) (steps : List (Step Op)) → AreValidSteps o start steps → HasOneOrder o start steps
   one_order start steps h = let covers = covers_of start h.within in record {
     explained = explains o start steps covers h.permitted h.local;
     inside = part_inside o start steps covers h.permitted h.local;
@@ -28,14 +28,14 @@ module _ {Op Reply : Type 0} (o : Object Op Reply) where
     together = together o start steps covers h.permitted h.local;
   }
 
-  -- what is true at the end of steps
-  pub ends_explained : (start : NumberSet) (steps : List (Step Op)) → ArePlayed o start steps → (Z : NumberSet) × Explained o start (operations steps) (led_to o start steps) Z
+  -- the properties of the world after a list of steps
+  pub ends_explained : (start : NumberSet) (steps : List (Step Op)) → AreValidSteps o start steps → (Z : NumberSet) × Explained o start (operations steps) (reached_world o start steps) Z
   ends_explained start steps h = at_end o start steps (covers_of start h.within) h.permitted h.local
 
-  pub never_stuck : (start : NumberSet) (steps : List (Step Op)) → ArePlayed o start steps → (c : ℕ) (r : Running Op) → client_at o (led_to o start steps) c ≡ Some r → CanGoOn o (led_to o start steps)
+  pub never_stuck : (start : NumberSet) (steps : List (Step Op)) → AreValidSteps o start steps → (c : ℕ) (r : Running Op) → client_at o (reached_world o start steps) c ≡ Some r → CanContinue o (reached_world o start steps)
   never_stuck start steps h c r is =
       let e = ends_explained start steps h in
-      progress.never_stuck o start (operations steps) (led_to o start steps) e.0 e.1 c r is
+      progress.never_stuck o start (operations steps) (reached_world o start steps) e.0 e.1 c r is
 
   pub permitted_on : (w : World Op Reply) (front back : List (Step Op)) → ArePermitted o w.locks front → ArePermitted o (world_after_all o w front).locks back → ArePermitted o w.locks (front ++ back)
   permitted_on w [] back h k = k
@@ -46,35 +46,35 @@ module _ {Op Reply : Type 0} (o : Object Op Reply) where
   local_on [] back h k = k
   local_on (step ∷ front) back h k = let l = first_local o step front h in rest_local o step (front ++ back) l.0 (local_on front back l.1 k)
 
-  pub ends_well : (start : NumberSet) (steps more : List (Step Op)) → ArePlayed o start steps → ArePermitted o (led_to o start steps).locks more → AreProgress more → EndsWell o start steps more
+  pub ends_well : (start : NumberSet) (steps more : List (Step Op)) → AreValidSteps o start steps → ArePermitted o (reached_world o start steps).locks more → AreProgress more → ExtendsOrder o start steps more
   ends_well start steps more h k progress =
-      let w : World Op Reply = led_to o start steps in
+      let w : World Op Reply = reached_world o start steps in
       let covers = covers_of start h.within in
       let e = ends_explained start steps h in
       let all = permitted_on (start_world o start) steps more h.permitted k in
       let all_local = local_on steps more h.local (progress_all_local o more progress) in
       let f = run_keeps o start more (operations steps) w e.0 e.1 k (progress_all_local o more progress) in
       let closed = run_closes o start (steps ++ more) [] (start_world o start) start (begins_explained o start covers) (λ n x g. absurd (cc (g))) all all_local in
-      let ops_are : operations (steps ++ more) ≡ fold fates_after (operations steps) more = operations_append o [] steps more in
-      let world_is : led_to o start (steps ++ more) ≡ world_after_all o w more = run_append o (start_world o start) steps more in
+      let ops_are : operations (steps ++ more) ≡ fold operations_after (operations steps) more = operations_append o [] steps more in
+      let world_is : reached_world o start (steps ++ more) ≡ world_after_all o w more = run_append o (start_world o start) steps more in
       let grows = run_grows o w more in
       record {
         bounded = steps_bounded o start (operations steps) w e.0 e.1 more k progress;
-        kept = (grows.0, ap (λ (v : World Op Reply). numbers_in v.order) world_is ∙ grows.1);
-        added = λ none n. ap (λ (v : World Op Reply). times n (numbers_in v.order)) world_is
+        kept = (grows.0, ap (λ (v : World Op Reply). operation_numbers v.order) world_is ∙ grows.1);
+        added = λ none n. ap (λ (v : World Op Reply). occurrences n (operation_numbers v.order)) world_is
             ∙ added o start more (operations steps) w (world_after_all o w more) e.0 f.0 e.1 f.1 (subst AreClosed ops_are closed) progress (ap (count_by is_midway) (sym ops_are) ∙ none) n;
       }
 
-  pub answered_by_entry : (start : NumberSet) (steps : List (Step Op)) (step : Step Op) → ArePlayed o start steps → refusal o (led_to o start steps).locks step ≡ None → RepliesByEntry o (led_to o start steps) step
+  pub answered_by_entry : (start : NumberSet) (steps : List (Step Op)) (step : Step Op) → AreValidSteps o start steps → refusal o (reached_world o start steps).locks step ≡ None → RepliesByEntry o (reached_world o start steps) step
   answered_by_entry start steps step h k =
       let e = ends_explained start steps h in
-      replies_by_entry o start (operations steps) (led_to o start steps) e.0 e.1 step k
+      replies_by_entry o start (operations steps) (reached_world o start steps) e.0 e.1 step k
 
-  -- the worlds that permitted steps lead to: the start, and what a permitted step makes of one
-  pub start_reached : (start : NumberSet) → IsWithin start pixels → IsReached o (start_world o start)
+  -- the start is reached, and so is the world after a permitted step of a reached world
+  pub start_reached : (start : NumberSet) → IsWithin start pixels → IsReachable o (start_world o start)
   start_reached start within = record { start = start; steps = []; played = record { within = within; local = tt; permitted = tt }; leads = refl }
 
-  pub step_reached : (w : World Op Reply) (step : Step Op) → IsReached o w → AreLocal o (step ∷ []) → refusal o w.locks step ≡ None → IsReached o (world_after o w step)
+  pub step_reached : (w : World Op Reply) (step : Step Op) → IsReachable o w → AreLocal o (step ∷ []) → refusal o w.locks step ≡ None → IsReachable o (world_after o w step)
   step_reached w step reached local h =
       record {
         start = reached.start;
@@ -88,14 +88,14 @@ module _ {Op Reply : Type 0} (o : Object Op Reply) where
         leads = run_append o (start_world o reached.start) reached.steps (step ∷ []) ∙ ap (λ u. world_after o u step) reached.leads;
       }
 
-  -- what is true of a reached world
-  pub reached_explained : (w : World Op Reply) → (h : IsReached o w) → (Z : NumberSet) × Explained o h.start (operations h.steps) w Z
+  -- a reached world is explained by its steps
+  pub reached_explained : (w : World Op Reply) → (h : IsReachable o w) → (Z : NumberSet) × Explained o h.start (operations h.steps) w Z
   reached_explained w h = subst (λ u. (Z : NumberSet) × Explained o h.start (operations h.steps) u Z) h.leads (ends_explained h.start h.steps h.played)
 
-  -- in a reached world somebody can go on where somebody is midway
-  pub reached_goes_on : (w : World Op Reply) → IsReached o w → (c : ℕ) (r : Running Op) → client_at o w c ≡ Some r → CanGoOn o w
+  -- in a reached world with a midway client, some client can continue
+  pub reached_goes_on : (w : World Op Reply) → IsReachable o w → (c : ℕ) (r : Running Op) → client_at o w c ≡ Some r → CanContinue o w
   reached_goes_on w h c r is = let e = reached_explained w h in progress.never_stuck o h.start (operations h.steps) w e.0 e.1 c r is
 
-  -- in a reached world what a permitted step replies is in its operation's entry
-  pub reached_replies : (w : World Op Reply) → IsReached o w → (step : Step Op) → refusal o w.locks step ≡ None → RepliesByEntry o w step
+  -- in a reached world, the reply of a permitted step is in the entry of its operation
+  pub reached_replies : (w : World Op Reply) → IsReachable o w → (step : Step Op) → refusal o w.locks step ≡ None → RepliesByEntry o w step
   reached_replies w h step k = let e = reached_explained w h in replies_by_entry o h.start (operations h.steps) w e.0 e.1 step k

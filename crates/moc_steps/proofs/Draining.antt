@@ -1,4 +1,4 @@
--- The way to the end of a world, step by step.
+-- The steps to the end of a world, one by one.
 use Rattle.std.proofs.Common.{◌≡◌, ℕ, suc, ◌+◌, ◌*◌, ◌^◌, ◌<◌, ◌≤◌, Bool, true, false, cond, ◌&&◌, T, List, [], ◌∷◌}
 use Rattle.std.proofs.Common.{◌++◌, length, Option, None, Some, nat_eq, nat_lt, inl, inr, ne_eqb, sum_by, count_by}
 use Rattle.std.proofs.Common.{refl, sym, ap, subst, ◌∙◌, arith, eq-eqb}
@@ -11,12 +11,12 @@ use Rattle.moc_parts.specs.Batches.{batches}
 use Rattle.moc_parts.specs.declared.command.Command.{Command}
 use Rattle.moc_steps.specs.Machine.{Running, Clients, ArePermitted, refusal, twelve, world_after}
 use Rattle.moc_steps.specs.Machine as machine
-use Rattle.moc_steps.specs.Laws.{IsReached}
+use Rattle.moc_steps.specs.Theorems.{IsReachable}
 use Rattle.moc_steps.specs.Orders.{operations, AreProgress, is_progress, steps_left}
-use Rattle.moc_steps.specs.Played.{BatchWorld, LeadsOn}
+use Rattle.moc_steps.specs.Played.{BatchWorld, LeadsTo}
 use Rattle.moc_steps.proofs.Cases.{steps_wanted}
 use Rattle.moc_steps.proofs.Basics.{same_or, length-map}
-use Rattle.moc_steps.proofs.Kept.{AreSmall}
+use Rattle.moc_steps.proofs.Preserved.{AreSmall}
 use Rattle.std.proofs.lemmas.Bool.Decides.{nat_tests}
 use Rattle.std.specs.declared.cmp.Ordering.TheVariants.{Less, Equal, Greater}
 use Rattle.std.specs.Cmp.{unsigned_tied}
@@ -32,8 +32,8 @@ length_on : {X : Type 0} (xs : List X) (x : X) → length (xs ++ x ∷ []) ≡ l
 length_on [] x = omega arith
 length_on (y ∷ xs) x = let k : length (xs ++ x ∷ []) ≡ length xs + 1 = length_on xs x in omega arith
 
--- steps that lead on from a reached world
-on : (old new : BatchWorld) (steps : List (machine.Step (List Command))) (n : ℕ) → IsReached batches old → length steps ≡ n → ArePermitted batches old.locks steps → AreProgress steps → machine.world_after_all batches old steps ≡ new → LeadsOn old n new
+-- further steps from a reached world
+on : (old new : BatchWorld) (steps : List (machine.Step (List Command))) (n : ℕ) → IsReachable batches old → length steps ≡ n → ArePermitted batches old.locks steps → AreProgress steps → machine.world_after_all batches old steps ≡ new → LeadsTo old n new
 on old new steps n reached count permitted progress leads =
     let inv = reached_explained batches old reached in
     record {
@@ -46,11 +46,11 @@ on old new steps n reached count permitted progress leads =
       ends = λ start before h e. ends_well batches start before steps h (subst (λ (w : BatchWorld). ArePermitted batches w.locks steps) (sym e) permitted) progress;
     }
 
-pub first_on : (old new : BatchWorld) → IsReached batches old → new ≡ old → LeadsOn old 0 new
+pub first_on : (old new : BatchWorld) → IsReachable batches old → new ≡ old → LeadsTo old 0 new
 first_on old new reached same = on old new [] 0 reached refl tt tt (sym same)
 
-pub next_on : (old world new : BatchWorld) (n : ℕ) (step : machine.Step (List Command)) → IsReached batches old → LeadsOn old n world → refusal batches world.locks step ≡ None → is_progress step ≡ true
-    → new ≡ world_after batches world step → LeadsOn old (n + 1) new
+pub next_on : (old world new : BatchWorld) (n : ℕ) (step : machine.Step (List Command)) → IsReachable batches old → LeadsTo old n world → refusal batches world.locks step ≡ None → is_progress step ≡ true
+    → new ≡ world_after batches world step → LeadsTo old (n + 1) new
 next_on old world new n step reached h permitted progress is =
     on old new (h.steps ++ step ∷ []) (n + 1) reached
     (length_on h.steps step ∙ ap (λ k. k + 1) h.count)
@@ -58,7 +58,7 @@ next_on old world new n step reached h permitted progress is =
     (progress_on h.steps (step ∷ []) h.progress (progress, tt))
     (run_append batches old h.steps (step ∷ []) ∙ ap (λ (w : BatchWorld). world_after batches w step) h.leads ∙ sym is)
 
--- The way to the end is short: at most 37 steps a client
+-- The number of steps to the end is bounded: at most 37 steps for each client
 
 sum_short : {A : Type 0} (f : A → ℕ) (n : ℕ) → ((x : A) → f x ≤ n) → (xs : List A) → sum_by f xs ≤ n * length xs
 sum_short f n each [] = omega arith
@@ -66,7 +66,7 @@ sum_short f n each (x ∷ xs) =
     let here : f x ≤ n = each x in
     let rest : sum_by f xs ≤ n * length xs = sum_short f n each xs in
     let whole : sum_by f (x ∷ xs) ≡ f x + sum_by f xs = sum_by-cons f x xs in
-    let times : n * suc (length xs) ≡ n + n * length xs = omega arith in
+    let occurrences : n * suc (length xs) ≡ n + n * length xs = omega arith in
     omega arith
 
 count_twelve : (test : ℕ → Bool) → count_by test twelve ≤ 12
@@ -97,7 +97,7 @@ split : (a b : Bool) → T (a && b) → T a × T b
 split true b h = (tt, h)
 split false b h = absurd h
 
--- each key that is found is below n
+-- every key in the list is below n
 abbrev AreBelow : ℕ → List (ℕ × Running (List Command)) → Type 0
 AreBelow n es = (q : ℕ) (r : Running (List Command)) → find nat_cmp q es ≡ Some r → q < n
 
@@ -110,20 +110,20 @@ below_tail n e es h q r is = elim (same_or q e.0) [
   | inr d ↦ h q r (ap (λ b. cond b (Some e.1) (find nat_cmp q es)) (unsigned_tied q e.0 ∙ ne_eqb q e.0 d) ∙ is)
 ]
 
-rising : (n x : ℕ) (es : List (ℕ × Running (List Command))) → x < n → T (below_all nat_cmp x es) → T (is_sorted nat_cmp es) → AreBelow n es → suc x + length es ≤ n
-rising n x [] l above sorted below = omega arith
-rising n x (e ∷ es) l above sorted below =
+ascending : (n x : ℕ) (es : List (ℕ × Running (List Command))) → x < n → T (below_all nat_cmp x es) → T (is_sorted nat_cmp es) → AreBelow n es → suc x + length es ≤ n
+ascending n x [] l above sorted below = omega arith
+ascending n x (e ∷ es) l above sorted below =
     let a = split (is_lt (nat_cmp x e.0)) (below_all nat_cmp x es) above in
     let s = split (below_all nat_cmp e.0 es) (is_sorted nat_cmp es) sorted in
     let over : x < e.0 = less_of x e.0 a.0 in
-    let rest : suc e.0 + length es ≤ n = rising n e.0 es (below_head n e es below) s.0 s.1 (below_tail n e es below) in
+    let rest : suc e.0 + length es ≤ n = ascending n e.0 es (below_head n e es below) s.0 s.1 (below_tail n e es below) in
     omega arith
 
 few_entries : (n : ℕ) (es : List (ℕ × Running (List Command))) → T (is_sorted nat_cmp es) → AreBelow n es → length es ≤ n
 few_entries n [] sorted below = omega arith
 few_entries n (e ∷ es) sorted below =
     let s = split (below_all nat_cmp e.0 es) (is_sorted nat_cmp es) sorted in
-    let rest : suc e.0 + length es ≤ n = rising n e.0 es (below_head n e es below) s.0 s.1 (below_tail n e es below) in
+    let rest : suc e.0 + length es ≤ n = ascending n e.0 es (below_head n e es below) s.0 s.1 (below_tail n e es below) in
     omega arith
 
 few_keys : (m : Clients (List Command)) → AreSmall m → length (map.keys m) ≤ 2 ^ 32

@@ -1,4 +1,4 @@
--- Steps that are taken one by one.
+-- Executing steps one by one.
 use Rattle.std.proofs.Common.{◌≡◌, ℕ, zero, suc, ◌+◌, List, [], ◌∷◌, ◌++◌, None, Some, slice_get, take, length, inr}
 use Rattle.std.proofs.Common.{refl, sym, ap, subst, ◌∙◌, arith}
 use Rattle.moc_lists.specs.RangeList.{NumberSet}
@@ -7,7 +7,7 @@ use Rattle.moc_parts.specs.Batches.{batches}
 use Rattle.moc_parts.specs.Objects.{IsLocal}
 use Rattle.moc_parts.specs.declared.command.Command.{Command}
 use Rattle.moc_steps.specs.Machine.{AreLocal, refusal, start_world, world_after}
-use Rattle.moc_steps.specs.Laws.{led_to, ArePlayed, HasOneOrder}
+use Rattle.moc_steps.specs.Theorems.{reached_world, AreValidSteps, HasOneOrder}
 use Rattle.moc_steps.specs.Played.{BatchWorld, step_of, steps_of, IsRefused, IsRefusedAt}
 use Rattle.moc_steps.specs.declared.step.Step.{Step}
 use Rattle.moc_steps.specs.declared.step.Step.TheVariants.{Begin, Take, Edit, Give, Quit, End}
@@ -26,7 +26,7 @@ step_local (End c) h = tt
 
 -- the first n steps lead to the world
 abbrev pub Leads : NumberSet → List Step → ℕ → BatchWorld → Type 0
-Leads start steps n w = (w ≡ led_to batches start (steps_of (take n steps))) × ArePlayed batches start (steps_of (take n steps))
+Leads start steps n w = (w ≡ reached_world batches start (steps_of (take n steps))) × AreValidSteps batches start (steps_of (take n steps))
 
 none_taken : (steps : List Step) → steps_of (take 0 steps) ≡ []
 none_taken [] = refl
@@ -43,8 +43,8 @@ all_taken (x ∷ steps) = ap (λ ys. x ∷ ys) (all_taken steps)
 
 pub leads_first : (start : NumberSet) (steps : List Step) (w : BatchWorld) → IsWithin start pixels → w ≡ start_world batches start → Leads start steps 0 w
 leads_first start steps w within is = (
-  is ∙ ap (led_to batches start) (sym (none_taken steps)),
-  subst (ArePlayed batches start) (sym (none_taken steps)) (record { within = within; local = tt; permitted = tt }),
+  is ∙ ap (reached_world batches start) (sym (none_taken steps)),
+  subst (AreValidSteps batches start) (sym (none_taken steps)) (record { within = within; local = tt; permitted = tt }),
 )
 
 pub leads_next : (start : NumberSet) (steps : List Step) (i : ℕ) (x : Step) (w w' : BatchWorld) → Leads start steps i w → slice_get steps i ≡ Some x → AreLocal batches (step_of x ∷ [])
@@ -52,20 +52,20 @@ pub leads_next : (start : NumberSet) (steps : List Step) (i : ℕ) (x : Step) (w
 leads_next start steps i x w w' h at local permitted is =
     let e : i + 1 ≡ suc i = omega arith in
     let more : steps_of (take (i + 1) steps) ≡ steps_of (take i steps) ++ step_of x ∷ [] = ap (λ n. steps_of (take n steps)) e ∙ next_taken steps i x at in (
-      is ∙ ap (λ (u : BatchWorld). world_after batches u (step_of x)) h.0 ∙ sym (run_append batches (start_world batches start) (steps_of (take i steps)) (step_of x ∷ [])) ∙ sym (ap (led_to batches start) more),
-      subst (ArePlayed batches start) (sym more) (record {
+      is ∙ ap (λ (u : BatchWorld). world_after batches u (step_of x)) h.0 ∙ sym (run_append batches (start_world batches start) (steps_of (take i steps)) (step_of x ∷ [])) ∙ sym (ap (reached_world batches start) more),
+      subst (AreValidSteps batches start) (sym more) (record {
         within = h.1.within;
         local = local_on batches (steps_of (take i steps)) (step_of x ∷ []) h.1.local local;
         permitted = permitted_on batches (start_world batches start) (steps_of (take i steps)) (step_of x ∷ []) h.1.permitted (sym (ap (λ (u : BatchWorld). refusal batches u.locks (step_of x)) h.0) ∙ permitted, tt);
       }),
     )
 
-pub leads_all : (start : NumberSet) (steps : List Step) (n : ℕ) (w : BatchWorld) → Leads start steps n w → n ≡ length steps → (w ≡ led_to batches start (steps_of steps)) × ArePlayed batches start (steps_of steps)
+pub leads_all : (start : NumberSet) (steps : List Step) (n : ℕ) (w : BatchWorld) → Leads start steps n w → n ≡ length steps → (w ≡ reached_world batches start (steps_of steps)) × AreValidSteps batches start (steps_of steps)
 leads_all start steps n w h e =
     let all : steps_of (take n steps) ≡ steps_of steps = ap (λ k. steps_of (take k steps)) e ∙ ap steps_of (all_taken steps) in
-    (h.0 ∙ ap (led_to batches start) all, subst (ArePlayed batches start) all h.1)
+    (h.0 ∙ ap (reached_world batches start) all, subst (AreValidSteps batches start) all h.1)
 
-pub leads_explained : (start : NumberSet) (steps : List Step) → ArePlayed batches start (steps_of steps) → HasOneOrder batches start (steps_of steps)
+pub leads_explained : (start : NumberSet) (steps : List Step) → AreValidSteps batches start (steps_of steps) → HasOneOrder batches start (steps_of steps)
 leads_explained start steps h = one_order batches start (steps_of steps) h
 
 pub leads_refused : (start : NumberSet) (steps : List Step) (i : ℕ) (x : Step) (w : BatchWorld) (why : StepError) → Leads start steps i w → slice_get steps i ≡ Some x

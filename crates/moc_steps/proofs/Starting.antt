@@ -1,4 +1,4 @@
--- The world that a set starts.
+-- The initial world of a set.
 use Rattle.std.proofs.Common.{◌≡◌, ℕ, List, [], ◌∷◌, ◌++◌, Option, None, Some}
 use Rattle.std.proofs.Common.{length, option_map, refl, sym, ap, subst, ◌∙◌, arith}
 use Rattle.std.specs.Ordering.{nat_cmp}
@@ -7,18 +7,18 @@ use Rattle.moc_lists.specs.RangeList.{NumberSet}
 use Rattle.moc_ranges.specs.Operations.{pixels, IsWithin}
 use Rattle.moc_parts.specs.Batches.{batches}
 use Rattle.moc_parts.specs.Parts.{parts_below}
-use Rattle.moc_steps.specs.Laws.{IsReached}
+use Rattle.moc_steps.specs.Theorems.{IsReachable}
 use Rattle.moc_steps.specs.Machine.{start_world}
-use Rattle.moc_steps.specs.Private.Standing.{Standing}
+use Rattle.moc_steps.specs.Private.ClientState.{ClientState}
 use Rattle.moc_steps.specs.Played.{entries_of}
 use Rattle.moc_steps.specs.Private.Worlds.{IsWorld, world_of}
 use Rattle.moc_steps.specs.declared.step.Entry.{Entry}
 use Rattle.moc_steps.proofs.AnyObject.{start_reached}
 use Rattle.moc_steps.proofs.Loops.{twelve_nones}
 use Rattle.moc_steps.proofs.Values.{get-values, values-empty}
-use Rattle.moc_steps.proofs.Kept.{Table, clients_of, holder_nobody}
+use Rattle.moc_steps.proofs.Preserved.{Table, clients_of, holder_nobody}
 
--- one list more has an owner
+-- one more list has an owner
 pub one_over : {X : Type 0} (done next : List X) (list new : X) (left rest all : List X) → next ≡ done ++ new ∷ [] → new ≡ list → left ≡ list ∷ rest → done ++ left ≡ all → next ++ rest ≡ all
 one_over [] next list new left rest all add is more whole = (λ i. add i ++ rest) ∙ ap (λ x. x ∷ rest) is ∙ sym more ∙ whole
 one_over (x ∷ done) next list new left rest all add is more whole = (λ i. add i ++ rest) ∙ ap (λ xs. x ∷ xs) (one_over done (done ++ new ∷ []) list new left rest (done ++ left) refl is more refl) ∙ whole
@@ -27,7 +27,7 @@ pub no_items : {X : Type 0} (xs : List X) → length xs ≡ 0 → xs ≡ []
 no_items [] none = refl
 no_items (x ∷ xs) none = absurd (omega arith)
 
--- none is left
+-- no list remains
 pub none_over : {X : Type 0} (done left all : List X) → left ≡ [] → done ++ left ≡ all → done ≡ all
 none_over [] left all none whole = sym none ∙ whole
 none_over (x ∷ done) left all none whole = ap (λ xs. x ∷ xs) (none_over done left (done ++ left) none refl) ∙ whole
@@ -38,23 +38,23 @@ nobody = None ∷ None ∷ None ∷ None ∷ None ∷ None ∷ None ∷ None ∷
 module _ (m : Table) (ps : List NumberSet) (es : List Entry) (start : NumberSet) (idle : m ≡ map.empty) (parts : ps ≡ parts_below start 12) (none : es ≡ []) where
   pub starts : world_of 0 m ps es ≡ start_world batches start
   starts = λ i. record {
-    locks = record { begun = 0; clients = (ap clients_of idle ∙ values-empty (λ (s : Standing). s.running)) i };
+    locks = record { begun = 0; clients = (ap clients_of idle ∙ values-empty (λ (s : ClientState). s.running)) i };
     parts = parts i;
-    found = (ap (λ (t : Table). (world_of 0 t ps es).found) idle ∙ values-empty (λ (s : Standing). s.found)) i;
+    previous = (ap (λ (t : Table). (world_of 0 t ps es).previous) idle ∙ values-empty (λ (s : ClientState). s.previous)) i;
     order = entries_of (none i);
   }
 
-  not_there : {A : Type 0} (c : ℕ) (s : Standing) → map.get m c ≡ Some s → A
+  not_there : {A : Type 0} (c : ℕ) (s : ClientState) → map.get m c ≡ Some s → A
   not_there c s h = let gone : map.get m c ≡ None = ap (λ (t : Table). map.get t c) idle ∙ map.get-empty nat_cmp c in absurd (cc (gone, h))
 
   pub start_kept : IsWithin start pixels → IsWorld 0 m ps nobody es
   start_kept within = record {
-    reached = subst (λ w. IsReached batches w) (sym starts) (start_reached batches start within);
+    reached = subst (λ w. IsReachable batches w) (sym starts) (start_reached batches start within);
     held = λ b l. twelve_nones b ∙ sym (holder_nobody (clients_of m) b (λ c r h. (
-        let gone : map.get (clients_of m) c ≡ None = get-values (λ (s : Standing). s.running) m c ∙ ap (option_map (λ (s : Standing). s.running)) (ap (λ (t : Table). map.get t c) idle ∙ map.get-empty nat_cmp c) in
+        let gone : map.get (clients_of m) c ≡ None = get-values (λ (s : ClientState). s.running) m c ∙ ap (option_map (λ (s : ClientState). s.running)) (ap (λ (t : Table). map.get t c) idle ∙ map.get-empty nat_cmp c) in
         absurd (cc (gone, h)))));
     small = λ c r h. (
-        let gone : map.get (clients_of m) c ≡ None = get-values (λ (s : Standing). s.running) m c ∙ ap (option_map (λ (s : Standing). s.running)) (ap (λ (t : Table). map.get t c) idle ∙ map.get-empty nat_cmp c) in
+        let gone : map.get (clients_of m) c ≡ None = get-values (λ (s : ClientState). s.running) m c ∙ ap (option_map (λ (s : ClientState). s.running)) (ap (λ (t : Table). map.get t c) idle ∙ map.get-empty nat_cmp c) in
         absurd (cc (gone, h)));
     placed = λ c s h. not_there c s h;
   }

@@ -1,4 +1,4 @@
--- The step machine: clients take the parts of their footprints, rising, edit and give them back.
+-- The step machine: clients take the parts of their footprints in ascending order, edit them, and give them back.
 use Rattle.std.specs.Prelude.{◌≡◌, ℕ, suc, ◌-◌, ◌^◌, Bool, true, false, not, ◌&&◌, nat_eq, List, [], ◌∷◌, Option, None}
 use Rattle.std.specs.Prelude.{Some, if◌then◌else◌, is_some, option_map, take, slice_get, ◌++◌, map as map_list, get_or}
 use Rattle.std.specs.Prelude.{set as set_at, fold}
@@ -16,9 +16,9 @@ use Rattle.moc_lists.specs.RangeList.{NumberSet}
 use Rattle.moc_ranges.specs.Operations.{part_of}
 use Rattle.moc_parts.specs.Parts.{union_of, parts_below}
 
--- The locks, without contents
+-- The locks, without the contents of the parts
 
--- what a client may do next
+-- a step of a client
 pub data Step (Op : Type 0) : Type 0 where
   Begin : (client : ℕ) (op : Op) → Step Op
   Take : (client : ℕ) → Step Op
@@ -27,12 +27,12 @@ pub data Step (Op : Type 0) : Type 0 where
   Quit : (client : ℕ) → Step Op
   End : (client : ℕ) → Step Op
 
--- a client that is midway
+-- a client that is midway: its operation has begun and has not ended
 pub record Running (Op : Type 0) : Type 0 where
-  -- its operation's number: how many Begins stand before its own
+  -- the number of its operation: the number of earlier Begins
   pub number : ℕ
   pub operation : Op
-  -- how many parts of its footprint it has taken, in rising order
+  -- the number of parts of its footprint that it has taken, in ascending order
   pub taken : ℕ
   pub edited : set.FinSet nat_cmp
   pub given : set.FinSet nat_cmp
@@ -42,27 +42,27 @@ pub record Running (Op : Type 0) : Type 0 where
 abbrev pub Clients : Type 0 → Type 0
 Clients Op = map.FinMap nat_cmp (Running Op)
 
--- what the step machine knows of clients and parts, without the sets
+-- the state of clients and parts, without the sets
 pub record Locks (Op : Type 0) : Type 0 where
-  -- how many operations have begun
+  -- the number of operations that have begun
   pub begun : ℕ
-  -- the clients that are midway; the others are idle
+  -- the clients that are midway; all others are idle
   pub clients : Clients Op
 
--- the parts, rising
+-- the twelve parts in ascending order
 abbrev pub twelve : List ℕ
 twelve = 0 ∷ 1 ∷ 2 ∷ 3 ∷ 4 ∷ 5 ∷ 6 ∷ 7 ∷ 8 ∷ 9 ∷ 10 ∷ 11 ∷ []
 
--- whether the set has a member
-abbrev pub is_any : set.FinSet nat_cmp → Bool
-is_any s = not (nat_eq (set.len s) 0)
+-- whether a set is not empty
+abbrev pub is_nonempty : set.FinSet nat_cmp → Bool
+is_nonempty s = not (nat_eq (set.len s) 0)
 
 module _ {Op Reply : Type 0} (o : Object Op Reply) where
-  -- the footprint in rising order
+  -- the footprint in ascending order
   unfoldable pub footprint_parts : Op → List ℕ
   footprint_parts op = filter (o.footprint op) twelve
 
-  -- the part that the client takes next, if any is left
+  -- the next part to take, if any
   unfoldable pub next_part : Running Op → Option ℕ
   next_part r = slice_get (footprint_parts r.operation) r.taken
 
@@ -70,30 +70,30 @@ module _ {Op Reply : Type 0} (o : Object Op Reply) where
   unfoldable pub has_taken : Running Op → ℕ → Bool
   has_taken r b = list_any (λ x. nat_eq x b) (take r.taken (footprint_parts r.operation))
 
-  -- it has taken the part and not given it back
+  -- the client has taken the part and not given it back
   abbrev pub holds : Running Op → ℕ → Bool
   holds r b = has_taken r b && not (set.contains r.given b)
 
-  -- it holds some part
+  -- the client holds at least one part
   abbrev pub holds_some : Running Op → Bool
   holds_some r = list_any (holds r) twelve
 
-  -- the client that holds a part, if one does
+  -- the client that holds a part, if any
   unfoldable pub holder : Clients Op → ℕ → Option ℕ
   holder m b = find (λ c. option_map_or (λ r. holds r b) (map.get m c) false) (map.keys m)
 
-  -- of a Begin, by the client, if it is midway
+  -- why a Begin is refused, from the state of the client if it is midway
   abbrev pub begin_refusal : Locks Op → Option (Running Op) → Option StepError
   begin_refusal s r =
       if is_some r then Some NotIdle else if nat_eq s.begun (2 ^ 64 - 1) then Some TooMany else None
 
-  -- of a Take: of one that does not quit by the next part, if one is left
+  -- why a Take is refused: the client has quit, the next part is held, or no part remains
   abbrev pub take_refusal : Locks Op → Running Op → Option StepError
   take_refusal s r =
       if r.quits then Some Quitting
       else option_map_or (λ b. option_map (PartHeld b) (holder s.clients b)) (next_part r) (Some AllTaken)
 
-  -- of an Edit of a part
+  -- why an Edit of a part is refused
   abbrev pub edit_refusal : Running Op → ℕ → Option StepError
   edit_refusal r b =
       if r.quits then Some Quitting
@@ -102,27 +102,27 @@ module _ {Op Reply : Type 0} (o : Object Op Reply) where
       else if set.contains r.edited b then Some AlreadyEdited
       else None
 
-  -- of a Give of a part
+  -- why a Give of a part is refused
   abbrev pub give_refusal : Running Op → ℕ → Option StepError
   give_refusal r b =
       if not (holds r b) then Some NotHeld
       else if not (set.contains r.edited b) && not r.quits then Some NotEdited
       else None
 
-  -- of a Quit
+  -- why a Quit is refused
   abbrev pub quit_refusal : Running Op → Option StepError
-  quit_refusal r = if r.quits then Some Quitting else if is_any r.edited then Some BegunEditing else None
+  quit_refusal r = if r.quits then Some Quitting else if is_nonempty r.edited then Some BegunEditing else None
 
-  -- of an End
+  -- why an End is refused
   abbrev pub end_refusal : Running Op → Option StepError
   end_refusal r =
       if holds_some r then Some StillHolding else if not r.quits && nat_eq r.taken 0 then Some NothingDone else None
 
-  -- the refusal of a midway client's step, and Idle for an idle client
+  -- why the step of a midway client is refused; `Idle` for an idle client
   abbrev pub unless_idle : Option (Running Op) → (Running Op → Option StepError) → Option StepError
   unless_idle r test = option_map_or test r (Some Idle)
 
-  -- why the step is refused, and None where it is permitted
+  -- why a step is refused, or `None` if it is permitted
   abbrev pub refusal : Locks Op → Step Op → Option StepError
   refusal s (Begin c op) = begin_refusal s (map.get s.clients c)
   refusal s (Take c) = unless_idle (map.get s.clients c) (take_refusal s)
@@ -131,18 +131,18 @@ module _ {Op Reply : Type 0} (o : Object Op Reply) where
   refusal s (Quit c) = unless_idle (map.get s.clients c) quit_refusal
   refusal s (End c) = unless_idle (map.get s.clients c) end_refusal
 
-  -- a client that begins an operation
+  -- the state of a client that begins an operation
   abbrev pub new_running : ℕ → Op → Running Op
   new_running n op =
       record { number = n; operation = op; taken = 0; edited = set.empty; given = set.empty; quits = false }
 
-  -- a client changed, if it is midway
+  -- the locks after changing one client, if it is midway
   abbrev pub with_client : Locks Op → ℕ → (Running Op → Running Op) → Locks Op
   with_client s c f = record s {
     clients = option_map_or (λ r. map.insert s.clients c (f r)) (map.get s.clients c) s.clients;
   }
 
-  -- what a permitted step leaves
+  -- the locks after a permitted step
   abbrev pub locks_after : Locks Op → Step Op → Locks Op
   locks_after s (Begin c op) = record { begun = suc s.begun; clients = map.insert s.clients c (new_running s.begun op) }
   locks_after s (Take c) = with_client s c (λ r. record r { taken = suc r.taken })
@@ -151,11 +151,11 @@ module _ {Op Reply : Type 0} (o : Object Op Reply) where
   locks_after s (Quit c) = with_client s c (λ r. record r { quits = true })
   locks_after s (End c) = record { begun = s.begun; clients = map.remove s.clients c }
 
-  -- no operation has begun
+  -- the initial locks: no operation has begun
   abbrev pub all_idle : Locks Op
   all_idle = record { begun = 0; clients = map.empty }
 
-  -- each step is permitted when it is taken
+  -- each step is permitted at its time
   abbrev pub ArePermitted : Locks Op → List (Step Op) → Type 0
   ArePermitted s [] = Unit {0}
   ArePermitted s (step ∷ steps) = (refusal s step ≡ None) × ArePermitted (locks_after s step) steps
@@ -166,9 +166,9 @@ module _ {Op Reply : Type 0} (o : Object Op Reply) where
   AreLocal (Begin c op ∷ steps) = IsLocal o op × AreLocal steps
   AreLocal (step ∷ steps) = AreLocal steps
 
--- With the twelve sets and the order of the operations
+-- The twelve sets and the order of the operations
 
--- a committed operation, and its reply once it is finished
+-- a committed operation, with its reply once it has ended
 pub record Entry (Reply : Type 0) : Type 0 where
   pub begin : ℕ
   pub client : ℕ
@@ -177,19 +177,19 @@ pub record Entry (Reply : Type 0) : Type 0 where
 -- the state of the step machine
 pub record World (Op Reply : Type 0) : Type 0 where
   pub locks : Locks Op
-  -- the twelve sets
+  -- the contents of the twelve parts
   pub parts : List NumberSet
-  -- for each client that is midway, the union of what the parts held when it took them
-  pub found : map.FinMap nat_cmp NumberSet
-  -- the committed operations, by first Edit
+  -- for each midway client, the union of the contents of the parts when it took them
+  pub previous : map.FinMap nat_cmp NumberSet
+  -- the committed operations in the order of their first Edits
   pub order : List (Entry Reply)
 
 module _ {Op Reply : Type 0} (o : Object Op Reply) where
-  -- a world of this set, in which all clients are idle
+  -- the world with this set, in which all clients are idle
   abbrev pub start_world : NumberSet → World Op Reply
-  start_world start = record { locks = all_idle o; parts = parts_below start 12; found = map.empty; order = [] }
+  start_world start = record { locks = all_idle o; parts = parts_below start 12; previous = map.empty; order = [] }
 
-  -- what the part holds
+  -- the content of a part
   abbrev pub part_at : World Op Reply → ℕ → NumberSet
   part_at w b = get_or w.parts b set.empty
 
@@ -197,60 +197,61 @@ module _ {Op Reply : Type 0} (o : Object Op Reply) where
   abbrev pub client_at : World Op Reply → ℕ → Option (Running Op)
   client_at w c = map.get w.locks.clients c
 
-  -- what a client found in the parts that it took
-  abbrev pub found_by : World Op Reply → ℕ → NumberSet
-  found_by w c = unwrap_or (map.get w.found c) set.empty
+  -- the union of the contents of the parts when the client took them
+  abbrev pub previous_content : World Op Reply → ℕ → NumberSet
+  previous_content w c = unwrap_or (map.get w.previous c) set.empty
 
-  -- the set and the reply of the client's operation, from what it found
-  abbrev pub answer_on_found : World Op Reply → ℕ → Running Op → NumberSet × Reply
-  answer_on_found w c r = o.answer (found_by w c) r.operation
+  -- the new set and the reply of the client's operation, computed from the parts that it has taken
+  abbrev pub answer_on_previous : World Op Reply → ℕ → Running Op → NumberSet × Reply
+  answer_on_previous w c r = o.answer (previous_content w c) r.operation
 
-  -- the entry with a reply, if it is that of operation n
+  -- an entry with its reply, if it is that of operation n
   abbrev pub with_reply : ℕ → Reply → Entry Reply → Entry Reply
   with_reply n reply e = if nat_eq e.begin n then record e { reply = Some reply } else e
 
-  -- the parts after a step: an Edit puts the answer's part in the part's place
+  -- the parts after a step: an Edit replaces the part by that of the operation's new set
   abbrev pub parts_after : World Op Reply → Step Op → List NumberSet
   parts_after w (Edit c b) =
-      option_map_or (λ r. set_at w.parts b (part_of (answer_on_found w c r).0 b)) (client_at w c) w.parts
+      option_map_or (λ r. set_at w.parts b (part_of (answer_on_previous w c r).0 b)) (client_at w c) w.parts
   parts_after w step = w.parts
 
-  -- what midway clients have found after a step: at a Begin nothing; a Take adds what the part holds; an End drops it
-  abbrev pub found_after : World Op Reply → Step Op → map.FinMap nat_cmp NumberSet
-  found_after w (Begin c op) = map.insert w.found c set.empty
-  found_after w (Take c) = map.insert w.found c (option_map_or
-      (λ r. set.union (found_by w c) (unwrap_or (option_map (part_at w) (next_part o r)) set.empty))
-      (client_at w c) (found_by w c))
-  found_after w (End c) = map.remove w.found c
-  found_after w step = w.found
+  -- the taken contents after a step: a Begin starts with none, a Take adds the part's content, an End removes them
+  abbrev pub previous_after : World Op Reply → Step Op → map.FinMap nat_cmp NumberSet
+  previous_after w (Begin c op) = map.insert w.previous c set.empty
+  previous_after w (Take c) = map.insert w.previous c (option_map_or
+      (λ r. set.union (previous_content w c) (unwrap_or (option_map (part_at w) (next_part o r)) set.empty))
+      (client_at w c) (previous_content w c))
+  previous_after w (End c) = map.remove w.previous c
+  previous_after w step = w.previous
 
-  -- the order after a step: an operation's first Edit appends its entry, its End, unless it quits, adds the reply
+  -- the order after a step: the first Edit of an operation appends its entry, and its End adds the reply unless it quit
   abbrev pub entries_after : World Op Reply → Step Op → List (Entry Reply)
   entries_after w (Edit c b) = option_map_or
-      (λ r. if is_any r.edited then w.order
+      (λ r. if is_nonempty r.edited then w.order
       else (w.order ++ record { begin = r.number; client = c; reply = None } ∷ []))
       (client_at w c) w.order
   entries_after w (End c) = option_map_or
-      (λ r. if r.quits then w.order else map_list (with_reply r.number (answer_on_found w c r).1) w.order)
+      (λ r. if r.quits then w.order else map_list (with_reply r.number (answer_on_previous w c r).1) w.order)
       (client_at w c) w.order
   entries_after w step = w.order
 
-  -- what a permitted step leaves
+  -- the world after a permitted step
   abbrev pub world_after : World Op Reply → Step Op → World Op Reply
   world_after w step = record {
     locks = locks_after o w.locks step;
     parts = parts_after w step;
-    found = found_after w step;
+    previous = previous_after w step;
     order = entries_after w step;
   }
 
-  -- the world after steps, from this one
+  -- the world after a list of steps
   abbrev pub world_after_all : World Op Reply → List (Step Op) → World Op Reply
   world_after_all w steps = fold world_after w steps
 
-  -- the reply that a step gives: an End's, of an operation that does not quit
+  -- the reply of a step: an End returns that of its operation, unless the client quit
   abbrev pub reply_to : World Op Reply → Step Op → Option Reply
-  reply_to w (End c) = option_and_then (λ r. if r.quits then None else Some (answer_on_found w c r).1) (client_at w c)
+  reply_to w (End c) =
+      option_and_then (λ r. if r.quits then None else Some (answer_on_previous w c r).1) (client_at w c)
   reply_to w step = None
 
   -- the union of the twelve sets

@@ -1,5 +1,5 @@
--- What serves the contracts of private functions alone.
-pub mod Standing
+-- Definitions that only private contracts, views and invariants use.
+pub mod ClientState
 pub mod Effects
 pub mod Worlds
 pub mod Codes

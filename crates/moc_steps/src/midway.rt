@@ -1,4 +1,4 @@
-//! Clients that are midway.
+//! Clients that are midway: their operations have begun and have not ended.
 ghost use Rattle.std.specs.Prelude.{◌≡◌, ◌<◌, ◌+◌, true, suc, IfOk, IfSome, IsSome, None, Some, take, slice_get};
 ghost use Rattle.std.specs.Prelude.{nat_eq, nat_lt, option_map};
 ghost use Rattle.std.specs.List.{list_any};
@@ -9,43 +9,43 @@ ghost use Rattle.moc_parts.specs.Batches.{batches, footprint_of_all, set_after_a
 ghost use Rattle.moc_steps.specs.Machine as machine;
 ghost use Rattle.moc_steps.specs.Machine.{new_running, holds, holds_some, edit_refusal, give_refusal, quit_refusal};
 ghost use Rattle.moc_steps.specs.Machine.{end_refusal};
-ghost use Rattle.moc_steps.specs.Private.Standing.{Making, IsMade};
+ghost use Rattle.moc_steps.specs.Private.ClientState.{UpdateResult, IsUpdateResult};
 
 use crate::error::StepError;
-use crate::made::{Made, no_lists};
-use crate::share::Share;
+use crate::prepared_update::{PreparedUpdate, no_lists};
+use crate::share::SharedList;
 use moc_parts::{Batch, Part, PartSet};
 use moc_ranges::Memory;
 use std::alloc::Global;
 use std::marker::Model;
 
-/// A client that is midway: its operation, and how far it has come.
+/// The state of a client that is midway: its operation, and the progress of the operation.
 #[derive(Drop)]
-pub(crate) struct Midway {
+pub(crate) struct ActiveOperation {
     number: u64,
     batch: Batch,
-    /// The parts of its footprint, rising.
+    /// The parts of its footprint in ascending order.
     parts: Vec<Part>,
-    /// How many of them it has taken.
+    /// The number of parts that it has taken.
     taken: usize,
     edited: PartSet,
     given: PartSet,
     quits: bool,
-    /// What it found in the parts that it took.
-    found: [Option<Share>; 12],
-    /// What its first Edit made.
-    made: Option<Made>,
+    /// The lists of the parts that it has taken, as they were when it took them.
+    previous: [Option<SharedList>; 12],
+    /// The result of its operation, computed at its first Edit.
+    prepared_update: Option<PreparedUpdate>,
 }
 
-impl Model for Midway {
+impl Model for ActiveOperation {
     ghost use Rattle.std.specs.Prelude.{option_map};
     ghost use Rattle.moc_parts.specs.Parts.{union_of};
-    ghost use Rattle.moc_steps.specs.Private.Standing.{Standing, KeepsNotes, notes};
-    ghost use Rattle.moc_steps.specs.Private.Codes.{standing_code};
+    ghost use Rattle.moc_steps.specs.Private.ClientState.{ClientState, ClientInvariant, contents_of};
+    ghost use Rattle.moc_steps.specs.Private.Codes.{client_state_code};
 
-    ghost Value = { Standing };
+    ghost Value = { ClientState };
 
-    ghost coded = { standing_code };
+    ghost coded = { client_state_code };
 
     ghost view = { λ m. record {
       running = record {
@@ -56,21 +56,21 @@ impl Model for Midway {
         given = m.given;
         quits = m.quits;
       };
-      found = union_of (notes m.found);
-      place = option_map (λ x. x.place) m.made;
+      previous = union_of (contents_of m.previous);
+      entry_index = option_map (λ x. x.entry_index) m.prepared_update;
     } };
 
-    ghost invariant = { λ m. KeepsNotes m.batch m.taken m.edited m.parts.items m.found m.made };
+    ghost invariant = { λ m. ClientInvariant m.batch m.taken m.edited m.parts.items m.previous m.prepared_update };
 }
 
-impl Midway {
-    /// A client that begins.
-    pub(crate) fn new(alloc: Global, number: u64, batch: Batch) -> Result<Midway, Memory>
+impl ActiveOperation {
+    /// Creates the state of a client that begins an operation. Fails with `Memory` if an allocation fails.
+    pub(crate) fn new(alloc: Global, number: u64, batch: Batch) -> Result<ActiveOperation, Memory>
         ensures { IfOk result (λ m.
-            m ≡ record { running = new_running batches number batch; found = set.empty; place = None }) }
+            m ≡ record { running = new_running batches number batch; previous = set.empty; entry_index = None }) }
     {
         let parts = parts_of(alloc, &batch)?;
-        Ok(Midway {
+        Ok(ActiveOperation {
             number,
             batch,
             parts,
@@ -78,40 +78,40 @@ impl Midway {
             edited: PartSet::none(),
             given: PartSet::none(),
             quits: false,
-            found: no_lists(),
-            made: None,
+            previous: no_lists(),
+            prepared_update: None,
         })
     }
 
-    /// How many operations had begun before its own.
+    /// Returns the number of its operation: the number of operations that began before.
     pub(crate) fn number(&self) -> u64
         ensures { result ≡ self.now.running.number }
     {
         self.number
     }
 
-    /// Whether it quits.
+    /// Returns whether the client has quit.
     pub(crate) fn quits(&self) -> bool
         ensures { result ≡ self.now.running.quits }
     {
         self.quits
     }
 
-    /// The part that it takes next.
+    /// Returns the next part to take, if there is one.
     pub(crate) fn next_part(&self) -> Option<Part>
         ensures { result ≡ machine.next_part batches self.now.running }
     {
         part_at(&self.parts, self.taken)
     }
 
-    /// Whether it holds a part.
+    /// Returns whether the client holds a part.
     pub(crate) fn holds(&self, part: Part) -> bool
         ensures { result ≡ holds batches self.now.running part }
     {
         is_among(&self.parts, self.taken, part) && !self.given.contains(part)
     }
 
-    /// Whether it holds some part.
+    /// Returns whether the client holds at least one part.
     fn holds_some(&self) -> bool
         ensures { result ≡ holds_some batches self.now.running }
     {
@@ -123,28 +123,28 @@ impl Midway {
         false
     }
 
-    /// Whether it has edited a part.
+    /// Returns whether the client has edited a part.
     pub(crate) fn has_edited(&self, part: Part) -> bool
         ensures { result ≡ set.contains self.now.running.edited part }
     {
         self.edited.contains(part)
     }
 
-    /// Whether it has edited some part.
+    /// Returns whether the operation is committed: the client has edited at least one part.
     pub(crate) fn is_committed(&self) -> bool
-        ensures { result ≡ machine.is_any self.now.running.edited }
+        ensures { result ≡ machine.is_nonempty self.now.running.edited }
     {
         !self.edited.is_empty()
     }
 
-    /// Whether it has taken some part.
+    /// Returns whether the client has taken at least one part.
     pub(crate) fn has_taken_some(&self) -> bool
         ensures { result ≡ nat_lt 0 self.now.running.taken }
     {
         self.taken > 0
     }
 
-    /// Why it may not edit a part.
+    /// Returns the reason why an Edit of a part is refused, or `None` if it is permitted.
     pub(crate) fn edit_refusal(&self, part: Part) -> Option<StepError>
         ensures { result ≡ edit_refusal batches self.now.running part }
     {
@@ -161,7 +161,7 @@ impl Midway {
         }
     }
 
-    /// Why it may not give a part back.
+    /// Returns the reason why a Give of a part is refused, or `None` if it is permitted.
     pub(crate) fn give_refusal(&self, part: Part) -> Option<StepError>
         ensures { result ≡ give_refusal batches self.now.running part }
     {
@@ -174,7 +174,7 @@ impl Midway {
         }
     }
 
-    /// Why it may not quit.
+    /// Returns the reason why a Quit is refused, or `None` if it is permitted.
     pub(crate) fn quit_refusal(&self) -> Option<StepError>
         ensures { result ≡ quit_refusal batches self.now.running }
     {
@@ -187,7 +187,7 @@ impl Midway {
         }
     }
 
-    /// Why it may not end.
+    /// Returns the reason why an End is refused, or `None` if it is permitted.
     pub(crate) fn end_refusal(&self) -> Option<StepError>
         ensures { result ≡ end_refusal batches self.now.running }
     {
@@ -200,62 +200,68 @@ impl Midway {
         }
     }
 
-    /// What its first Edit makes, for an entry at this place.
-    pub(crate) fn make(&self, alloc: Global, place: usize) -> Result<Made, Memory>
+    /// Computes the result of the operation, with the given index for its entry. Fails with `Memory` if an allocation
+    /// fails.
+    pub(crate) fn prepare_update(
+        &self,
+        alloc: Global,
+        entry_index: usize,
+    ) -> Result<PreparedUpdate, Memory>
         requires all { machine.next_part batches self.now.running ≡ None }
-        ensures place { IfOk result (λ m. m.place ≡ place) }
-        ensures made { IfOk result (λ m. IsMade self.now m) }
+        ensures entry_index { IfOk result (λ m. m.entry_index ≡ entry_index) }
+        ensures value { IfOk result (λ m. IsUpdateResult self.now m) }
     {
-        Made::new(alloc, &self.batch, &self.found, place)
+        PreparedUpdate::new(alloc, &self.batch, &self.previous, entry_index)
     }
 
-    /// Where its entry stands in the order, once it is committed.
-    pub(crate) fn place(&self) -> Option<usize>
-        ensures { result ≡ self.now.place }
+    /// Returns the index of its entry in the order, if the operation is committed.
+    pub(crate) fn entry_index(&self) -> Option<usize>
+        ensures { result ≡ self.now.entry_index }
     {
-        Some(self.made.as_ref()?.place())
+        Some(self.prepared_update.as_ref()?.entry_index())
     }
 
-    /// The new list of a part of its footprint, once that is made.
-    pub(crate) fn new_list(&self, part: Part) -> Option<&Share>
-        requires made { IsSome self.now.place }
+    /// Returns the new list of a part in the footprint, if the operation is committed.
+    pub(crate) fn new_list(&self, part: Part) -> Option<&SharedList>
+        requires value { IsSome self.now.entry_index }
         requires part { footprint_of_all self.now.running.operation part ≡ true }
-        ensures { option_copied result ≡ Some (part_of (set_after_all self.now.found self.now.running.operation) part) }
+        ensures { option_copied result
+            ≡ Some (part_of (set_after_all self.now.previous self.now.running.operation) part) }
     {
-        self.made.as_ref()?.list(part)
+        self.prepared_update.as_ref()?.list(part)
     }
 
-    /// Takes its next part, and notes what it finds there.
-    pub(crate) fn take(&mut self, part: Part, list: Share)
+    /// Records that the client has taken its next part, with the list of the part.
+    pub(crate) fn take(&mut self, part: Part, list: SharedList)
         requires next { machine.next_part batches self.old.running ≡ Some part }
         requires own { part_of list part ≡ list }
-        requires fresh { part_of self.old.found part ≡ set.empty }
-        requires first { self.old.place ≡ None }
+        requires fresh { part_of self.old.previous part ≡ set.empty }
+        requires first { self.old.entry_index ≡ None }
         ensures { self.new ≡ record self.old {
           running = record self.old.running { taken = suc self.old.running.taken };
-          found = set.union self.old.found list;
+          previous = set.union self.old.previous list;
         } }
     {
-        self.found[part.index()] = Some(list);
+        self.previous[part.index()] = Some(list);
         self.taken += 1;
     }
 
-    /// Has edited its first part, and keeps what that made.
-    pub(crate) fn commit(&mut self, made: Made, part: Part)
-        requires { IsMade self.old made }
+    /// Records the first Edit, with the result of the operation.
+    pub(crate) fn commit(&mut self, prepared_update: PreparedUpdate, part: Part)
+        requires { IsUpdateResult self.old prepared_update }
         ensures { self.new ≡ record {
           running = record self.old.running { edited = set.insert self.old.running.edited part };
-          found = self.old.found;
-          place = Some made.place;
+          previous = self.old.previous;
+          entry_index = Some prepared_update.entry_index;
         } }
     {
-        self.made = Some(made);
+        self.prepared_update = Some(prepared_update);
         self.edited.insert(part);
     }
 
-    /// Has edited one part more.
+    /// Records a later Edit.
     pub(crate) fn edit(&mut self, part: Part)
-        requires { IsSome self.old.place }
+        requires { IsSome self.old.entry_index }
         ensures { self.new ≡ record self.old {
           running = record self.old.running { edited = set.insert self.old.running.edited part };
         } }
@@ -263,7 +269,7 @@ impl Midway {
         self.edited.insert(part);
     }
 
-    /// Has given a part back.
+    /// Records that the client has given a part back.
     pub(crate) fn give(&mut self, part: Part)
         ensures { self.new ≡ record self.old {
           running = record self.old.running { given = set.insert self.old.running.given part };
@@ -272,24 +278,27 @@ impl Midway {
         self.given.insert(part);
     }
 
-    /// Quits.
+    /// Records that the client has quit.
     pub(crate) fn quit(&mut self)
         ensures { self.new ≡ record self.old { running = record self.old.running { quits = true } } }
     {
         self.quits = true;
     }
 
-    /// What its first Edit made, if it is committed.
-    pub(crate) fn into_made(self) -> Option<Made>
-        ensures place { option_map (λ (m : Making). m.place) result ≡ self.place }
-        ensures made { IfSome result (λ m. IsMade self m) }
+    /// Returns the result of the operation, if it is committed.
+    pub(crate) fn into_prepared_update(self) -> Option<PreparedUpdate>
+        ensures entry_index { option_map (λ (m : UpdateResult). m.entry_index) result ≡ self.entry_index }
+        ensures value { IfSome result (λ m. IsUpdateResult self m) }
     {
-        let Midway { made, .. } = self;
-        made
+        let ActiveOperation {
+            prepared_update,
+            ..
+        } = self;
+        prepared_update
     }
 }
 
-/// The parts of a batch's footprint, rising.
+/// Returns the parts in the footprint of a batch, in ascending order.
 fn parts_of(alloc: Global, batch: &Batch) -> Result<Vec<Part>, Memory>
     ensures { IfOk result (λ v. v.items ≡ machine.footprint_parts batches batch.now) }
 {
@@ -300,14 +309,14 @@ fn parts_of(alloc: Global, batch: &Batch) -> Result<Vec<Part>, Memory>
     Ok(parts)
 }
 
-/// The part at a place.
+/// Returns the part at an index.
 fn part_at(parts: &[Part], at: usize) -> Option<Part>
     ensures { result ≡ slice_get parts.now at }
 {
     parts.get(at).copied()
 }
 
-/// Whether the part is one of the first n.
+/// Returns whether a part is among the first `n` parts.
 fn is_among(parts: &[Part], n: usize, part: Part) -> bool
     ensures { result ≡ list_any (λ x. nat_eq x part) (take n parts.now) }
 {

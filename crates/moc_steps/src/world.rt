@@ -1,39 +1,41 @@
-//! The world of a schedule: twelve lists, and clients that take, change and give back parts of them.
+//! The state of the step machine: twelve lists, and clients that take parts, edit them, and give them back.
 ghost use Rattle.std.specs.Prelude.{◌≡◌, ◌<◌, ◌^◌, true, IfOk, IfErr, IfSome, IsSome, OnOk, OnErr, None, Some};
 ghost use Rattle.std.specs.Prelude.{length, option_map};
 ghost use Rattle.std.specs.Option.{option_copied};
 ghost use Rattle.std.specs.FinMap as map;
 ghost use Rattle.moc_parts.specs.Batches.{batches};
 ghost use Rattle.moc_steps.specs.Machine as machine;
-ghost use Rattle.moc_steps.specs.Machine.{refusal, begin_refusal, is_any, take_refusal, part_at, reply_to, client_at};
+ghost use Rattle.moc_steps.specs.Machine.{refusal, begin_refusal, is_nonempty};
+ghost use Rattle.moc_steps.specs.Machine.{take_refusal, part_at, reply_to, client_at};
 ghost use Rattle.moc_steps.specs.Machine.{start_world, whole, world_after};
-ghost use Rattle.moc_steps.specs.Laws.{IsReached, RepliesByEntry};
+ghost use Rattle.moc_steps.specs.Theorems.{IsReachable, RepliesByEntry};
 ghost use Rattle.moc_steps.specs.Orders.{is_progress, steps_left};
-ghost use Rattle.moc_parts.specs.Prepared.{found_sets};
-ghost use Rattle.moc_steps.specs.Played.{entries_of, step_of, IsCoverFault, IsRefused};
-ghost use Rattle.moc_steps.specs.Private.Worlds.{NoneHeld, IsHighest};
-ghost use Rattle.moc_steps.specs.Private.Standing.{Standing};
+ghost use Rattle.moc_parts.specs.Prepared.{given_sets};
+ghost use Rattle.moc_steps.specs.Played.{entries_of, step_of, IsCoverError, IsRefused};
+ghost use Rattle.moc_steps.specs.Private.Worlds.{NoPartHeld, IsHighestHolder};
+ghost use Rattle.moc_steps.specs.Private.ClientState.{ClientState};
 ghost use Rattle.moc_steps.specs.declared.error.StepError.TheVariants as fault;
 
 use crate::error::{CoverError, StepError};
-use crate::midway::Midway;
-use crate::share::Share;
+use crate::midway::ActiveOperation;
+use crate::share::SharedList;
 use crate::step::{Entry, Step};
 use crate::table::{Effect, Table};
-use moc_parts::{Batch, Part, Replies, batches_are_local, cut, unite};
+use moc_parts::{Batch, Part, Replies, batches_are_local, merge_parts, split_by_base_pixel};
 use moc_ranges::{Coverage, Memory};
 use std::alloc::Global;
 use std::fmt;
 use std::marker::Model;
 
-/// A map in twelve parts, the clients that are midway, and the order of the operations that have changed it.
+/// The state of the step machine: a map in twelve parts, the clients that are midway, and the order of the operations
+/// that have changed the map.
 #[derive(Drop)]
 pub struct World {
     alloc: Global,
     begun: u64,
     clients: Table,
-    parts: Vec<Share>,
-    /// Who holds each part.
+    parts: Vec<SharedList>,
+    /// The client that holds each part, if any.
     holders: [Option<u32>; 12],
     order: Vec<Entry>,
 }
@@ -53,13 +55,16 @@ impl Model for World {
 }
 
 impl World {
-    /// A world of this set, in which every client is idle. O(n) for n ranges; refused where memory runs out.
+    /// Creates a world with this set, in which every client is idle. O(n) for n ranges.
+    ///
+    /// # Errors
+    /// Fails with `Memory` if an allocation fails.
     pub fn new(alloc: Global, start: Coverage) -> Result<World, Memory>
         ensures { IfOk result (λ w. w ≡ start_world batches start) }
     {
         let mut parts = Vec::new(alloc);
-        for list in cut(alloc, &start)? {
-            parts.push(Share::new(alloc, list)?)?;
+        for list in split_by_base_pixel(alloc, &start)? {
+            parts.push(SharedList::new(alloc, list)?)?;
         }
         Ok(World {
             alloc,
@@ -71,46 +76,48 @@ impl World {
         })
     }
 
-    /// The pixels of one part. O(1), takes no memory.
+    /// Returns the pixels of one part. O(1); allocates nothing.
     pub fn part(&self, part: Part) -> &Coverage
         ensures { result.now ≡ part_at batches self.now part }
     {
         self.parts[part.index()].list()
     }
 
-    /// How many clients are midway. O(1), takes no memory.
+    /// Returns the number of clients that are midway: their operations have begun and have not ended. O(1); allocates
+    /// nothing.
     pub fn midway(&self) -> usize
         ensures { result ≡ map.len self.now.locks.clients }
     {
         self.clients.len()
     }
 
-    /// The committed operations, by their first Edits. O(1), takes no memory.
+    /// Returns the committed operations in the order of their first Edits. O(1); allocates nothing.
     pub fn order(&self) -> &[Entry]
         ensures { entries_of result.now ≡ self.now.order }
     {
         &self.order
     }
 
-    /// The set of the twelve parts, where no client is midway.
+    /// Returns the union of the twelve parts if no client is midway. Computes one union for each part.
     ///
-    /// Refused with `Midway` exactly where some are; with `Memory` where memory runs out. A union for each part.
+    /// # Errors
+    /// Fails with the number of midway clients if and only if there are any, and with `Memory` if an allocation fails.
     pub fn coverage(&self) -> Result<Coverage, CoverError>
         ensures covered { IfOk result (λ a. a ≡ whole batches self.now) }
         ensures idle { OnOk result (map.len self.now.locks.clients ≡ 0) }
-        ensures refused { IfErr result (λ e. IsCoverFault e (map.len self.now.locks.clients)) }
+        ensures failure { IfErr result (λ e. IsCoverError e (map.len self.now.locks.clients)) }
     {
         let n = self.midway();
         if n > 0 {
             return Err(CoverError::Midway { n });
         }
-        Ok(unite(self.alloc, &lists(&self.parts))?)
+        Ok(merge_parts(self.alloc, &lists(&self.parts))?)
     }
 
-    /// Why a Begin is refused.
-    fn begin_refusal(&self, client: Option<&Midway>) -> Option<StepError>
+    /// Returns the reason why a Begin is refused, or `None` if it is permitted.
+    fn begin_refusal(&self, client: Option<&ActiveOperation>) -> Option<StepError>
         ensures { result ≡ begin_refusal batches self.now.locks
-            (option_map (λ (s : Standing). s.running) (option_copied client.entry)) }
+            (option_map (λ (s : ClientState). s.running) (option_copied client.entry)) }
     {
         if client.is_some() {
             Some(StepError::NotIdle)
@@ -121,11 +128,11 @@ impl World {
         }
     }
 
-    /// The part that a midway client may take, or why it may not take one.
-    fn part_to_take(&self, client: &Midway) -> Result<Part, StepError>
+    /// Returns the part that a midway client takes next, or the reason why the Take is refused.
+    fn part_to_take(&self, client: &ActiveOperation) -> Result<Part, StepError>
         ensures next { IfOk result (λ b. machine.next_part batches client.now.running ≡ Some b) }
         ensures permitted { OnOk result (take_refusal batches self.now.locks client.now.running ≡ None) }
-        ensures refused { IfErr result (λ why. take_refusal batches self.now.locks client.now.running ≡ Some why) }
+        ensures failure { IfErr result (λ why. take_refusal batches self.now.locks client.now.running ≡ Some why) }
     {
         if client.quits() {
             return Err(StepError::Quitting);
@@ -139,7 +146,7 @@ impl World {
         }
     }
 
-    /// Why a step is refused, and `None` where it is permitted.
+    /// Returns the reason why a step is refused, or `None` if it is permitted.
     fn refusal(&self, step: &Step) -> Option<StepError>
         ensures { result ≡ refusal batches self.now.locks (step_of step.now) }
     {
@@ -154,11 +161,13 @@ impl World {
         }
     }
 
-    /// Whether a step is permitted, and why not. O(log n) for n clients midway; takes no memory, and never answers
-    /// `Memory`.
+    /// Checks whether a step is permitted. O(log n) for n clients that are midway; allocates nothing.
+    ///
+    /// # Errors
+    /// Fails with the reason why the step is refused; never fails with `Memory`.
     pub fn permits(&self, step: &Step) -> Result<(), StepError>
         ensures permitted { OnOk result (refusal batches self.now.locks (step_of step.now) ≡ None) }
-        ensures refused { IfErr result (λ why. refusal batches self.now.locks (step_of step.now) ≡ Some why) }
+        ensures failure { IfErr result (λ why. refusal batches self.now.locks (step_of step.now) ≡ Some why) }
     {
         match self.refusal(step) {
             Some(why) => Err(why),
@@ -166,18 +175,23 @@ impl World {
         }
     }
 
-    /// Takes a step, if it is permitted. An End that did not quit is answered by the replies of its operation.
+    /// Executes a step if it is permitted. An End returns the replies of its operation, unless the client has quit. All
+    /// other steps return `None`.
     ///
-    /// Besides the batch's own work at its first Edit, O(log n) for n clients midway. A refused step changes nothing,
-    /// and is given up; `Memory` comes only from a Begin, a Take or an Edit that is permitted.
+    /// # Errors
+    /// Fails with the reason why the step is refused; the world is then unchanged, and the step is dropped. Fails with
+    /// `Memory` if an allocation fails in a permitted Begin, Take or Edit.
+    ///
+    /// # Complexity
+    /// O(log n) for n clients that are midway, in addition to the work of the batch at its first Edit.
     pub fn step(&mut self, step: Step) -> Result<Option<Replies>, StepError>
         ensures permitted { OnOk result (refusal batches self.old.locks (step_of step) ≡ None) }
         ensures after { OnOk result (self.new ≡ world_after batches self.old (step_of step)) }
         ensures reply { IfOk result (λ r. r ≡ reply_to batches self.old (step_of step)) }
 
-        // What an End replies is what stands in the entry of its operation.
+        // The replies of an End are those in the entry of its operation.
         ensures entry { OnOk result (RepliesByEntry batches self.old (step_of step)) }
-        ensures refused { IfErr result (λ why.
+        ensures failure { IfErr result (λ why.
             IsRefused (refusal batches self.old.locks (step_of step)) (step_of step) why) }
         ensures unchanged { OnErr result (self.new ≡ self.old) }
     {
@@ -193,30 +207,29 @@ impl World {
         Ok(None)
     }
 
-    /// A permitted Begin.
+    /// Executes a permitted Begin.
     fn begin(&mut self, client: u32, batch: Batch) -> Result<(), Memory>
         requires { refusal batches self.old.locks (machine.Step.Begin client batch) ≡ None }
         ensures after { OnOk result (self.new ≡ world_after batches self.old (machine.Step.Begin client batch)) }
         ensures unchanged { OnErr result (self.new ≡ self.old) }
     {
-        // Both are called for what they promise alone: the rules of steps let an operation begin that looks at its
-        // footprint alone.
+        // The two calls only make their contracts available to the proof: a Begin requires a local operation.
         batches_are_local();
         batch.commands();
-        let midway = Midway::new(self.alloc, self.begun, batch)?;
+        let midway = ActiveOperation::new(self.alloc, self.begun, batch)?;
         self.clients.insert(client, midway)?;
         self.begun += 1;
         Ok(())
     }
 
-    /// A permitted Take. The list is not copied.
+    /// Executes a permitted Take. The list is not copied.
     fn take(&mut self, client: u32) -> Result<(), StepError>
         requires { refusal batches self.old.locks (machine.Step.Take client) ≡ None }
         ensures after { OnOk result (self.new ≡ world_after batches self.old (machine.Step.Take client)) }
-        ensures refused { IfErr result (λ why. why ≡ fault.Memory) }
+        ensures failure { IfErr result (λ why. why ≡ fault.Memory) }
         ensures unchanged { OnErr result (self.new ≡ self.old) }
     {
-        // Neither of these two refuses a step that is permitted.
+        // Neither of the next two calls fails, because the step is permitted.
         let midway = self.clients.get(client).ok_or(StepError::Idle)?;
         let part = self.part_to_take(midway)?;
         let list = self.parts[part.index()].share()?;
@@ -225,23 +238,23 @@ impl World {
         Ok(())
     }
 
-    /// A permitted Edit. The first one of an operation makes all its lists, and commits it.
+    /// Executes a permitted Edit. The first Edit of an operation computes all its lists and commits it.
     fn edit(&mut self, client: u32, part: Part) -> Result<(), Memory>
         requires { refusal batches self.old.locks (machine.Step.Edit client part) ≡ None }
         ensures after { OnOk result (self.new ≡ world_after batches self.old (machine.Step.Edit client part)) }
         ensures unchanged { OnErr result (self.new ≡ self.old) }
     {
-        // A step that is permitted is one of a client that is midway.
+        // The client of a permitted step is midway.
         let Some(midway) = self.clients.get(client) else {
             unreachable!()
         };
-        if midway.place().is_some() {
-            return self.edit_again(client, part);
+        if midway.entry_index().is_some() {
+            return self.edit_committed(client, part);
         }
         let begin = midway.number();
-        let made = midway.make(self.alloc, self.order.len())?;
-        // A part that is held is in the footprint, and has a list.
-        let Some(list) = made.list(part) else {
+        let prepared_update = midway.prepare_update(self.alloc, self.order.len())?;
+        // A held part is in the footprint and therefore has a list.
+        let Some(list) = prepared_update.list(part) else {
             unreachable!()
         };
         let list = list.share()?;
@@ -251,23 +264,24 @@ impl World {
             client,
             reply,
         })?;
-        self.clients.change(client, Effect::Commit(made, part));
+        self.clients
+            .change(client, Effect::Commit(prepared_update, part));
         self.parts[part.index()] = list;
         Ok(())
     }
 
-    /// A permitted Edit of an operation that is committed.
-    fn edit_again(&mut self, client: u32, part: Part) -> Result<(), Memory>
+    /// Executes a permitted Edit of a committed operation.
+    fn edit_committed(&mut self, client: u32, part: Part) -> Result<(), Memory>
         requires permitted { refusal batches self.old.locks (machine.Step.Edit client part) ≡ None }
-        requires committed { IfSome (client_at batches self.old client) (λ r. is_any r.edited ≡ true) }
+        requires committed { IfSome (client_at batches self.old client) (λ r. is_nonempty r.edited ≡ true) }
         ensures after { OnOk result (self.new ≡ world_after batches self.old (machine.Step.Edit client part)) }
         ensures unchanged { OnErr result (self.new ≡ self.old) }
     {
-        // A step that is permitted is one of a client that is midway.
+        // The client of a permitted step is midway.
         let Some(midway) = self.clients.get(client) else {
             unreachable!()
         };
-        // A part that is held is in the footprint, and has a list.
+        // A held part is in the footprint and therefore has a list.
         let Some(list) = midway.new_list(part) else {
             unreachable!()
         };
@@ -277,7 +291,7 @@ impl World {
         Ok(())
     }
 
-    /// A permitted Give.
+    /// Executes a permitted Give.
     fn give(&mut self, client: u32, part: Part)
         requires { refusal batches self.old.locks (machine.Step.Give client part) ≡ None }
         ensures { self.new ≡ world_after batches self.old (machine.Step.Give client part) }
@@ -286,7 +300,7 @@ impl World {
         self.holders[part.index()] = None;
     }
 
-    /// A permitted Quit.
+    /// Executes a permitted Quit.
     fn quit(&mut self, client: u32)
         requires { refusal batches self.old.locks (machine.Step.Quit client) ≡ None }
         ensures { self.new ≡ world_after batches self.old (machine.Step.Quit client) }
@@ -294,7 +308,7 @@ impl World {
         self.clients.change(client, Effect::Quit);
     }
 
-    /// A permitted End.
+    /// Executes a permitted End.
     fn end(&mut self, client: u32) -> Option<Replies>
         requires { refusal batches self.old.locks (machine.Step.End client) ≡ None }
         ensures after { self.new ≡ world_after batches self.old (machine.Step.End client) }
@@ -302,18 +316,19 @@ impl World {
         ensures entry { RepliesByEntry batches self.old (machine.Step.End client) }
     {
         let midway = self.clients.remove(client)?;
-        let made = midway.into_made()?;
-        let place = made.place();
-        let (replies, copy) = made.into_replies();
-        self.order[place].reply = Some(copy);
+        let prepared_update = midway.into_prepared_update()?;
+        let entry_index = prepared_update.entry_index();
+        let (replies, copy) = prepared_update.into_replies();
+        self.order[entry_index].reply = Some(copy);
         Some(replies)
     }
 
-    /// Takes a step that is handed in by reference.
+    /// Executes a copy of a step, which is made only if the step is permitted. Otherwise does the same as `step`, but
+    /// drops the replies.
     pub(crate) fn play(&mut self, step: &Step) -> Result<(), StepError>
         ensures permitted { OnOk result (refusal batches self.old.locks (step_of step.now) ≡ None) }
         ensures after { OnOk result (self.new ≡ world_after batches self.old (step_of step.now)) }
-        ensures refused { IfErr result (λ why.
+        ensures failure { IfErr result (λ why.
             IsRefused (refusal batches self.old.locks (step_of step.now)) (step_of step.now) why) }
         ensures unchanged { OnErr result (self.new ≡ self.old) }
     {
@@ -323,17 +338,18 @@ impl World {
         Ok(())
     }
 
-    /// Permitted steps of batches led to the world from some set of pixels, and the way to its end is shorter than 2^64
-    /// steps: so the laws of the machine hold of a world that one is handed. Does nothing, takes no memory.
-    pub fn is_reached(&self)
-        ensures reached { IsReached batches self.now }
+    /// Establishes that permitted steps of batches lead from a set of pixels to this world, and that fewer than 2^64
+    /// steps lead to its end. The theorems about the step machine then apply to any world. Has no effect at run time;
+    /// allocates nothing.
+    pub fn prove_reachable(&self)
+        ensures reached { IsReachable batches self.now }
         ensures short { steps_left batches self.now.locks.clients < 2 ^ 64 }
     {
-        // Read for the proof alone: what every world keeps is known where a field of it is read.
+        // Reading a field makes the invariant of the world available to the proof.
         let _begun = self.begun;
     }
 
-    /// A permitted step of a midway client, neither a Quit nor a Begin, where a client is midway.
+    /// Returns a permitted step of a midway client, neither a Quit nor a Begin, if a client is midway.
     pub(crate) fn next(&self) -> Option<Step>
         ensures some { IfSome result (λ s.
             (refusal batches self.now.locks (step_of s) ≡ None) × (is_progress (step_of s) ≡ true)) }
@@ -347,9 +363,9 @@ impl World {
         self.step_of_first()
     }
 
-    /// The next step of the client that holds the highest part that is held.
+    /// Returns the next step of the client that holds the highest held part.
     fn step_of_holder(&self, client: u32, part: Part) -> Option<Step>
-        requires { IsHighest self.now client part }
+        requires { IsHighestHolder self.now client part }
         ensures step { IfSome result (λ s.
             (refusal batches self.now.locks (step_of s) ≡ None) × (is_progress (step_of s) ≡ true)) }
         ensures is { IsSome result }
@@ -364,9 +380,9 @@ impl World {
         Some(Step::Give { client, part })
     }
 
-    /// The next step of the first midway client, where no part is held.
+    /// Returns the next step of the first midway client if no part is held.
     fn step_of_first(&self) -> Option<Step>
-        requires { NoneHeld self.now }
+        requires { NoPartHeld self.now }
         ensures some { IfSome result (λ s.
             (refusal batches self.now.locks (step_of s) ≡ None) × (is_progress (step_of s) ≡ true)) }
         ensures none { result ≡ None → map.len self.now.locks.clients ≡ 0 }
@@ -380,7 +396,7 @@ impl World {
     }
 }
 
-/// How many operations have begun, and how many clients are midway.
+/// Shows the number of operations that have begun and the number of clients that are midway.
 impl fmt::Debug for World {
     fn fmt<W: fmt::Write>(&self, f: &mut fmt::Formatter<W>) -> fmt::Result {
         let begun = self.begun;
@@ -389,10 +405,10 @@ impl fmt::Debug for World {
     }
 }
 
-/// The lists of all parts.
-fn lists(parts: &[Share]) -> [Option<&Coverage>; 12]
+/// Returns the lists of all parts.
+fn lists(parts: &[SharedList]) -> [Option<&Coverage>; 12]
     requires { length parts.now ≡ 12 }
-    ensures { found_sets result ≡ parts.now }
+    ensures { given_sets result ≡ parts.now }
 {
     let mut lists = [None; 12];
     for (b, part) in parts.iter().enumerate() {

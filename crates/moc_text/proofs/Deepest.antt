@@ -1,4 +1,4 @@
--- The deepest of cells whose orders rise.
+-- The deepest of cells in ascending order.
 use Rattle.std.proofs.Common.{◌≡◌, ℕ, zero, suc, ◌-◌, ◌<◌, ◌≤◌, List, [], ◌∷◌, length, max, Option, Some, None, refl, ap, ◌∙◌, arith, ◌⊎◌, inl, inr}
 use Rattle.std.specs.Prelude.{slice_index_or, slice_get}
 use Rattle.std.proofs.lemmas.Bool.{cases_lt}
@@ -7,22 +7,22 @@ use Rattle.moc_text.specs.Ascii.{deeper}
 use Rattle.std.specs.List.{Any}
 use Rattle.std.specs.Option.{IsSomeAnd}
 use Rattle.moc_text.specs.AsciiText.{deepest_cell}
-use Rattle.moc_text.specs.Private.AsciiWriting.{AreRising}
+use Rattle.moc_text.specs.Private.AsciiWriting.{AreAscending}
 
--- some of the cells is of a deeper order than the stated one
+-- some cell is deeper than the stated order
 abbrev pub HasDeeper : List CellNumber → Option ℕ → Type 0
 HasDeeper cells stated = IsSomeAnd stated (λ k. Any (λ (c : CellNumber). k < c.order) cells)
 
 next_index : (c : CellNumber) (cells : List CellNumber) → 1 ≤ length cells → length (c ∷ cells) - 1 ≡ suc (length cells - 1)
 next_index c cells some = omega arith
 
-last_from : (j : ℕ) (cells : List CellNumber) (d : CellNumber) → AreRising j cells → Some d ≡ slice_get cells (length cells - 1) → j ≤ d.order
+last_from : (j : ℕ) (cells : List CellNumber) (d : CellNumber) → AreAscending j cells → Some d ≡ slice_get cells (length cells - 1) → j ≤ d.order
 last_from j [] d h is = absurd cc
 last_from j (c ∷ []) d h is = let same : d ≡ c = cc in omega (arith, h.0, ap (λ (x : CellNumber). x.order) same)
 last_from j (c ∷ e ∷ cells) d h is = omega (arith, h.0, last_from c.order (e ∷ cells) d h.1 (is ∙ ap (slice_get (c ∷ e ∷ cells)) (next_index c (e ∷ cells) (omega arith))))
 
 -- the last cell is the deepest
-pub last_is_deepest : (j : ℕ) (cells : List CellNumber) (d : CellNumber) → AreRising j cells → Some d ≡ slice_get cells (length cells - 1) → Some d.order ≡ deepest_cell cells
+pub last_is_deepest : (j : ℕ) (cells : List CellNumber) (d : CellNumber) → AreAscending j cells → Some d ≡ slice_get cells (length cells - 1) → Some d.order ≡ deepest_cell cells
 last_is_deepest j [] d h is = absurd cc
 last_is_deepest j (c ∷ []) d h is = let same : d ≡ c = cc in ap (λ (x : CellNumber). Some x.order) same
 last_is_deepest j (c ∷ e ∷ cells) d h is =
@@ -37,14 +37,14 @@ deeper_none : (j : ℕ) (x : Option ℕ) → deeper (Some j) x ≡ None → ⊥
 deeper_none j None e = absurd cc
 deeper_none j (Some k) e = absurd cc
 
--- the greater of two is one of them
+-- the maximum of two is one of them
 greater : (j n : ℕ) (x : Option ℕ) → deeper (Some j) x ≡ Some n → (j ≡ n) ⊎ (x ≡ Some n)
 greater j n None e = let same : j ≡ n = cc in inl same
 greater j n (Some m) e =
     let same : max j m ≡ n = cc in
     elim (cases_lt j m) [ inl lt ↦ inr (ap (λ (i : ℕ). Some i) (omega arith)) | inr le ↦ inl (omega arith) ]
 
--- some cell is the deepest
+-- some cell has the deepest order
 pub deepest_is_deeper : (cells : List CellNumber) (k n : ℕ) → deepest_cell cells ≡ Some n → k < n → HasDeeper cells (Some k)
 deepest_is_deeper [] k n e lt = absurd cc
 deepest_is_deeper (c ∷ cells) k n e lt = elim (greater c.order n (deepest_cell cells) e) [
@@ -56,7 +56,7 @@ no_cell : (cells : List CellNumber) (i : ℕ) (c : CellNumber) → deepest_cell 
 no_cell [] i c none lt = omega arith
 no_cell (b ∷ cells) i c none lt = deeper_none b.order (deepest_cell cells) none
 
--- each cell is at most as deep
+-- every cell is at most as deep
 within_deepest : (cells : List CellNumber) (n i : ℕ) (c : CellNumber) → deepest_cell cells ≡ Some n → i < length cells → slice_index_or cells i c ≡ c → c.order ≤ n
 within_deepest [] n i c e lt is = absurd (omega arith)
 within_deepest (d ∷ cells) n zero c e lt is =
@@ -74,7 +74,7 @@ within_deepest (d ∷ cells) n (suc i) c e lt is = later (deepest_cell cells) re
         let same : max d.order m ≡ n = cc in
         omega (arith, within m found)
 
--- none is deeper than it
+-- no cell is deeper
 pub none_is_deeper : (cells : List CellNumber) (k n : ℕ) → deepest_cell cells ≡ Some n → n ≤ k → HasDeeper cells (Some k) → ⊥
 none_is_deeper cells k n e le h = omega (arith, within_deepest cells n h.0 h.1 e h.2 h.3, h.4)
 

@@ -1,10 +1,10 @@
--- Numbers held at the greatest of 64 bits.
+-- Numbers capped at the maximum of 64 bits.
 use Rattle.std.proofs.Common.{◌≡◌, ℕ, ◌+◌, ◌-◌, ◌*◌, ◌^◌, ◌<◌, ◌≤◌, true, false, cond, leb, leb-true, not, ltb, List, [], ◌∷◌, min, Option, Some, None, unwrap_or, refl, ap, ◌∙◌, arith}
 use Rattle.std.specs.Char.{is_ascii_digit, digit_value}
 use Rattle.std.specs.Int.{IsInRange}
 use Rattle.std.specs.Option.{ForSome}
 use Rattle.std.proofs.lemmas.Bool.{ltb-true, ltb-false}
-use Rattle.moc_text.specs.Ascii.{order_in_force, last_cell, mark_fault, item_fault, item_pixels}
+use Rattle.moc_text.specs.Ascii.{current_order, last_cell, mark_error, item_error, item_pixels}
 use Rattle.moc_sphere.specs.CellNumber.{cell_count}
 use Rattle.moc_ranges.specs.Cells.{spans}
 use Rattle.moc_text.specs.declared.ascii.error.TextError.{TextError}
@@ -14,7 +14,7 @@ use Rattle.std.specs.Str.{all_ascii_digits}
 use Rattle.std.specs.Str.Parse.{digits_value_after, digits_value}
 use Rattle.std.proofs.lemmas.Str.{digit_value_digit}
 use Rattle.std.proofs.lemmas.Bool.Decides.{nat_tests}
-use Rattle.moc_text.specs.Private.Scan.{held_after}
+use Rattle.moc_text.specs.Private.Scan.{saturated_value}
 use Rattle.moc_text.specs.declared.ascii.number.Numeral.{Numeral}
 use Rattle.moc_text.specs.declared.ascii.number.Item.{Item}
 use Rattle.moc_text.specs.declared.ascii.number.WordNumbers.{WordNumbers}
@@ -29,14 +29,14 @@ is_digit d h =
 held_step : (top v d x : ℕ) → x ≡ d - 48 → min (min (min v top * 10) top + (d - 48)) top ≡ min (v * 10 + x) top
 held_step top v d x e = omega arith
 
-held-digits : (v : ℕ) (ds : List ℕ) → all_ascii_digits ds ≡ true → held_after (min v (2 ^ 64 - 1)) ds ≡ min (digits_value_after 10 v ds) (2 ^ 64 - 1)
+held-digits : (v : ℕ) (ds : List ℕ) → all_ascii_digits ds ≡ true → saturated_value (min v (2 ^ 64 - 1)) ds ≡ min (digits_value_after 10 v ds) (2 ^ 64 - 1)
 held-digits v [] h = refl
 held-digits v (d ∷ ds) h =
     let p = both (is_ascii_digit d) (all_ascii_digits ds) h in
     let e : digit_value d ≡ d - 48 = omega (arith, digit_value_digit d (is_digit d p.0)) in
-    ap (λ n. held_after n ds) (held_step (2 ^ 64 - 1) v d (digit_value d) e) ∙ held-digits (v * 10 + digit_value d) ds p.1
+    ap (λ n. saturated_value n ds) (held_step (2 ^ 64 - 1) v d (digit_value d) e) ∙ held-digits (v * 10 + digit_value d) ds p.1
 
-pub held_is : (ds : List ℕ) → all_ascii_digits ds ≡ true → held_after 0 ds ≡ min (digits_value 10 ds) (2 ^ 64 - 1)
+pub held_is : (ds : List ℕ) → all_ascii_digits ds ≡ true → saturated_value 0 ds ≡ min (digits_value 10 ds) (2 ^ 64 - 1)
 held_is ds h = held-digits 0 ds h
 
 abbrev pub held_number : Numeral → Numeral
@@ -53,13 +53,13 @@ abbrev pub held_maybe : Option Item → Option Item
 held_maybe None = None
 held_maybe (Some i) = Some (held_item i)
 
--- numbers of a word as the program has them
+-- the numbers of a word as the program stores them
 abbrev pub held : WordNumbers → WordNumbers
 held n = record { mark = held_last n.mark; item = held_maybe n.item }
 
--- ---- a held number serves as well
+-- ---- a capped number is equivalent
 
--- tests against what 64 bits hold
+-- comparisons with numbers that fit into 64 bits
 ltb-held : (top n v : ℕ) → n ≤ top → ltb (min v top) n ≡ ltb v n
 ltb-held top n v h = grind (arith, nat_tests)
 
@@ -69,19 +69,19 @@ held-ltb top n v h = grind (arith, nat_tests)
 held_below : (top n v : ℕ) → v < n → n ≤ top → min v top ≡ v
 held_below top n v lt le = omega arith
 
-pub mark_fault-held : (m : Option Numeral) → mark_fault (held_last m) ≡ mark_fault m
-mark_fault-held None = refl
-mark_fault-held (Some n) = ap (λ v. cond v (Some (OrderTooLarge n.at)) None) (held-ltb (2 ^ 64 - 1) 29 n.value (omega arith))
+pub mark_error-held : (m : Option Numeral) → mark_error (held_last m) ≡ mark_error m
+mark_error-held None = refl
+mark_error-held (Some n) = ap (λ v. cond v (Some (OrderTooLarge n.at)) None) (held-ltb (2 ^ 64 - 1) 29 n.value (omega arith))
 
--- an order that is not refused
-pub order_small : (n : Numeral) → mark_fault (Some n) ≡ None → n.value ≤ 29
+-- an order without an error
+pub order_small : (n : Numeral) → mark_error (Some n) ≡ None → n.value ≤ 29
 order_small n h =
     elim (ltb 29 n.value) as (λ v. ltb 29 n.value ≡ v → cond v (Some (OrderTooLarge n.at)) None ≡ None → n.value ≤ 29) [
       | true ↦ λ e k. absurd cc
       | false ↦ λ e k. ltb-false 29 n.value e
     ] refl h
 
-pub order_at-held : (before : Option ℕ) (m : Option Numeral) → mark_fault m ≡ None → order_in_force before (held_last m) ≡ order_in_force before m
+pub order_at-held : (before : Option ℕ) (m : Option Numeral) → mark_error m ≡ None → current_order before (held_last m) ≡ current_order before m
 order_at-held before None h = refl
 order_at-held before (Some n) h = ap (λ (v : ℕ). Some v) (held_below (2 ^ 64 - 1) 30 n.value (omega (arith, order_small n h)) (omega arith))
 
@@ -116,14 +116,14 @@ tests-held cells first last le =
 abbrev pub IsSmall : Option ℕ → Type 0
 IsSmall k = ForSome k (λ n. n ≤ 29)
 
-pub item_fault-held : (k : Option ℕ) (at : ℕ) (i : Option Item) → IsSmall k → item_fault k at (held_maybe i) ≡ item_fault k at i
-item_fault-held None at None h = refl
-item_fault-held (Some k) at None h = refl
-item_fault-held None at (Some i) h = refl
-item_fault-held (Some k) at (Some i) h =
+pub item_error-held : (k : Option ℕ) (at : ℕ) (i : Option Item) → IsSmall k → item_error k at (held_maybe i) ≡ item_error k at i
+item_error-held None at None h = refl
+item_error-held (Some k) at None h = refl
+item_error-held None at (Some i) h = refl
+item_error-held (Some k) at (Some i) h =
     ap (tests (cell_count k) (held_number i.first)) (last_cell-held i) ∙ tests-held (cell_count k) i.first (last_cell i) (omega (arith, cells_fit k (h k refl)))
 
--- the numbers of an item that is not refused are cells
+-- the numbers of an item without an error are cells
 tests_pass : (cells : ℕ) (first last : Numeral) → tests cells first last ≡ None → (first.value < cells) × (last.value < cells) × (first.value ≤ last.value)
 tests_pass cells first last h =
     elim (ltb first.value cells) as (λ v. ltb first.value cells ≡ v → cond (not v) (Some (CellTooLarge first.at)) (cond (not (ltb last.value cells)) (Some (CellTooLarge last.at)) (cond (ltb last.value first.value) (Some (Backwards first.at)) None)) ≡ None → (first.value < cells) × (last.value < cells) × (first.value ≤ last.value)) [
@@ -137,10 +137,10 @@ tests_pass cells first last h =
       ] refl
     ] refl h
 
-pub item_cells : (k at : ℕ) (i : Item) → item_fault (Some k) at (Some i) ≡ None → (i.first.value < cell_count k) × ((last_cell i).value < cell_count k) × (i.first.value ≤ (last_cell i).value)
+pub item_cells : (k at : ℕ) (i : Item) → item_error (Some k) at (Some i) ≡ None → (i.first.value < cell_count k) × ((last_cell i).value < cell_count k) × (i.first.value ≤ (last_cell i).value)
 item_cells k at i h = tests_pass (cell_count k) i.first (last_cell i) h
 
-pub item_pixels-held : (k : Option ℕ) (at : ℕ) (i : Option Item) → IsSmall k → item_fault k at i ≡ None → item_pixels k (held_maybe i) ≡ item_pixels k i
+pub item_pixels-held : (k : Option ℕ) (at : ℕ) (i : Option Item) → IsSmall k → item_error k at i ≡ None → item_pixels k (held_maybe i) ≡ item_pixels k i
 item_pixels-held None at None small h = refl
 item_pixels-held None at (Some i) small h = refl
 item_pixels-held (Some k) at None small h = refl

@@ -1,5 +1,5 @@
--- The members that are written order by order, by the names' byte order, are those that the definition puts in one after
--- another; and their tokens are read back as these members.
+-- The members, written order by order in the byte order of their names, are those that the definition inserts one after
+-- another. Their tokens are parsed as these members.
 use Rattle.std.proofs.Common.{Less, Equal, Greater, ◌≡◌, ℕ, zero, suc, Bool, true, false, cond, ◌&&◌, eqb, List, [], ◌∷◌, ◌++◌, map, Option, Some, refl, sym, ap, ◌∙◌, arith, append-nil, append_assoc}
 use Rattle.std.specs.Prelude.{decimal, option_map, option_and_then}
 use Rattle.std.specs.Ordering.{nat_cmp, is_lt, is_gt}
@@ -16,12 +16,12 @@ use Rattle.serde_json.specs.Written.{outline, items_outline, members_outline}
 use Rattle.serde_json.proofs.Numbers.{number_of-decimal}
 use Rattle.moc_sphere.specs.CellNumber.{CellNumber, IsCell}
 use Rattle.moc_text.specs.JsonText.{datum, data_at, is_name, members_below}
-use Rattle.moc_text.specs.Private.JsonWriting.{orders_by_name, members_along}
+use Rattle.moc_text.specs.Private.JsonWriting.{orders_by_name, members_in_order}
 use Rattle.moc_text.proofs.Powers.{cells_fit}
 
--- the members with those of an order, if it is a name
+-- the members with those of one more order, if it is a name
 abbrev pub with_order : ℕ → Option ℕ → List Data → Members → Members
-with_order k bare ds members = cond (is_name k bare ds) (put (decimal k) (array (items_of ds)) members) members
+with_order k empty_order ds members = cond (is_name k empty_order ds) (put (decimal k) (array (items_of ds)) members) members
 
 -- ---- orders by their names
 
@@ -39,7 +39,7 @@ abbrev after_all : ℕ → List ℕ → Bool
 after_all k [] = true
 after_all k (j ∷ js) = comes_after k j && after_all k js
 
--- the orders at the front that an order comes after, and the others
+-- the leading orders that an order comes after, and the remaining ones
 abbrev front_of : ℕ → List ℕ → List ℕ
 front_of k [] = []
 front_of k (j ∷ js) = cond (comes_after k j) (j ∷ front_of k js) []
@@ -62,17 +62,17 @@ after_front k (j ∷ js) = elim (comes_after k j) as (λ v. comes_after k j ≡ 
   | false ↦ λ e. refl
 ] refl
 
--- the orders below a number, each put in where its name belongs
+-- the orders below a number, each inserted at the position of its name
 abbrev by_name : ℕ → List ℕ
 by_name zero = []
 by_name (suc k) = front_of k (by_name k) ++ k ∷ back_of k (by_name k)
 
--- each of them comes before what it is put before
+-- each order comes before the orders that follow it
 abbrev well_put : ℕ → Bool
 well_put zero = true
 well_put (suc k) = before_all k (back_of k (by_name k)) && well_put k
 
--- each comes after those before it
+-- each order comes after the preceding ones
 abbrev are_rising : List ℕ → List ℕ → Bool
 are_rising done [] = true
 are_rising done (k ∷ ks) = after_all k done && are_rising (done ++ k ∷ []) ks
@@ -114,74 +114,74 @@ all_filter p (c ∷ cells) h = elim (p c) as (λ v. AllByRecursion IsCell (cond 
 abbrev value_of : List CellNumber → ℕ → Data
 value_of cells k = array (items_of (data_at k cells))
 
--- the members of some orders, and then these
+-- the members of some orders, followed by these
 abbrev before_members : List CellNumber → Option ℕ → List ℕ → Members → Members
-before_members cells bare [] ms = ms
-before_members cells bare (k ∷ ks) ms =
-    cond (is_name k bare (data_at k cells)) (member (decimal k) (value_of cells k) (before_members cells bare ks ms)) (before_members cells bare ks ms)
+before_members cells empty_order [] ms = ms
+before_members cells empty_order (k ∷ ks) ms =
+    cond (is_name k empty_order (data_at k cells)) (member (decimal k) (value_of cells k) (before_members cells empty_order ks ms)) (before_members cells empty_order ks ms)
 
-module _ (cells : List CellNumber) (bare : Option ℕ) where
+module _ (cells : List CellNumber) (empty_order : Option ℕ) where
   abbrev named : ℕ → Bool
-  named k = is_name k bare (data_at k cells)
+  named k = is_name k empty_order (data_at k cells)
 
-  along_append : (pre post : List ℕ) → members_along cells bare (pre ++ post) ≡ before_members cells bare pre (members_along cells bare post)
+  along_append : (pre post : List ℕ) → members_in_order cells empty_order (pre ++ post) ≡ before_members cells empty_order pre (members_in_order cells empty_order post)
   along_append [] post = refl
   along_append (k ∷ pre) post = ap (λ (r : Members). cond (named k) (member (decimal k) (value_of cells k) r) r) (along_append pre post)
 
-  -- a name before all of them comes first
-  put_first : (k : ℕ) (d : Data) (js : List ℕ) → before_all k js ≡ true → put (decimal k) d (members_along cells bare js) ≡ member (decimal k) d (members_along cells bare js)
+  -- a name that is less than all others comes first
+  put_first : (k : ℕ) (d : Data) (js : List ℕ) → before_all k js ≡ true → put (decimal k) d (members_in_order cells empty_order js) ≡ member (decimal k) d (members_in_order cells empty_order js)
   put_first k d [] e = refl
   put_first k d (j ∷ js) e =
       let both = and_parts (comes_before k j) (before_all k js) e in
-      elim (named j) as (λ v. put (decimal k) d (cond v (member (decimal j) (value_of cells j) (members_along cells bare js)) (members_along cells bare js)) ≡ member (decimal k) d (cond v (member (decimal j) (value_of cells j) (members_along cells bare js)) (members_along cells bare js))) [
+      elim (named j) as (λ v. put (decimal k) d (cond v (member (decimal j) (value_of cells j) (members_in_order cells empty_order js)) (members_in_order cells empty_order js)) ≡ member (decimal k) d (cond v (member (decimal j) (value_of cells j) (members_in_order cells empty_order js)) (members_in_order cells empty_order js))) [
         | true ↦ rw (is_less (slice_cmp nat_cmp (decimal k) (decimal j)) both.0) refl
         | false ↦ put_first k d js both.1
       ]
 
-  -- a name after all of them comes behind them
-  put_behind : (k : ℕ) (d : Data) (js : List ℕ) (ms : Members) → after_all k js ≡ true → put (decimal k) d (before_members cells bare js ms) ≡ before_members cells bare js (put (decimal k) d ms)
+  -- a name that is greater than all others comes last
+  put_behind : (k : ℕ) (d : Data) (js : List ℕ) (ms : Members) → after_all k js ≡ true → put (decimal k) d (before_members cells empty_order js ms) ≡ before_members cells empty_order js (put (decimal k) d ms)
   put_behind k d [] ms e = refl
   put_behind k d (j ∷ js) ms e =
       let both = and_parts (comes_after k j) (after_all k js) e in
       let more = put_behind k d js ms both.1 in
-      elim (named j) as (λ v. put (decimal k) d (cond v (member (decimal j) (value_of cells j) (before_members cells bare js ms)) (before_members cells bare js ms)) ≡ cond v (member (decimal j) (value_of cells j) (before_members cells bare js (put (decimal k) d ms))) (before_members cells bare js (put (decimal k) d ms))) [
+      elim (named j) as (λ v. put (decimal k) d (cond v (member (decimal j) (value_of cells j) (before_members cells empty_order js ms)) (before_members cells empty_order js ms)) ≡ cond v (member (decimal j) (value_of cells j) (before_members cells empty_order js (put (decimal k) d ms))) (before_members cells empty_order js (put (decimal k) d ms))) [
         | true ↦ rw (is_greater (slice_cmp nat_cmp (decimal k) (decimal j)) both.0) (ap (λ (r : Members). member (decimal j) (value_of cells j) r) more)
         | false ↦ more
       ]
 
   -- the members of one more order
-  one_more : (k : ℕ) (pre post : List ℕ) → after_all k pre ≡ true → before_all k post ≡ true → with_order k bare (data_at k cells) (members_along cells bare (pre ++ post)) ≡ members_along cells bare (pre ++ k ∷ post)
+  one_more : (k : ℕ) (pre post : List ℕ) → after_all k pre ≡ true → before_all k post ≡ true → with_order k empty_order (data_at k cells) (members_in_order cells empty_order (pre ++ post)) ≡ members_in_order cells empty_order (pre ++ k ∷ post)
   one_more k pre post after before =
-      ap (with_order k bare (data_at k cells)) (along_append pre post)
-      ∙ elim (named k) as (λ v. cond v (put (decimal k) (value_of cells k) (before_members cells bare pre (members_along cells bare post))) (before_members cells bare pre (members_along cells bare post)) ≡ before_members cells bare pre (cond v (member (decimal k) (value_of cells k) (members_along cells bare post)) (members_along cells bare post))) [
-        | true ↦ put_behind k (value_of cells k) pre (members_along cells bare post) after ∙ ap (before_members cells bare pre) (put_first k (value_of cells k) post before)
+      ap (with_order k empty_order (data_at k cells)) (along_append pre post)
+      ∙ elim (named k) as (λ v. cond v (put (decimal k) (value_of cells k) (before_members cells empty_order pre (members_in_order cells empty_order post))) (before_members cells empty_order pre (members_in_order cells empty_order post)) ≡ before_members cells empty_order pre (cond v (member (decimal k) (value_of cells k) (members_in_order cells empty_order post)) (members_in_order cells empty_order post))) [
+        | true ↦ put_behind k (value_of cells k) pre (members_in_order cells empty_order post) after ∙ ap (before_members cells empty_order pre) (put_first k (value_of cells k) post before)
         | false ↦ refl
       ]
       ∙ sym (along_append pre (k ∷ post))
 
-  below_by_name : (n : ℕ) → well_put n ≡ true → members_below cells bare n ≡ members_along cells bare (by_name n)
+  below_by_name : (n : ℕ) → well_put n ≡ true → members_below cells empty_order n ≡ members_in_order cells empty_order (by_name n)
   below_by_name zero e = refl
   below_by_name (suc k) e =
       let both = and_parts (before_all k (back_of k (by_name k))) (well_put k) e in
-      ap (with_order k bare (data_at k cells)) (below_by_name k both.1 ∙ ap (members_along cells bare) (sym (front_and_back k (by_name k))))
+      ap (with_order k empty_order (data_at k cells)) (below_by_name k both.1 ∙ ap (members_in_order cells empty_order) (sym (front_and_back k (by_name k))))
       ∙ one_more k (front_of k (by_name k)) (back_of k (by_name k)) (after_front k (by_name k)) both.0
 
-  -- the members of the definition are those of the orders by their names
-  pub members_by_name : members_below cells bare 30 ≡ members_along cells bare orders_by_name
-  members_by_name = below_by_name 30 all_well_put ∙ ap (members_along cells bare) by_name_is
+  -- the members of the definition are those of the orders sorted by name
+  pub members_by_name : members_below cells empty_order 30 ≡ members_in_order cells empty_order orders_by_name
+  members_by_name = below_by_name 30 all_well_put ∙ ap (members_in_order cells empty_order) by_name_is
 
-  -- ---- numbers, and what the tokens are read back as
+  -- ---- numbers, and parsing their tokens
 
   items_numbers : (xs : List CellNumber) → AllByRecursion IsCell xs → ItemsHaveNumbers (items_outline (items_of (map datum xs)))
   items_numbers [] h = tt
   items_numbers (c ∷ xs) h = (IsNumber-decimal c.index (omega (arith, (h.0).index_in_range, cells_fit c.order (h.0).order_in_range)), items_numbers xs h.1)
 
-  -- the text of each number is one
-  pub along_numbers : (ks : List ℕ) → AllByRecursion IsCell cells → MembersHaveNumbers (members_outline (members_along cells bare ks))
+  -- the text of each number is a number
+  pub along_numbers : (ks : List ℕ) → AllByRecursion IsCell cells → MembersHaveNumbers (members_outline (members_in_order cells empty_order ks))
   along_numbers [] h = tt
   along_numbers (k ∷ ks) h =
       let rest = along_numbers ks h in
-      elim (named k) as (λ v. MembersHaveNumbers (members_outline (cond v (member (decimal k) (value_of cells k) (members_along cells bare ks)) (members_along cells bare ks)))) [
+      elim (named k) as (λ v. MembersHaveNumbers (members_outline (cond v (member (decimal k) (value_of cells k) (members_in_order cells empty_order ks)) (members_in_order cells empty_order ks)))) [
         | true ↦ (items_numbers (filter (λ c. eqb c.order k) cells) (all_filter (λ c. eqb c.order k) cells h), rest)
         | false ↦ rest
       ]
@@ -193,26 +193,26 @@ module _ (cells : List CellNumber) (bare : Option ℕ) where
   value_back : (k : ℕ) → AllByRecursion IsCell cells → of_json (outline (value_of cells k)) ≡ Some (value_of cells k)
   value_back k h = ap (option_map array) (items_back (filter (λ c. eqb c.order k) cells) (all_filter (λ c. eqb c.order k) cells h))
 
-  put_last : (k : ℕ) (done : List ℕ) → after_all k done ≡ true → named k ≡ true → put (decimal k) (value_of cells k) (members_along cells bare done) ≡ members_along cells bare (done ++ k ∷ [])
+  put_last : (k : ℕ) (done : List ℕ) → after_all k done ≡ true → named k ≡ true → put (decimal k) (value_of cells k) (members_in_order cells empty_order done) ≡ members_in_order cells empty_order (done ++ k ∷ [])
   put_last k done after is =
-      ap (λ (js : List ℕ). put (decimal k) (value_of cells k) (members_along cells bare js)) (sym (append-nil done)) ∙ ap (λ (m : Members). put (decimal k) (value_of cells k) m) (along_append done []) ∙ put_behind k (value_of cells k) done no_members after
-      ∙ sym (along_append done (k ∷ []) ∙ ap (before_members cells bare done) (rw is refl))
+      ap (λ (js : List ℕ). put (decimal k) (value_of cells k) (members_in_order cells empty_order js)) (sym (append-nil done)) ∙ ap (λ (m : Members). put (decimal k) (value_of cells k) m) (along_append done []) ∙ put_behind k (value_of cells k) done no_members after
+      ∙ sym (along_append done (k ∷ []) ∙ ap (before_members cells empty_order done) (rw is refl))
 
-  no_last : (k : ℕ) (done : List ℕ) → named k ≡ false → members_along cells bare done ≡ members_along cells bare (done ++ k ∷ [])
+  no_last : (k : ℕ) (done : List ℕ) → named k ≡ false → members_in_order cells empty_order done ≡ members_in_order cells empty_order (done ++ k ∷ [])
   no_last k done none =
-      ap (members_along cells bare) (sym (append-nil done)) ∙ along_append done [] ∙ sym (along_append done (k ∷ []) ∙ ap (before_members cells bare done) (rw none refl))
+      ap (members_in_order cells empty_order) (sym (append-nil done)) ∙ along_append done [] ∙ sym (along_append done (k ∷ []) ∙ ap (before_members cells empty_order done) (rw none refl))
 
-  along_back : (done ks : List ℕ) → AllByRecursion IsCell cells → are_rising done ks ≡ true → of_members (members_outline (members_along cells bare ks)) (members_along cells bare done) ≡ Some (members_along cells bare (done ++ ks))
-  along_back done [] h e = ap (λ (js : List ℕ). Some (members_along cells bare js)) (sym (append-nil done))
+  along_back : (done ks : List ℕ) → AllByRecursion IsCell cells → are_rising done ks ≡ true → of_members (members_outline (members_in_order cells empty_order ks)) (members_in_order cells empty_order done) ≡ Some (members_in_order cells empty_order (done ++ ks))
+  along_back done [] h e = ap (λ (js : List ℕ). Some (members_in_order cells empty_order js)) (sym (append-nil done))
   along_back done (k ∷ ks) h e =
       let both = and_parts (after_all k done) (are_rising (done ++ k ∷ []) ks) e in
-      let more = along_back (done ++ k ∷ []) ks h both.1 ∙ ap (λ (js : List ℕ). Some (members_along cells bare js)) (append_assoc done (k ∷ []) ks) in
-      elim (named k) as (λ v. named k ≡ v → of_members (members_outline (cond v (member (decimal k) (value_of cells k) (members_along cells bare ks)) (members_along cells bare ks))) (members_along cells bare done) ≡ Some (members_along cells bare (done ++ k ∷ ks))) [
+      let more = along_back (done ++ k ∷ []) ks h both.1 ∙ ap (λ (js : List ℕ). Some (members_in_order cells empty_order js)) (append_assoc done (k ∷ []) ks) in
+      elim (named k) as (λ v. named k ≡ v → of_members (members_outline (cond v (member (decimal k) (value_of cells k) (members_in_order cells empty_order ks)) (members_in_order cells empty_order ks))) (members_in_order cells empty_order done) ≡ Some (members_in_order cells empty_order (done ++ k ∷ ks))) [
         | true ↦ λ is.
-            ap (option_and_then (λ d. of_members (members_outline (members_along cells bare ks)) (put (decimal k) d (members_along cells bare done)))) (value_back k h)
-            ∙ ap (of_members (members_outline (members_along cells bare ks))) (put_last k done both.0 is) ∙ more
-        | false ↦ λ none. ap (of_members (members_outline (members_along cells bare ks))) (no_last k done none) ∙ more
+            ap (option_and_then (λ d. of_members (members_outline (members_in_order cells empty_order ks)) (put (decimal k) d (members_in_order cells empty_order done)))) (value_back k h)
+            ∙ ap (of_members (members_outline (members_in_order cells empty_order ks))) (put_last k done both.0 is) ∙ more
+        | false ↦ λ none. ap (of_members (members_outline (members_in_order cells empty_order ks))) (no_last k done none) ∙ more
       ] refl
 
-  pub members_back : AllByRecursion IsCell cells → of_members (members_outline (members_along cells bare orders_by_name)) no_members ≡ Some (members_along cells bare orders_by_name)
+  pub members_back : AllByRecursion IsCell cells → of_members (members_outline (members_in_order cells empty_order orders_by_name)) no_members ≡ Some (members_in_order cells empty_order orders_by_name)
   members_back h = along_back [] orders_by_name h orders_rise

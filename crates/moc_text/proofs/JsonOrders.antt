@@ -1,4 +1,4 @@
--- Digits that name an order.
+-- Digits that denote an order.
 use Rattle.std.proofs.Common.{◌≡◌, ℕ, ◌+◌, ◌-◌, ◌*◌, ◌≤◌, Bool, true, false, cond, not, eqb, ltb, leb, leb-true, ◌&&◌, List, [], ◌∷◌, length, min, Option, Some, None, refl, sym, ap, ◌∙◌, arith}
 use Rattle.std.specs.Char.{is_ascii_digit, digit_value}
 use Rattle.std.specs.Int.{IsInRange}
@@ -7,8 +7,8 @@ use Rattle.std.specs.Str.Parse.{digits_value_after, digits_value}
 use Rattle.std.proofs.lemmas.Str.{digit_value_digit}
 use Rattle.std.proofs.lemmas.Bool.{ltb-false}
 use Rattle.std.proofs.lemmas.Bool.Decides.{nat_tests}
-use Rattle.moc_text.specs.JsonForm.{order_of_name}
-use Rattle.moc_text.specs.Private.JsonReading.{held_order}
+use Rattle.moc_text.specs.JsonFormat.{order_of_name}
+use Rattle.moc_text.specs.Private.JsonReading.{capped_order}
 
 -- a number, if it is an order
 abbrev order_up_to_29 : ℕ → Option ℕ
@@ -37,18 +37,18 @@ order_held v =
 held_step : (v d x : ℕ) → x ≡ d - 48 → min (min v 30 * 10 + (d - 48)) 30 ≡ min (v * 10 + x) 30
 held_step v d x e = omega arith
 
-held_order-is : (v : ℕ) (ds : List ℕ) → held_order (min v 30) ds ≡ cond (all_ascii_digits ds) (order_up_to_29 (digits_value_after 10 v ds)) None
-held_order-is v [] = order_held v
-held_order-is v (d ∷ ds) =
-    elim (is_ascii_digit d) as (λ b. is_ascii_digit d ≡ b → cond b (held_order (min (min v 30 * 10 + (d - 48)) 30) ds) None ≡ cond (b && all_ascii_digits ds) (order_up_to_29 (digits_value_after 10 (v * 10 + digit_value d) ds)) None) [
+capped_order-is : (v : ℕ) (ds : List ℕ) → capped_order (min v 30) ds ≡ cond (all_ascii_digits ds) (order_up_to_29 (digits_value_after 10 v ds)) None
+capped_order-is v [] = order_held v
+capped_order-is v (d ∷ ds) =
+    elim (is_ascii_digit d) as (λ b. is_ascii_digit d ≡ b → cond b (capped_order (min (min v 30 * 10 + (d - 48)) 30) ds) None ≡ cond (b && all_ascii_digits ds) (order_up_to_29 (digits_value_after 10 (v * 10 + digit_value d) ds)) None) [
       | true ↦ λ e.
           let x : digit_value d ≡ d - 48 = omega (arith, digit_value_digit d (digit_range d e)) in
-          ap (λ n. held_order n ds) (held_step v d (digit_value d) x) ∙ held_order-is (v * 10 + digit_value d) ds
+          ap (λ n. capped_order n ds) (held_step v d (digit_value d) x) ∙ capped_order-is (v * 10 + digit_value d) ds
       | false ↦ λ e. refl
     ] refl
 
-pub name_order : (name : List ℕ) → eqb (length name) 0 ≡ false → held_order 0 name ≡ order_of_name name
-name_order name some = held_order-is 0 name ∙ ap (λ b. cond (not b && all_ascii_digits name) (order_up_to_29 (digits_value 10 name)) None) (sym some)
+pub name_order : (name : List ℕ) → eqb (length name) 0 ≡ false → capped_order 0 name ≡ order_of_name name
+name_order name some = capped_order-is 0 name ∙ ap (λ b. cond (not b && all_ascii_digits name) (order_up_to_29 (digits_value 10 name)) None) (sym some)
 
 pub up_to_29_small : (v k : ℕ) → order_up_to_29 v ≡ Some k → k ≤ 29
 up_to_29_small v k h =
@@ -57,10 +57,10 @@ up_to_29_small v k h =
       | false ↦ λ e h. let is : v ≡ k = cc in omega (arith, ltb-false 29 v e)
     ] refl h
 
-pub held_order_small : (v : ℕ) (ds : List ℕ) (k : ℕ) → held_order v ds ≡ Some k → k ≤ 29
+pub held_order_small : (v : ℕ) (ds : List ℕ) (k : ℕ) → capped_order v ds ≡ Some k → k ≤ 29
 held_order_small v [] k h = up_to_29_small v k h
 held_order_small v (d ∷ ds) k h =
-    elim (is_ascii_digit d) as (λ b. cond b (held_order (min (v * 10 + (d - 48)) 30) ds) None ≡ Some k → k ≤ 29) [
+    elim (is_ascii_digit d) as (λ b. cond b (capped_order (min (v * 10 + (d - 48)) 30) ds) None ≡ Some k → k ≤ 29) [
       | true ↦ λ h. held_order_small (min (v * 10 + (d - 48)) 30) ds k h
       | false ↦ λ h. absurd cc
     ] h

@@ -1,4 +1,4 @@
--- A written JSON text says the set that was written.
+-- A written JSON text represents the set that was written.
 use Rattle.std.proofs.Common.{Less, Equal, Greater, ◌≡◌, ℕ, zero, suc, ◌+◌, ◌<◌, ◌≤◌, Bool, true, false, cond, ◌||◌, eqb, ltb, List, [], ◌∷◌, ◌++◌, length, map, max, Option, Some, None, refl, sym, ap, ap₂, subst, ◌∙◌, append-nil, arith, inl, inr}
 use Rattle.std.specs.Prelude.{decimal, option_map, option_and_then, IsUtf8}
 use Rattle.std.specs.Ordering.{nat_cmp, match_ordering}
@@ -32,27 +32,27 @@ use Rattle.moc_ranges.specs.Cells.{span, pixels_of, is_cell_of, cells_below, cel
 use Rattle.moc_ranges.specs.Lemmas.Cells.{cells_are}
 use Rattle.moc_ranges.specs.Lemmas.{cells_fill}
 use Rattle.moc_text.specs.Ascii.{deeper, IsNumber}
-use Rattle.moc_text.specs.AsciiText.{IsTooCoarse, deepest_cell, deepest_written, stated_beyond}
+use Rattle.moc_text.specs.AsciiText.{IsTooCoarse, deepest_cell, deepest_written, stated_if_deeper}
 use Rattle.moc_text.proofs.Deepest.{HasDeeper}
-use Rattle.moc_text.specs.JsonForm.{order_of_name, items_pixels, elements_fault, array_pixels, name_fault}
-use Rattle.moc_text.specs.JsonForm.{members_pixels, members_fault, deepest_name, SaysJson}
+use Rattle.moc_text.specs.JsonFormat.{order_of_name, items_pixels, elements_error, array_pixels, name_error}
+use Rattle.moc_text.specs.JsonFormat.{members_pixels, members_error, deepest_name, RepresentsJson}
 use Rattle.moc_text.specs.JsonText.{datum, data_at, is_name, members_below, json_value, json_text}
-use Rattle.moc_text.specs.Private.JsonWriting.{members_along, orders_by_name}
-use Rattle.moc_text.specs.Private.AsciiWriting.{AreRising}
+use Rattle.moc_text.specs.Private.JsonWriting.{members_in_order, orders_by_name}
+use Rattle.moc_text.specs.Private.AsciiWriting.{AreAscending}
 use Rattle.moc_text.proofs.JsonNames.{along_numbers, members_by_name, members_back, with_order}
 use Rattle.moc_text.proofs.Written.{IsNumber-decimal, value-decimal, not_deeper, stated_is_deepest}
 
--- ---- the cells of a set stand by rising order
+-- ---- the cells of a set are in ascending order of their orders
 
-rising_from : (j k : ℕ) (cells : List CellNumber) → j ≤ k → AreRising k cells → AreRising j cells
+rising_from : (j k : ℕ) (cells : List CellNumber) → j ≤ k → AreAscending k cells → AreAscending j cells
 rising_from j k [] le h = tt
 rising_from j k (c ∷ cells) le h = (omega (arith, h.0), h.1)
 
-rising_append : (j k : ℕ) (xs ys : List CellNumber) → AreRising j xs → AllByRecursion (λ c. c.order ≤ k) xs → AreRising k ys → j ≤ k → AreRising j (xs ++ ys)
+rising_append : (j k : ℕ) (xs ys : List CellNumber) → AreAscending j xs → AllByRecursion (λ c. c.order ≤ k) xs → AreAscending k ys → j ≤ k → AreAscending j (xs ++ ys)
 rising_append j k [] ys h all more le = rising_from j k ys le more
 rising_append j k (x ∷ xs) ys h all more le = (h.0, rising_append x.order k xs ys h.1 all.1 more all.0)
 
-order_rising : (k from n : ℕ) → AreRising k (map (cell_number k) (range_with_len from n))
+order_rising : (k from n : ℕ) → AreAscending k (map (cell_number k) (range_with_len from n))
 order_rising k from zero = tt
 order_rising k from (suc n) = (omega arith, order_rising k (from + 1) n)
 
@@ -69,22 +69,22 @@ unfolding cells_below
 below_within zero m le = tt
 below_within (suc k) m le = all_append (λ c. c.order ≤ m) (cells_below k) _ (below_within k m (omega arith)) (order_within k m 0 (cell_count k) (omega arith))
 
-below_rising : (n : ℕ) → AreRising 0 (cells_below n)
+below_rising : (n : ℕ) → AreAscending 0 (cells_below n)
 unfolding cells_below
 below_rising zero = tt
 below_rising (suc k) = rising_append 0 k (cells_below k) _ (below_rising k) (below_within k k (omega arith)) (order_rising k 0 (cell_count k)) (omega arith)
 
-filter_rising : (p : CellNumber → Bool) (j : ℕ) (cells : List CellNumber) → AreRising j cells → AreRising j (filter p cells)
+filter_rising : (p : CellNumber → Bool) (j : ℕ) (cells : List CellNumber) → AreAscending j cells → AreAscending j (filter p cells)
 filter_rising p j [] h = tt
 filter_rising p j (c ∷ cells) h =
     let rest = filter_rising p c.order cells h.1 in
-    elim (p c) as (λ v. AreRising j (cond v (c ∷ filter p cells) (filter p cells))) [ true ↦ (h.0, rest) | false ↦ rising_from j c.order (filter p cells) h.0 rest ]
+    elim (p c) as (λ v. AreAscending j (cond v (c ∷ filter p cells) (filter p cells))) [ true ↦ (h.0, rest) | false ↦ rising_from j c.order (filter p cells) h.0 rest ]
 
-pub cells_rise : (a : NumberSet) → AreRising 0 (cells_of a)
+pub cells_ascend : (a : NumberSet) → AreAscending 0 (cells_of a)
 unfolding cells_of
-cells_rise a = filter_rising (is_cell_of a) 0 (cells_below 30) (below_rising 30)
+cells_ascend a = filter_rising (is_cell_of a) 0 (cells_below 30) (below_rising 30)
 
--- ---- what each member is
+-- ---- properties of each member
 
 -- the name of an order below n, and its cells
 record IsMember (cells : List CellNumber) (n : ℕ) (name : List ℕ) (d : Data) : Type 0 where
@@ -126,7 +126,7 @@ members_are : (cells : List CellNumber) (stated : Option ℕ) (n : ℕ) → AreM
 members_are cells stated zero = tt
 members_are cells stated (suc k) = with_order_members cells stated k (members_below cells stated k) (members_are cells stated k)
 
--- ---- a depth of two
+-- ---- the depth is two
 
 items_flat : (cells : List CellNumber) → items_depth (items_of (map datum cells)) ≡ 0
 items_flat [] = refl
@@ -141,18 +141,18 @@ members_flat cells n (member name d ms) h =
 shallow : (a : NumberSet) (stated : Option ℕ) → depth (json_value a stated) ≤ max_depth
 unfolding json_value
 shallow a stated =
-    let bare = stated_beyond (deepest_cell (cells_of a)) stated in
-    omega (arith, members_flat (cells_of a) 30 (members_below (cells_of a) bare 30) (members_are (cells_of a) bare 30))
+    let empty_order = stated_if_deeper (deepest_cell (cells_of a)) stated in
+    omega (arith, members_flat (cells_of a) 30 (members_below (cells_of a) empty_order 30) (members_are (cells_of a) empty_order 30))
 
--- ---- what the members say
+-- ---- the set that the members represent
 
 abbrev of_order : ℕ → List CellNumber → List CellNumber
 of_order k cells = filter (λ c. eqb c.order k) cells
 
-order_fine : (k name place : ℕ) (cells : List CellNumber) → AllByRecursion IsCell cells → elements_fault k name place (items_of (map datum (of_order k cells))) ≡ None
+order_fine : (k name place : ℕ) (cells : List CellNumber) → AllByRecursion IsCell cells → elements_error k name place (items_of (map datum (of_order k cells))) ≡ None
 order_fine k name place [] h = refl
 order_fine k name place (c ∷ cells) h =
-    elim (eqb c.order k) as (λ v. eqb c.order k ≡ v → elements_fault k name place (items_of (map datum (cond v (c ∷ of_order k cells) (of_order k cells)))) ≡ None) [
+    elim (eqb c.order k) as (λ v. eqb c.order k ≡ v → elements_error k name place (items_of (map datum (cond v (c ∷ of_order k cells) (of_order k cells)))) ≡ None) [
       | true ↦ λ e.
           let is : c.order ≡ k = eqb-true c.order k e in
           let fits : ltb c.index (cell_count k) ≡ true = lt-ltb c.index (cell_count k) (subst (λ j. c.index < cell_count j) is (h.0).index_in_range) in
@@ -200,20 +200,20 @@ some_has q cells no_members = false
 some_has q cells (member name d ms) = named_has q cells (order_of_name name) || some_has q cells ms
 
 record Say (cells : List CellNumber) (ms : Members) (name : ℕ) : Type 0 where
-  faultless : members_fault name ms ≡ None
+  without_error : members_error name ms ≡ None
   contain : (q : ℕ) → set.contains (members_pixels ms) q ≡ some_has q cells ms
 
 members_say : (cells : List CellNumber) (n : ℕ) (ms : Members) (name : ℕ) → n ≤ 30 → AllByRecursion IsCell cells → AreMembers cells n ms → Say cells ms name
-members_say cells n no_members name le all h = record { faultless = refl; contain = λ q. set.contains-empty nat_cmp q }
+members_say cells n no_members name le all h = record { without_error = refl; contain = λ q. set.contains-empty nat_cmp q }
 members_say cells n (member text d ms) name le all h =
     let later = members_say cells n ms (name + 1) le all h.1 in
     let k = (h.0).order in
     let o : order_of_name text ≡ Some k = ap order_of_name (h.0).named ∙ name_is k (omega (arith, (h.0).below)) in
     let items : as_array d ≡ Some (items_of (data_at k cells)) = ap as_array (h.0).has in
-    let here : name_fault name (order_of_name text) (as_array d) ≡ None = rw (o, items) (order_fine k name 0 cells all) in
+    let here : name_error name (order_of_name text) (as_array d) ≡ None = rw (o, items) (order_fine k name 0 cells all) in
     let pixels : array_pixels (order_of_name text) (as_array d) ≡ items_pixels k (items_of (data_at k cells)) = rw (o, items) refl in
     record {
-      faultless = ap (λ f. option_or f (members_fault (name + 1) ms)) here ∙ later.faultless;
+      without_error = ap (λ f. option_or f (members_error (name + 1) ms)) here ∙ later.without_error;
       contain = λ q.
           set.contains-union nat_cmp_total (array_pixels (order_of_name text) (as_array d)) (members_pixels ms) q
           ∙ ap (λ (a : NumberSet). set.contains a q || set.contains (members_pixels ms) q) pixels
@@ -222,7 +222,7 @@ members_say cells n (member text d ms) name le all h =
           ∙ ap (λ (x : Option ℕ). named_has q cells x || some_has q cells ms) (sym o);
     }
 
--- ---- a name among the others
+-- ---- one name among the others
 
 or_swap : (a b c : Bool) → (a || (b || c)) ≡ (b || (a || c))
 or_swap true true c = refl
@@ -336,19 +336,19 @@ next_deepest cells stated k lt =
     with_order_deepest cells stated k (data_at k cells) ms lt (members_are cells stated k)
     ∙ ap (λ (x : Option ℕ). cond (is_name k stated (data_at k cells)) x (deepest_name ms)) (greatest k (deepest_name ms) (name_below cells k ms (omega arith) (members_are cells stated k)))
 
-abbrev IsNamed : List CellNumber → Option ℕ → ℕ → Bool
-IsNamed cells stated k = is_name k stated (data_at k cells)
+abbrev ParsesName : List CellNumber → Option ℕ → ℕ → Bool
+ParsesName cells stated k = is_name k stated (data_at k cells)
 
--- where no order from m on is a name
-deepest_stays : (cells : List CellNumber) (stated : Option ℕ) (m n : ℕ) → m ≤ n → n ≤ 30 → ((k : ℕ) → m ≤ k → IsNamed cells stated k ≡ false) → deepest_name (members_below cells stated n) ≡ deepest_name (members_below cells stated m)
+-- if no order from m on is a name
+deepest_stays : (cells : List CellNumber) (stated : Option ℕ) (m n : ℕ) → m ≤ n → n ≤ 30 → ((k : ℕ) → m ≤ k → ParsesName cells stated k ≡ false) → deepest_name (members_below cells stated n) ≡ deepest_name (members_below cells stated m)
 deepest_stays cells stated m zero le lt none = let e : 0 ≡ m = omega arith in ap (λ n. deepest_name (members_below cells stated n)) e
 deepest_stays cells stated m (suc k) le lt none = elim (cases_lt m (suc k)) [
   | inl l ↦ next_deepest cells stated k (omega arith) ∙ ap (λ b. cond b (Some k) (deepest_name (members_below cells stated k))) (none k (omega arith)) ∙ deepest_stays cells stated m k (omega arith) (omega arith) none
   | inr ge ↦ let e : suc k ≡ m = omega arith in ap (λ n. deepest_name (members_below cells stated n)) e
 ]
 
--- the greatest order that is a name
-deepest_found : (cells : List CellNumber) (stated : Option ℕ) (m : ℕ) → m < 30 → IsNamed cells stated m ≡ true → ((k : ℕ) → suc m ≤ k → IsNamed cells stated k ≡ false) → deepest_name (members_below cells stated 30) ≡ Some m
+-- the deepest order that is a name
+deepest_found : (cells : List CellNumber) (stated : Option ℕ) (m : ℕ) → m < 30 → ParsesName cells stated m ≡ true → ((k : ℕ) → suc m ≤ k → ParsesName cells stated k ≡ false) → deepest_name (members_below cells stated 30) ≡ Some m
 deepest_found cells stated m lt here none =
     deepest_stays cells stated (suc m) 30 (omega arith) (omega arith) none ∙ next_deepest cells stated m lt ∙ ap (λ b. cond b (Some m) (deepest_name (members_below cells stated m))) here
 
@@ -377,7 +377,7 @@ deepest_stated cells s lt fine =
     deepest_found cells (Some s) s lt (stated_named s (data_at s cells))
     (λ k le. unnamed k (Some s) (data_at k cells) (no_cells k cells (below_all k s cells (omega arith) (at_most s cells fine))) (ne_eqb k s (λ e. omega (arith, le, e))))
 
--- the deepest order of cells: some cell has it, and none a deeper one
+-- the deepest order of cells: some cell has it, and no cell is deeper
 record IsDeepest (cells : List CellNumber) (m : ℕ) : Type 0 where
   small : m < 30
   named : is_name m None (data_at m cells) ≡ true
@@ -428,7 +428,7 @@ deepest_unstated : (cells : List CellNumber) (x : Option ℕ) → DeepestIs cell
 deepest_unstated cells None e = deepest_stays cells None 0 30 (omega arith) (omega arith) (λ k le. unnamed k None (data_at k cells) (ap (data_at k) e) refl)
 deepest_unstated cells (Some m) d = deepest_found cells None m d.small d.named (λ k le. unnamed k None (data_at k cells) (no_cells k cells (below_all k m cells (omega arith) d.most)) refl)
 
-deepest_beyond : (cells : List CellNumber) (s : ℕ) (x : Option ℕ) → s < 30 → DeepestIs cells x → deeper x (Some s) ≡ Some s → (HasDeeper cells (Some s) → ⊥) → deepest_name (members_below cells (stated_beyond x (Some s)) 30) ≡ Some s
+deepest_beyond : (cells : List CellNumber) (s : ℕ) (x : Option ℕ) → s < 30 → DeepestIs cells x → deeper x (Some s) ≡ Some s → (HasDeeper cells (Some s) → ⊥) → deepest_name (members_below cells (stated_if_deeper x (Some s)) 30) ≡ Some s
 deepest_beyond cells s None lt d le fine = deepest_stated cells s lt fine
 deepest_beyond cells s (Some m) lt d le fine =
     let most : max m s ≡ s = cc in
@@ -437,7 +437,7 @@ deepest_beyond cells s (Some m) lt d le fine =
       | false ↦ λ e. deepest_unstated cells (Some m) d ∙ ap (λ (n : ℕ). Some n) (omega (arith, most, ltb-false m s e))
     ] refl
 
-deepest_is : (a : NumberSet) (stated : Option ℕ) → ForSome stated (λ k. k ≤ 29) → (IsTooCoarse a stated → ⊥) → deepest_name (members_below (cells_of a) (stated_beyond (deepest_cell (cells_of a)) stated) 30) ≡ deepest_written a stated
+deepest_is : (a : NumberSet) (stated : Option ℕ) → ForSome stated (λ k. k ≤ 29) → (IsTooCoarse a stated → ⊥) → deepest_name (members_below (cells_of a) (stated_if_deeper (deepest_cell (cells_of a)) stated) 30) ≡ deepest_written a stated
 deepest_is a None small fine = deepest_unstated (cells_of a) (deepest_cell (cells_of a)) (deepest_of (cells_of a) (cells_are a))
 deepest_is a (Some s) small fine =
     deepest_beyond (cells_of a) s (deepest_cell (cells_of a)) (omega (arith, small s refl)) (deepest_of (cells_of a) (cells_are a)) (stated_is_deepest (cells_of a) s fine) fine
@@ -462,22 +462,22 @@ mutual
   members_depth_same (member name d ms) = ap₂ max (depth_same d) (members_depth_same ms)
 
 abbrev bare_of : NumberSet → Option ℕ → Option ℕ
-bare_of a stated = stated_beyond (deepest_cell (cells_of a)) stated
+bare_of a stated = stated_if_deeper (deepest_cell (cells_of a)) stated
 
 -- the object as it is written
-written_value : (a : NumberSet) (stated : Option ℕ) → object (members_along (cells_of a) (bare_of a stated) orders_by_name) ≡ json_value a stated
+written_value : (a : NumberSet) (stated : Option ℕ) → object (members_in_order (cells_of a) (bare_of a stated) orders_by_name) ≡ json_value a stated
 unfolding json_value
 written_value a stated = ap (λ (ms : Members). object ms) (sym (members_by_name (cells_of a) (bare_of a stated)))
 
--- its text
-pub written_text : (a : NumberSet) (stated : Option ℕ) → compact_text (object (members_along (cells_of a) (bare_of a stated) orders_by_name)) ≡ json_text a stated
+-- the text of the object
+pub written_text : (a : NumberSet) (stated : Option ℕ) → compact_text (object (members_in_order (cells_of a) (bare_of a stated) orders_by_name)) ≡ json_text a stated
 unfolding json_text
 written_text a stated = ap compact_text (written_value a stated)
 
--- what its text is read back as
+-- the value that is parsed from the text
 pub written_read : (a : NumberSet) (stated : Option ℕ) (text : List ℕ) → text ≡ json_text a stated → read text ≡ Some (json_value a stated)
 written_read a stated text is =
-    let value = object (members_along (cells_of a) (bare_of a stated) orders_by_name) in
+    let value = object (members_in_order (cells_of a) (bare_of a stated) orders_by_name) in
     let printed : text ≡ print (json_tokens (outline value)) = is ∙ sym (written_text a stated) ∙ sym (print-outline value) in
     let same : tokens text ≡ json_tokens (outline value) =
     ap tokens printed ∙ tokens-print (json_tokens (outline value)) (ArePrintable-json_tokens (outline value) (along_numbers (cells_of a) (bare_of a stated) orders_by_name (cells_are a))) in
@@ -485,20 +485,20 @@ written_read a stated text is =
     let flat : tree.depth (outline value) ≤ max_depth = omega (arith, depth_same value, ap depth (written_value a stated), shallow a stated) in
     ap (λ (o : Option (json.Json × List Token)). option_and_then of_json (option_and_then (λ p. json.if_last p.0 p.1) o)) (ap (json.value max_depth) (same ∙ sym (append-nil _)) ∙ value-json_tokens (outline value) max_depth [] flat) ∙ back ∙ ap (λ (d : Data). Some d) (written_value a stated)
 
-pub written_says : (a : NumberSet) (stated : Option ℕ) (text : List ℕ) → IsUtf8 text → read text ≡ Some (json_value a stated) → IsWithin a pixels → ForSome stated (λ k. k ≤ 29) → (IsTooCoarse a stated → ⊥) → SaysJson text a (deepest_written a stated)
+pub written_represents : (a : NumberSet) (stated : Option ℕ) (text : List ℕ) → IsUtf8 text → read text ≡ Some (json_value a stated) → IsWithin a pixels → ForSome stated (λ k. k ≤ 29) → (IsTooCoarse a stated → ⊥) → RepresentsJson text a (deepest_written a stated)
 unfolding json_value
-written_says a stated text utf8 is in_pixels small fine =
+written_represents a stated text utf8 is in_pixels small fine =
     let cells = cells_of a in
-    let bare = stated_beyond (deepest_cell cells) stated in
-    let say = members_say cells 30 (members_below cells bare 30) 0 (omega arith) (cells_are a) (members_are cells bare 30) in
+    let empty_order = stated_if_deeper (deepest_cell cells) stated in
+    let say = members_say cells 30 (members_below cells empty_order 30) 0 (omega arith) (cells_are a) (members_are cells empty_order 30) in
     record {
       value = json_value a stated;
       json = record { utf8 = utf8; value = is };
-      members = members_below cells bare 30;
+      members = members_below cells empty_order 30;
       object = refl;
-      faultless = say.faultless;
-      set_is = same_members a (members_pixels (members_below cells bare 30)) (λ q.
+      without_error = say.without_error;
+      set_is = same_members a (members_pixels (members_below cells empty_order 30)) (λ q.
           ap (λ (b : NumberSet). set.contains b q) (sym (cells_fill a in_pixels)) ∙ contains-pixels_of q cells
-          ∙ sym (say.contain q ∙ members_have q cells bare 30 (omega arith) ∙ all_below q cells (cells_are a)));
+          ∙ sym (say.contain q ∙ members_have q cells empty_order 30 (omega arith) ∙ all_below q cells (cells_are a)));
       deepest_is = sym (deepest_is a stated small fine);
     }

@@ -1,12 +1,12 @@
 pub mod Automaton
-pub mod Cuts
-pub mod Stuck
+pub mod WordBoundaries
+pub mod InvalidWords
 pub mod Powers
 pub mod Held
 pub mod Scanning
 pub mod ReadWords
-pub mod OneReading
-pub mod Told
+pub mod UniqueReading
+pub mod Represented
 pub mod Join
 pub mod Written
 pub mod UniqLines
@@ -17,4 +17,4 @@ pub mod JsonNames
 pub mod JsonWritten
 pub mod Runs
 pub mod JsonRuns
-pub mod Waiting
+pub mod Buffering

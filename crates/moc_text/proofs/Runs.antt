@@ -1,4 +1,4 @@
--- The cells of one order after another, as runs: those of ranges of indices that do not touch are the longest runs.
+-- The cells, order by order, as runs: ranges of indices that do not touch are the maximal runs.
 use Rattle.std.proofs.Common.{◌≡◌, ℕ, zero, suc, ◌+◌, ◌-◌, ◌<◌, ◌≤◌, true, false, cond, ◌&&◌, eqb, leb, List, [], ◌∷◌, ◌++◌, map, max, Option, Some, None, refl, sym, ap, subst, ◌∙◌, inl, inr, arith, append_assoc}
 use Rattle.std.specs.Option.{is_some}
 use Rattle.std.specs.Iterator.{YieldsFirst}
@@ -6,10 +6,10 @@ use Rattle.std.specs.List.{filter, range_with_len, AllByRecursion}
 use Rattle.std.proofs.lemmas.Bool.{cases_lt, eq-eqb, ne_eqb, eqb-true, le-leb, lt-leb, leb-true}
 use Rattle.moc_sphere.specs.CellNumber.{CellNumber, cell_number}
 use Rattle.moc_lists.specs.RangeList.{IsNormal, BeginsAfter}
-use Rattle.moc_ranges.specs.Cells.{AreOfOrders, cells_in}
+use Rattle.moc_ranges.specs.Cells.{HaveOrders, cells_in}
 use Rattle.moc_text.specs.Ascii.{deeper}
 use Rattle.moc_text.specs.AsciiText.{run_of_one, follows, runs_from, runs_of, deepest_cell}
-use Rattle.moc_text.specs.Private.AsciiWriting.{AreRising, cells_from, runs_in}
+use Rattle.moc_text.specs.Private.AsciiWriting.{AreAscending, cells_from, runs_in}
 use Rattle.moc_text.specs.declared.ascii.writing.Run.{Run as CellRun}
 
 -- ---- the deepest order
@@ -20,11 +20,11 @@ of_order k cells = filter (λ c. eqb c.order k) cells
 abbrev pub AreBelow : ℕ → List CellNumber → Type 0
 AreBelow k cells = AllByRecursion (λ c. c.order < k) cells
 
-pub orders_below : (first last : ℕ) (cells : List CellNumber) → AreOfOrders first last cells → AreBelow last cells
+pub orders_below : (first last : ℕ) (cells : List CellNumber) → HaveOrders first last cells → AreBelow last cells
 orders_below first last [] all = tt
 orders_below first last (c ∷ cells) all = ((all.0).1, orders_below first last cells all.1)
 
--- where no cell is of the last order, all are of lower ones
+-- if no cell has the last order, all cells are coarser
 pub none_of_last : (k : ℕ) (cells : List CellNumber) → AreBelow (suc k) cells → of_order k cells ≡ [] → AreBelow k cells
 none_of_last k [] all none = tt
 none_of_last k (c ∷ cells) all none =
@@ -59,25 +59,25 @@ one_of_last k (c ∷ cells) d ds all is =
     later : (j : ℕ) → Some k ≡ deepest_cell cells → Some k ≡ deeper (Some c.order) (deepest_cell cells)
     later j found = ap (λ (n : ℕ). Some n) (omega (arith, all.0)) ∙ ap (deeper (Some c.order)) found
 
--- cells of no order at all
-pub none_at_all : (first last k : ℕ) (cells : List CellNumber) → AreOfOrders first last cells → AreBelow k cells → k ≤ first → None ≡ deepest_cell cells
+-- an empty range of orders has no cells
+pub none_at_all : (first last k : ℕ) (cells : List CellNumber) → HaveOrders first last cells → AreBelow k cells → k ≤ first → None ≡ deepest_cell cells
 none_at_all first last k [] all below le = refl
 none_at_all first last k (c ∷ cells) all below le = absurd (omega (arith, (all.0).0, below.0))
 
--- ---- one order after another
+-- ---- order by order
 
-none_rising : (k j : ℕ) (cells : List CellNumber) → k < j → AreRising j cells → of_order k cells ≡ []
+none_rising : (k j : ℕ) (cells : List CellNumber) → k < j → AreAscending j cells → of_order k cells ≡ []
 none_rising k j [] lt rise = refl
 none_rising k j (c ∷ cells) lt rise =
     rw (ne_eqb c.order k (λ e. omega (arith, rise.0, e))) (none_rising k c.order cells (omega (arith, rise.0)) rise.1)
 
-all_rising : (k j : ℕ) (cells : List CellNumber) → k ≤ j → AreRising j cells → cells_from k cells ≡ cells
+all_rising : (k j : ℕ) (cells : List CellNumber) → k ≤ j → AreAscending j cells → cells_from k cells ≡ cells
 all_rising k j [] le rise = refl
 all_rising k j (c ∷ cells) le rise =
     rw (le-leb k c.order (omega (arith, rise.0))) (ap (λ (l : List CellNumber). c ∷ l) (all_rising k c.order cells (omega (arith, rise.0)) rise.1))
 
--- the cells from an order on are those of the order, and those from the next on
-pub order_first : (k j : ℕ) (cells : List CellNumber) → AreRising j cells → cells_from k cells ≡ of_order k cells ++ cells_from (k + 1) cells
+-- the cells from an order on are those of the order and those from the next order on
+pub order_first : (k j : ℕ) (cells : List CellNumber) → AreAscending j cells → cells_from k cells ≡ of_order k cells ++ cells_from (k + 1) cells
 order_first k j [] rise = refl
 order_first k j (c ∷ cells) rise = elim (cases_lt c.order k) [
   | inl lt ↦
@@ -91,11 +91,11 @@ order_first k j (c ∷ cells) rise = elim (cases_lt c.order k) [
   ]
 ]
 
-pub from_first : (first last : ℕ) (cells : List CellNumber) → AreOfOrders first last cells → cells_from first cells ≡ cells
+pub from_first : (first last : ℕ) (cells : List CellNumber) → HaveOrders first last cells → cells_from first cells ≡ cells
 from_first first last [] all = refl
 from_first first last (c ∷ cells) all = rw (le-leb first c.order (all.0).0) (ap (λ (l : List CellNumber). c ∷ l) (from_first first last cells all.1))
 
-pub from_last : (first last k : ℕ) (cells : List CellNumber) → AreOfOrders first last cells → last ≤ k → cells_from k cells ≡ []
+pub from_last : (first last k : ℕ) (cells : List CellNumber) → HaveOrders first last cells → last ≤ k → cells_from k cells ≡ []
 from_last first last k [] all le = refl
 from_last first last k (c ∷ cells) all le = rw (lt-leb k c.order (omega (arith, (all.0).1))) (from_last first last k cells all.1 le)
 
@@ -107,9 +107,9 @@ deeper_from k (c ∷ cells) =
       | false ↦ λ e. deeper_from k cells
     ] refl
 
--- ---- longest runs
+-- ---- maximal runs
 
--- the first of the cells does not follow cells of order k up to the last
+-- the first of the cells does not continue the cells of order k up to the last
 abbrev Stops : ℕ → ℕ → List CellNumber → Type 0
 Stops k last [] = Unit {0}
 Stops k last (c ∷ cells) = (eqb c.order k && eqb (last + 1) c.index) ≡ false
@@ -141,7 +141,7 @@ stops_run k last b (q ∷ qs) cells lt normal after deeper =
     let here : (eqb k k && eqb (last + 1) q.0) ≡ false = (λ i. eq-eqb k k refl i && ne_eqb (last + 1) q.0 (λ e. omega (arith, e, after, lt)) i) in
     subst (λ n. Stops k last ((map (cell_number k) (range_with_len q.0 n) ++ cells_in k qs) ++ cells)) (sym many) here
 
--- the runs of cells of an order before deeper ones
+-- the runs of the cells of one order before deeper ones
 pub runs_first : (k : ℕ) (ps : List (ℕ × ℕ)) (cells : List CellNumber) → IsNormal ps → AllByRecursion (λ c. k < c.order) cells → runs_of (cells_in k ps ++ cells) ≡ runs_in k ps ++ runs_of cells
 runs_first k [] cells normal deeper = refl
 runs_first k (p ∷ ps) cells normal deeper =
@@ -154,13 +154,13 @@ runs_first k (p ∷ ps) cells normal deeper =
     ∙ run_whole k p.0 p.0 m (cells_in k ps ++ cells) (stops_run k (p.0 + m) p.1 ps cells (omega (arith, normal.0)) normal.3 normal.2 deeper)
     ∙ (λ i. run k p.0 (last i) ∷ runs_first k ps cells normal.3 deeper i)
 
--- what is written of an order, and from the next order on
-pub order_step : (k : ℕ) (cells : List CellNumber) (ps : List (ℕ × ℕ)) → AreRising 0 cells → IsNormal ps → cells_in k ps ≡ of_order k cells → runs_of (cells_from k cells) ≡ runs_in k ps ++ runs_of (cells_from (k + 1) cells)
+-- the text of one order, followed by the text from the next order on
+pub order_step : (k : ℕ) (cells : List CellNumber) (ps : List (ℕ × ℕ)) → AreAscending 0 cells → IsNormal ps → cells_in k ps ≡ of_order k cells → runs_of (cells_from k cells) ≡ runs_in k ps ++ runs_of (cells_from (k + 1) cells)
 order_step k cells ps rise normal is =
     ap runs_of (order_first k 0 cells rise ∙ ap (λ l. l ++ cells_from (k + 1) cells) (sym is))
     ∙ runs_first k ps (cells_from (k + 1) cells) normal (deeper_from k cells)
 
--- ---- what the first ranges of an order tell
+-- ---- the first range of an order
 
 pub has_cells : (k : ℕ) (cells : List CellNumber) (x : ℕ × ℕ) (ps : List (ℕ × ℕ)) → IsNormal (x ∷ ps) → cells_in k (x ∷ ps) ≡ of_order k cells → AreBelow (suc k) cells → Some k ≡ deepest_cell cells
 has_cells k cells x ps normal is below =
@@ -168,7 +168,7 @@ has_cells k cells x ps normal is below =
     one_of_last k cells (cell_number k x.0) (map (cell_number k) (range_with_len (x.0 + 1) (x.1 - x.0 - 1)) ++ cells_in k ps) below
     (sym is ∙ ap (λ n. map (cell_number k) (range_with_len x.0 n) ++ cells_in k ps) many)
 
--- the next range of an order, as an iterator gives it
+-- the next range of an order, as an iterator returns it
 abbrev pub Next : List (ℕ × ℕ) → Option (ℕ × ℕ) → List (ℕ × ℕ) → Type 0
 Next s x t = YieldsFirst (λ (s : List (ℕ × ℕ)). s) s x t
 

@@ -19,11 +19,11 @@ use Rattle.moc_ranges.specs.Cells.{span, pixels_of, cells_of}
 use Rattle.moc_ranges.specs.Lemmas.Cells.{cells_are}
 use Rattle.moc_ranges.specs.Lemmas.{pixels_of-append, cells_fill, union-assoc, empty-union, union-empty}
 use Rattle.moc_text.specs.Ascii.{IsNumber}
-use Rattle.moc_text.specs.Private.Scan.{front_digits, past_digits, held_after, starts_with_digit}
+use Rattle.moc_text.specs.Private.Scan.{leading_digits, after_digits, saturated_value, starts_with_digit}
 use Rattle.moc_text.specs.Lines.{lines_of}
-use Rattle.moc_ranges.specs.Faults.{first_fault_of}
-use Rattle.moc_text.specs.UniqList.{uniq_line_fault, uniq_fault, numbers_on, SaysUniq, uniq_text}
-use Rattle.moc_text.specs.Private.UniqReading.{behind_line_feed, IsPart, IsLineRead, LinesSoFar}
+use Rattle.moc_ranges.specs.Faults.{first_error_of}
+use Rattle.moc_text.specs.UniqList.{uniq_line_error, uniq_error, numbers_on, RepresentsUniq, uniq_text}
+use Rattle.moc_text.specs.Private.UniqReading.{after_line_feed, IsPart, IsLineRead, LinesSoFar}
 use Rattle.moc_text.specs.declared.uniq.UniqError.{UniqError}
 use Rattle.moc_text.specs.declared.uniq.UniqError.TheVariants.{BadByte, NotUniq}
 use Rattle.moc_text.proofs.Automaton.{both}
@@ -49,7 +49,7 @@ uniq_some c =
     let low : 4 ^ 0 ≤ 4 ^ (c.order + 1) = pow-le-pow_right (lit< tt) none in
     omega (arith, low)
 
--- the numbers of cells are those from 4 up to 2^62
+-- the numbers of cells are those from 4 up to but not including 2^62
 pub uniq_range : (c : CellNumber) → IsCell c → (4 ≤ uniq_of c) × (uniq_of c < 2 ^ 62)
 uniq_range c h =
     let b = uniq_bounds c h in
@@ -70,7 +70,7 @@ same_order j k u a b c d =
     clash : (m n : ℕ) → 4 ^ m ≤ 4 ^ n → u < 4 ^ m → 4 ^ n ≤ u → ⊥
     clash m n l a b = omega arith
 
--- a number is that of one cell
+-- a number is that of at most one cell
 one_cell : (c d : CellNumber) → IsCell c → IsCell d → uniq_of c ≡ uniq_of d → c ≡ d
 one_cell c d h k e =
     let a = uniq_bounds c h in
@@ -89,19 +89,19 @@ same_cells (c ∷ cs) (d ∷ ds) h k e =
     let others : map uniq_of cs ≡ map uniq_of ds = cc in
     ap (λ (x : CellNumber). x ∷ cs) (one_cell c d h.0 k.0 first) ∙ ap (λ (xs : List CellNumber). d ∷ xs) (same_cells cs ds h.1 k.1 others)
 
--- ---- the line at the front
+-- ---- the first line
 
 digit_no_end : (d : ℕ) → is_ascii_digit d ≡ true → eqb d 10 ≡ false
 digit_no_end d h = grind (arith, nat_tests)
 
--- digits that an LF ends
+-- digits that end with LF
 lines_cut : (ds rest : List ℕ) → all_ascii_digits ds ≡ true → lines_of (ds ++ 10 ∷ rest) ≡ ds ∷ lines_of rest
 lines_cut [] rest h = refl
 lines_cut (d ∷ ds) rest h =
     let p = both (is_ascii_digit d) (all_ascii_digits ds) h in
     rw (digit_no_end d p.0) (ap (onto_first d) (lines_cut ds rest p.1))
 
--- digits that the text's end ends
+-- digits that end with the text
 lines_last : (ds : List ℕ) → 0 < length ds → all_ascii_digits ds ≡ true → lines_of ds ≡ ds ∷ []
 lines_last [] some h = absurd (omega arith)
 lines_last (d ∷ []) some h =
@@ -111,18 +111,18 @@ lines_last (d ∷ e ∷ ds) some h =
     let p = both (is_ascii_digit d) (all_ascii_digits (e ∷ ds)) h in
     rw (digit_no_end d p.0) (ap (onto_first d) (lines_last (e ∷ ds) (omega arith) p.1))
 
--- what ends a line
-line_end : (b : ℕ) (more rest : List ℕ) → behind_line_feed (b ∷ more) ≡ Some rest → (b ≡ 10) × (more ≡ rest)
+-- the end of a line
+line_end : (b : ℕ) (more rest : List ℕ) → after_line_feed (b ∷ more) ≡ Some rest → (b ≡ 10) × (more ≡ rest)
 line_end b more rest h =
     elim (eqb b 10) as (λ v. eqb b 10 ≡ v → cond v (Some more) None ≡ Some rest → (b ≡ 10) × (more ≡ rest)) [
       | true ↦ λ e k. let same : more ≡ rest = cc in (eqb-true b 10 e, same)
       | false ↦ λ e k. absurd cc
     ] refl h
 
-no_line_end : (b : ℕ) (more : List ℕ) → behind_line_feed (b ∷ more) ≡ None → eqb b 10 ≡ false
+no_line_end : (b : ℕ) (more : List ℕ) → after_line_feed (b ∷ more) ≡ None → eqb b 10 ≡ false
 no_line_end b more h = elim (eqb b 10) as (λ v. cond v (Some more) None ≡ None → v ≡ false) [ true ↦ λ k. absurd cc | false ↦ λ k. refl ] h
 
-front_line : (ds after rest : List ℕ) → 0 < length (ds ++ after) → all_ascii_digits ds ≡ true → behind_line_feed after ≡ Some rest → (lines_of (ds ++ after) ≡ ds ∷ lines_of rest) × (length rest ≤ length after)
+front_line : (ds after rest : List ℕ) → 0 < length (ds ++ after) → all_ascii_digits ds ≡ true → after_line_feed after ≡ Some rest → (lines_of (ds ++ after) ≡ ds ∷ lines_of rest) × (length rest ≤ length after)
 front_line ds [] rest some h e =
     let none : [] ≡ rest = cc in
     let whole : ds ++ [] ≡ ds = append-nil ds in
@@ -131,12 +131,12 @@ front_line ds (b ∷ more) rest some h e =
     let k = line_end b more rest e in
     (ap (λ (n : ℕ). lines_of (ds ++ n ∷ more)) k.0 ∙ lines_cut ds more h ∙ ap (λ (r : List ℕ). ds ∷ lines_of r) k.1, omega (arith, ap length k.1))
 
-front_lines : (bytes rest : List ℕ) → 0 < length bytes → behind_line_feed (past_digits bytes) ≡ Some rest → lines_of bytes ≡ front_digits bytes ∷ lines_of rest
+front_lines : (bytes rest : List ℕ) → 0 < length bytes → after_line_feed (after_digits bytes) ≡ Some rest → lines_of bytes ≡ leading_digits bytes ∷ lines_of rest
 front_lines bytes rest some e =
     let split = digits-split bytes in
-    ap lines_of split ∙ (front_line (front_digits bytes) (past_digits bytes) rest (omega (arith, some, ap length split)) (front-digits bytes) e).0
+    ap lines_of split ∙ (front_line (leading_digits bytes) (after_digits bytes) rest (omega (arith, some, ap length split)) (front-digits bytes) e).0
 
--- ---- a line with a byte that is no digit
+-- ---- a line with a byte that is not a digit
 
 onto_first_is : (b : ℕ) (lines : List (List ℕ)) → (l : List ℕ) × (ls : List (List ℕ)) × (onto_first b lines ≡ (b ∷ l) ∷ ls)
 onto_first_is b [] = ([], [], refl)
@@ -156,18 +156,18 @@ not_digits [] b l e = rw e refl
 not_digits (d ∷ ds) b l e =
     ap (λ v. is_ascii_digit d && v) (not_digits ds b l e) ∙ elim (is_ascii_digit d) as (λ v. (v && false) ≡ false) [ true ↦ refl | false ↦ refl ]
 
-bad_byte : (n : ℕ) (line : List ℕ) → all_ascii_digits line ≡ false → uniq_line_fault n line ≡ Some (BadByte n)
+bad_byte : (n : ℕ) (line : List ℕ) → all_ascii_digits line ≡ false → uniq_line_error n line ≡ Some (BadByte n)
 bad_byte n [] h = absurd cc
 bad_byte n (b ∷ line) h = rw h refl
 
-bad_after : (n : ℕ) (ds after : List ℕ) → all_ascii_digits ds ≡ true → starts_with_digit after ≡ false → behind_line_feed after ≡ None → first_fault_of uniq_line_fault n (lines_of (ds ++ after)) ≡ Some (BadByte n)
+bad_after : (n : ℕ) (ds after : List ℕ) → all_ascii_digits ds ≡ true → starts_with_digit after ≡ false → after_line_feed after ≡ None → first_error_of uniq_line_error n (lines_of (ds ++ after)) ≡ Some (BadByte n)
 bad_after n ds [] h stops none = absurd cc
 bad_after n ds (b ∷ more) h stops none =
     let f = lines_bad ds b more h (no_line_end b more none) in
-    ap (first_fault_of uniq_line_fault n) f.2 ∙ ap (λ x. option_or x (first_fault_of uniq_line_fault (n + 1) f.1)) (bad_byte n (ds ++ b ∷ f.0) (not_digits ds b f.0 stops))
+    ap (first_error_of uniq_line_error n) f.2 ∙ ap (λ x. option_or x (first_error_of uniq_line_error (n + 1) f.1)) (bad_byte n (ds ++ b ∷ f.0) (not_digits ds b f.0 stops))
 
-pub line_bad : (n : ℕ) (bytes : List ℕ) → behind_line_feed (past_digits bytes) ≡ None → first_fault_of uniq_line_fault n (lines_of bytes) ≡ Some (BadByte n)
-line_bad n bytes none = ap (λ (b : List ℕ). first_fault_of uniq_line_fault n (lines_of b)) (digits-split bytes) ∙ bad_after n (front_digits bytes) (past_digits bytes) (front-digits bytes) (past-digits bytes) none
+pub line_bad : (n : ℕ) (bytes : List ℕ) → after_line_feed (after_digits bytes) ≡ None → first_error_of uniq_line_error n (lines_of bytes) ≡ Some (BadByte n)
+line_bad n bytes none = ap (λ (b : List ℕ). first_error_of uniq_line_error n (lines_of b)) (digits-split bytes) ∙ bad_after n (leading_digits bytes) (after_digits bytes) (front-digits bytes) (past-digits bytes) none
 
 -- ---- a line of digits
 
@@ -182,50 +182,50 @@ numbers_cons (b ∷ l) ls some = refl
 abbrev line_test : ℕ → Bool → ℕ → Option UniqError
 line_test n digits v = cond (not digits) (Some (BadByte n)) (cond (is_uniq v) None (Some (NotUniq n)))
 
-fault_cons : (n : ℕ) (l : List ℕ) → 0 < length l → uniq_line_fault n l ≡ line_test n (all_ascii_digits l) (digits_value 10 l)
+fault_cons : (n : ℕ) (l : List ℕ) → 0 < length l → uniq_line_error n l ≡ line_test n (all_ascii_digits l) (digits_value 10 l)
 fault_cons n [] some = absurd (omega arith)
 fault_cons n (b ∷ l) some = refl
 
-line_fine : (n : ℕ) (l : List ℕ) → IsNumber l → 4 ≤ digits_value 10 l → digits_value 10 l < 2 ^ 62 → uniq_line_fault n l ≡ None
+line_fine : (n : ℕ) (l : List ℕ) → IsNumber l → 4 ≤ digits_value 10 l → digits_value 10 l < 2 ^ 62 → uniq_line_error n l ≡ None
 line_fine n l h low high = fault_cons n l h.0 ∙ rw (h.1, le-leb 4 (digits_value 10 l) low, lt-ltb (digits_value 10 l) (2 ^ 62) high) refl
 
-shorter : (bytes rest : List ℕ) → 0 < length bytes → behind_line_feed (past_digits bytes) ≡ Some rest → length rest < length bytes
-shorter bytes rest some e = shorter_parts (front_digits bytes) (past_digits bytes) rest (omega (arith, some, ap length split)) e (ap length split)
+shorter : (bytes rest : List ℕ) → 0 < length bytes → after_line_feed (after_digits bytes) ≡ Some rest → length rest < length bytes
+shorter bytes rest some e = shorter_parts (leading_digits bytes) (after_digits bytes) rest (omega (arith, some, ap length split)) e (ap length split)
   where
-    split : bytes ≡ front_digits bytes ++ past_digits bytes
+    split : bytes ≡ leading_digits bytes ++ after_digits bytes
     split = digits-split bytes
 
-    shorter_parts : (ds after rest : List ℕ) → 0 < length (ds ++ after) → behind_line_feed after ≡ Some rest → length bytes ≡ length (ds ++ after) → length rest < length bytes
+    shorter_parts : (ds after rest : List ℕ) → 0 < length (ds ++ after) → after_line_feed after ≡ Some rest → length bytes ≡ length (ds ++ after) → length rest < length bytes
     shorter_parts ds [] rest some e is = let none : [] ≡ rest = cc in omega (arith, ap length none)
     shorter_parts ds (b ∷ more) rest some e is = omega (arith, ap length (line_end b more rest e).1, length-append ds (b ∷ more))
 
 -- an empty line
-pub line_empty : (n : ℕ) (bytes rest : List ℕ) (old : NumberSet) → 0 < length bytes → behind_line_feed (past_digits bytes) ≡ Some rest → length (past_digits bytes) ≡ length bytes → IsLineRead n bytes old rest old
+pub line_empty : (n : ℕ) (bytes rest : List ℕ) (old : NumberSet) → 0 < length bytes → after_line_feed (after_digits bytes) ≡ Some rest → length (after_digits bytes) ≡ length bytes → IsLineRead n bytes old rest old
 unfolding pixels_of
 line_empty n bytes rest old some e same =
-    let none : front_digits bytes ≡ [] = no_digits (front_digits bytes) (omega (arith, same, ap length (digits-split bytes), length-append (front_digits bytes) (past_digits bytes))) in
+    let none : leading_digits bytes ≡ [] = no_digits (leading_digits bytes) (omega (arith, same, ap length (digits-split bytes), length-append (leading_digits bytes) (after_digits bytes))) in
     let lines : lines_of bytes ≡ [] ∷ lines_of rest = front_lines bytes rest some e ∙ ap (λ (l : List ℕ). l ∷ lines_of rest) none in
     record {
       shorter = shorter bytes rest some e;
       part = record { cells = []; are_cells = tt; numbers = ap numbers_on lines; set_is = sym (union-empty old) };
-      fault = ap (first_fault_of uniq_line_fault n) lines;
+      fault = ap (first_error_of uniq_line_error n) lines;
     }
 
-some_digits : (bytes : List ℕ) → (length (past_digits bytes) ≡ length bytes → ⊥) → 0 < length (front_digits bytes)
-some_digits bytes h = elim (cases_lt 0 (length (front_digits bytes))) [
+some_digits : (bytes : List ℕ) → (length (after_digits bytes) ≡ length bytes → ⊥) → 0 < length (leading_digits bytes)
+some_digits bytes h = elim (cases_lt 0 (length (leading_digits bytes))) [
   | inl lt ↦ lt
-  | inr none ↦ absurd (h (omega (arith, none, ap length (digits-split bytes), length-append (front_digits bytes) (past_digits bytes))))
+  | inr none ↦ absurd (h (omega (arith, none, ap length (digits-split bytes), length-append (leading_digits bytes) (after_digits bytes))))
 ]
 
 below_top : (v top n : ℕ) → n < top → min v top ≡ n → v ≡ n
 below_top v top n lt e = omega arith
 
 -- a line with the number of a cell
-pub line_cell : (n : ℕ) (bytes rest : List ℕ) (old new : NumberSet) (c : CellNumber) → 0 < length bytes → behind_line_feed (past_digits bytes) ≡ Some rest → (length (past_digits bytes) ≡ length bytes → ⊥) → IsCell c → uniq_of c ≡ held_after 0 (front_digits bytes)
+pub line_cell : (n : ℕ) (bytes rest : List ℕ) (old new : NumberSet) (c : CellNumber) → 0 < length bytes → after_line_feed (after_digits bytes) ≡ Some rest → (length (after_digits bytes) ≡ length bytes → ⊥) → IsCell c → uniq_of c ≡ saturated_value 0 (leading_digits bytes)
     → new ≡ set.union old (span c.order c.index) → IsLineRead n bytes old rest new
 unfolding pixels_of
 line_cell n bytes rest old new c some e digits is number added =
-    let ds = front_digits bytes in
+    let ds = leading_digits bytes in
     let h : IsNumber ds = (some_digits bytes digits, front-digits bytes) in
     let range = uniq_range c is in
     let value : digits_value 10 ds ≡ uniq_of c = below_top (digits_value 10 ds) (2 ^ 64 - 1) (uniq_of c) (omega (arith, range.1)) (sym (held_is ds h.1) ∙ sym number) in
@@ -238,7 +238,7 @@ line_cell n bytes rest old new c some e digits is number added =
         numbers = ap numbers_on lines ∙ numbers_cons ds (lines_of rest) h.0 ∙ ap (λ v. v ∷ numbers_on (lines_of rest)) value;
         set_is = added ∙ ap (set.union old) (sym (union-empty (span c.order c.index)));
       };
-      fault = ap (first_fault_of uniq_line_fault n) lines ∙ ap (λ x. option_or x (first_fault_of uniq_line_fault (n + 1) (lines_of rest))) (line_fine n ds h (omega (arith, value, range.0)) (omega (arith, value, range.1)));
+      fault = ap (first_error_of uniq_line_error n) lines ∙ ap (λ x. option_or x (first_error_of uniq_line_error (n + 1) (lines_of rest))) (line_fine n ds h (omega (arith, value, range.0)) (omega (arith, value, range.1)));
     }
 
 wrong_number : (v top : ℕ) → 2 ^ 62 ≤ top → ((4 ≤ min v top) × (min v top < 2 ^ 62) → ⊥) → is_uniq v ≡ false
@@ -250,16 +250,16 @@ wrong_number v top le h = elim (cases_lt v 4) [
   ]
 ]
 
--- a line with another number
-pub line_wrong : (n : ℕ) (bytes rest : List ℕ) → 0 < length bytes → behind_line_feed (past_digits bytes) ≡ Some rest → (length (past_digits bytes) ≡ length bytes → ⊥)
-    → ((4 ≤ held_after 0 (front_digits bytes)) × (held_after 0 (front_digits bytes) < 2 ^ 62) → ⊥) → first_fault_of uniq_line_fault n (lines_of bytes) ≡ Some (NotUniq n)
+-- a line with any other number
+pub line_wrong : (n : ℕ) (bytes rest : List ℕ) → 0 < length bytes → after_line_feed (after_digits bytes) ≡ Some rest → (length (after_digits bytes) ≡ length bytes → ⊥)
+    → ((4 ≤ saturated_value 0 (leading_digits bytes)) × (saturated_value 0 (leading_digits bytes) < 2 ^ 62) → ⊥) → first_error_of uniq_line_error n (lines_of bytes) ≡ Some (NotUniq n)
 line_wrong n bytes rest some e digits wrong =
-    let ds = front_digits bytes in
+    let ds = leading_digits bytes in
     let h : IsNumber ds = (some_digits bytes digits, front-digits bytes) in
-    let held : held_after 0 ds ≡ min (digits_value 10 ds) (2 ^ 64 - 1) = held_is ds h.1 in
+    let held : saturated_value 0 ds ≡ min (digits_value 10 ds) (2 ^ 64 - 1) = held_is ds h.1 in
     let w : is_uniq (digits_value 10 ds) ≡ false = wrong_number (digits_value 10 ds) (2 ^ 64 - 1) (omega arith) (λ r. wrong (omega (arith, held, r.0), omega (arith, held, r.1))) in
-    let f : uniq_line_fault n ds ≡ Some (NotUniq n) = fault_cons n ds h.0 ∙ rw (h.1, w) refl in
-    ap (first_fault_of uniq_line_fault n) (front_lines bytes rest some e) ∙ ap (λ x. option_or x (first_fault_of uniq_line_fault (n + 1) (lines_of rest))) f
+    let f : uniq_line_error n ds ≡ Some (NotUniq n) = fault_cons n ds h.0 ∙ rw (h.1, w) refl in
+    ap (first_error_of uniq_line_error n) (front_lines bytes rest some e) ∙ ap (λ x. option_or x (first_error_of uniq_line_error (n + 1) (lines_of rest))) f
 
 -- ---- all lines
 
@@ -280,7 +280,7 @@ part_more text bytes rest old new p q = record {
 }
 
 pub so_far_none : (text : List ℕ) → LinesSoFar text text 1 set.empty
-unfolding uniq_fault
+unfolding uniq_error
 so_far_none text = record { part = part_none text; fault = refl; within = omega arith }
 
 pub so_far_more : (text bytes rest : List ℕ) (line : ℕ) (old new : NumberSet) → LinesSoFar text bytes line old → IsLineRead line bytes old rest new → LinesSoFar text rest (line + 1) new
@@ -292,25 +292,25 @@ so_far_more text bytes rest line old new p q = record {
 
 -- ---- the text
 
-pub lines_say : (text rest : List ℕ) (line : ℕ) (a : NumberSet) → length rest ≡ 0 → LinesSoFar text rest line a → SaysUniq text a
+pub lines_say : (text rest : List ℕ) (line : ℕ) (a : NumberSet) → length rest ≡ 0 → LinesSoFar text rest line a → RepresentsUniq text a
 lines_say text (b ∷ rest) line a none r = absurd (omega arith)
 lines_say text [] line a none r = record {
-  faultless = r.fault;
+  without_error = r.fault;
   cells = r.part.cells;
   are_cells = r.part.are_cells;
   numbers = sym (r.part.numbers ∙ append-nil (map uniq_of r.part.cells));
   pixels_are = r.part.set_is ∙ empty-union (pixels_of r.part.cells);
 }
 
--- a text says one set
-pub one_set : (text : List ℕ) (a b : NumberSet) → SaysUniq text a → SaysUniq text b → a ≡ b
+-- a text represents at most one set
+pub one_set : (text : List ℕ) (a b : NumberSet) → RepresentsUniq text a → RepresentsUniq text b → a ≡ b
 one_set text a b x y =
     let cells : x.cells ≡ y.cells = same_cells x.cells y.cells x.are_cells y.are_cells (x.numbers ∙ sym y.numbers) in
     x.pixels_are ∙ ap pixels_of cells ∙ sym y.pixels_are
 
--- ---- what is written is read
+-- ---- a written list is parsed as the set
 
--- each number in decimal, and LF
+-- each number in decimal, followed by LF
 abbrev number_lines : List ℕ → List ℕ
 number_lines ns = flat_map (λ n. decimal n ++ 10 ∷ []) ns
 
@@ -331,24 +331,24 @@ small_numbers : (cells : List CellNumber) → AllByRecursion IsCell cells → Al
 small_numbers [] h = tt
 small_numbers (c ∷ cells) h = ((uniq_range c h.0).1, small_numbers cells h.1)
 
-decimals_fine : (at : ℕ) (cells : List CellNumber) → AllByRecursion IsCell cells → first_fault_of uniq_line_fault at (map decimal (map uniq_of cells)) ≡ None
+decimals_fine : (at : ℕ) (cells : List CellNumber) → AllByRecursion IsCell cells → first_error_of uniq_line_error at (map decimal (map uniq_of cells)) ≡ None
 decimals_fine at [] h = refl
 decimals_fine at (c ∷ cells) h =
     let range = uniq_range c h.0 in
     let n : IsNumber (decimal (uniq_of c)) = IsNumber-decimal (uniq_of c) (omega (arith, range.1)) in
     let value = value-decimal (uniq_of c) (omega (arith, range.1)) in
-    ap (λ x. option_or x (first_fault_of uniq_line_fault (at + 1) (map decimal (map uniq_of cells)))) (line_fine at (decimal (uniq_of c)) n (omega (arith, value, range.0)) (omega (arith, value, range.1)))
+    ap (λ x. option_or x (first_error_of uniq_line_error (at + 1) (map decimal (map uniq_of cells)))) (line_fine at (decimal (uniq_of c)) n (omega (arith, value, range.0)) (omega (arith, value, range.1)))
     ∙ decimals_fine (at + 1) cells h.1
 
-pub written_uniq_is_read : (a : NumberSet) → IsWithin a pixels → SaysUniq (uniq_text a) a
-unfolding uniq_text uniq_fault
+pub written_uniq_is_read : (a : NumberSet) → IsWithin a pixels → RepresentsUniq (uniq_text a) a
+unfolding uniq_text uniq_error
 written_uniq_is_read a in_pixels =
     let cells = cells_of a in
     let are : AllByRecursion IsCell cells = cells_are a in
     let lines : lines_of (flat_map (λ c. decimal (uniq_of c) ++ 10 ∷ []) cells) ≡ map decimal (map uniq_of cells) =
     ap lines_of (sym (flat_map-map (λ n. decimal n ++ 10 ∷ []) uniq_of cells)) ∙ lines_numbers (map uniq_of cells) (small_numbers cells are) in
     record {
-      faultless = ap (first_fault_of uniq_line_fault 1) lines ∙ decimals_fine 1 cells are;
+      without_error = ap (first_error_of uniq_line_error 1) lines ∙ decimals_fine 1 cells are;
       cells = cells;
       are_cells = are;
       numbers = sym (ap numbers_on lines ∙ numbers_decimal (map uniq_of cells) (small_numbers cells are));

@@ -1,4 +1,4 @@
--- A written text is read as it was meant.
+-- A written text is parsed as the set that was written.
 use Rattle.std.proofs.Common.{◌≡◌, ℕ, suc, ◌+◌, ◌^◌, ◌<◌, ◌≤◌, Bool, true, false, cond, eqb, leb, ltb, ◌&&◌, ◌||◌, ◌/◌, List, [], ◌∷◌, ◌++◌, length, map, max, Option, Some, None, option_map, option_to_list, refl, sym, ap, subst, ◌∙◌, arith, inl, inr}
 use Rattle.std.specs.Prelude.{decimal}
 use Rattle.std.specs.Str.{all_ascii_digits}
@@ -13,15 +13,15 @@ use Rattle.std.proofs.lemmas.Str.Parse.{digit_from_value}
 use Rattle.std.proofs.lemmas.Fmt.{decimal_is_IsNumeral}
 use Rattle.moc_text.specs.Ascii.{Word, words, words_from, IsNumber, Mark, mark_text, ItemText, OneCell, CellRange, item_text}
 use Rattle.moc_text.specs.Ascii.{IsItemText, Shape, JustMark, JustItem, MarkItem, shape_text, IsShape, numbers_at, mark_at}
-use Rattle.moc_text.specs.Ascii.{item_at, order_in_force, last_cell, mark_fault, item_fault, fault_of, item_pixels}
-use Rattle.moc_text.specs.Ascii.{pixels_said, deeper, deepest_of, AreNumbersOf, Says}
-use Rattle.moc_text.specs.AsciiText.{run_of_one, follows, runs_from, runs_of, run_text, order_text, mark_text_of, stated_beyond, words_of, ascii_text, IsTooCoarse, deepest_cell, deepest_written}
+use Rattle.moc_text.specs.Ascii.{item_at, current_order, last_cell, mark_error, item_error, error_of, item_pixels}
+use Rattle.moc_text.specs.Ascii.{pixels_of_words, deeper, deepest_of, AreNumbersOf, Represents}
+use Rattle.moc_text.specs.AsciiText.{run_of_one, follows, runs_from, runs_of, run_text, order_text, mark_text_of, stated_if_deeper, words_of, ascii_text, IsTooCoarse, deepest_cell, deepest_written}
 use Rattle.moc_text.specs.declared.ascii.number.Item.{Item}
 use Rattle.moc_text.specs.declared.ascii.number.WordNumbers.{WordNumbers}
 use Rattle.moc_text.specs.declared.ascii.writing.Run.{Run as CellRun}
 use Rattle.moc_text.specs.declared.ascii.error.TextError.TheVariants.{OrderTooLarge}
 use Rattle.moc_text.proofs.Automaton.{both}
-use Rattle.moc_text.proofs.Cuts.{words_front, words_skip}
+use Rattle.moc_text.proofs.WordBoundaries.{words_front, words_skip}
 use Rattle.moc_text.proofs.ReadWords.{shape_part, shape_some, deeper_assoc, deeper-None}
 use Rattle.moc_text.proofs.Powers.{cells_fit}
 use Rattle.moc_text.proofs.Held.{IsSmall}
@@ -52,9 +52,9 @@ IsNumber-decimal n h =
 pub value-decimal : (n : ℕ) → n < 2 ^ 64 → digits_value 10 (decimal n) ≡ n
 value-decimal n h = (decimal_is_IsNumeral n h).1
 
--- ---- the words of words parted by spaces
+-- ---- the words of words separated by spaces
 
--- words of these shapes, from a place on
+-- words with these shapes, from an offset on
 abbrev placed : ℕ → List Shape → List Word
 placed at [] = []
 placed at (s ∷ ss) = record { at = at; bytes = shape_text s } ∷ placed (at + length (shape_text s) + 1) ss
@@ -88,7 +88,7 @@ bare_shapes None = []
 bare_shapes (Some k) = JustMark (order_mark k) ∷ []
 
 abbrev shapes_of : Option ℕ → Option ℕ → List CellRun → List Shape
-shapes_of stated before [] = bare_shapes (stated_beyond before stated)
+shapes_of stated before [] = bare_shapes (stated_if_deeper before stated)
 shapes_of stated before (r ∷ rs) = run_shape before r ∷ shapes_of stated (Some r.order) rs
 
 run_cells-text : (r : CellRun) → item_text (run_cells r) ≡ run_text r
@@ -102,12 +102,12 @@ run_shape-text (Some j) r =
       | false ↦ ap (λ (t : List ℕ). order_text r.order ++ t) (run_cells-text r)
     ]
 
-bare_shapes-text : (bare : Option ℕ) → map shape_text (bare_shapes bare) ≡ option_to_list (option_map order_text bare)
+bare_shapes-text : (empty_order : Option ℕ) → map shape_text (bare_shapes empty_order) ≡ option_to_list (option_map order_text empty_order)
 bare_shapes-text None = refl
 bare_shapes-text (Some k) = refl
 
 shapes_of-text : (stated before : Option ℕ) (rs : List CellRun) → map shape_text (shapes_of stated before rs) ≡ words_of stated before rs
-shapes_of-text stated before [] = bare_shapes-text (stated_beyond before stated)
+shapes_of-text stated before [] = bare_shapes-text (stated_if_deeper before stated)
 shapes_of-text stated before (r ∷ rs) =
     ap (λ (w : List ℕ). w ∷ map shape_text (shapes_of stated (Some r.order) rs)) (run_shape-text before r)
     ∙ ap (λ (ws : List (List ℕ)). (mark_text_of before r.order ++ run_text r) ∷ ws) (shapes_of-text stated (Some r.order) rs)
@@ -138,7 +138,7 @@ runs_of-all (c ∷ cs) all =
     let k : IsCell c = all.0 in
     runs_from-all (run_of_one c) cs (record { order = k.order_in_range; forwards = omega arith; last = k.index_in_range }) all.1
 
--- ---- the shapes are lawful
+-- ---- the shapes are valid
 
 run_cells_are : (r : CellRun) → IsRun r → IsItemText (run_cells r)
 run_cells_are r h =
@@ -155,17 +155,17 @@ run_shape_is None r h = (order_number r.order h.order, run_cells_are r h)
 run_shape_is (Some j) r h =
     elim (eqb j r.order) as (λ v. IsShape (cond v (JustItem (run_cells r)) (MarkItem (order_mark r.order) (run_cells r)))) [ true ↦ run_cells_are r h | false ↦ (order_number r.order h.order, run_cells_are r h) ]
 
-bare_shapes_are : (bare : Option ℕ) → IsSmall bare → AllByRecursion IsShape (bare_shapes bare)
+bare_shapes_are : (empty_order : Option ℕ) → IsSmall empty_order → AllByRecursion IsShape (bare_shapes empty_order)
 bare_shapes_are None h = tt
 bare_shapes_are (Some k) h = (order_number k (h k refl), tt)
 
-small_beyond : (before stated : Option ℕ) → IsSmall stated → IsSmall (stated_beyond before stated)
+small_beyond : (before stated : Option ℕ) → IsSmall stated → IsSmall (stated_if_deeper before stated)
 small_beyond before None h = h
 small_beyond None (Some k) h = h
 small_beyond (Some j) (Some k) h = elim (ltb j k) as (λ v. IsSmall (cond v (Some k) None)) [ true ↦ h | false ↦ λ n e. absurd cc ]
 
 shapes_are : (stated before : Option ℕ) (rs : List CellRun) → IsSmall stated → AllByRecursion IsRun rs → AllByRecursion IsShape (shapes_of stated before rs)
-shapes_are stated before [] small h = bare_shapes_are (stated_beyond before stated) (small_beyond before stated small)
+shapes_are stated before [] small h = bare_shapes_are (stated_if_deeper before stated) (small_beyond before stated small)
 shapes_are stated before (r ∷ rs) small h = (run_shape_is before r h.0, shapes_are stated (Some r.order) rs small h.1)
 
 -- ---- their numbers
@@ -184,16 +184,16 @@ run_item at r h =
       | false ↦ λ e. record { first = a; last = b }
     ] refl
 
--- what a run's numbers say, where an order was in force or none
+-- the meaning of a run's numbers, with an optional current order
 record RunParts (before : Option ℕ) (r : CellRun) (n : WordNumbers) : Type 0 where
-  mark : mark_fault n.mark ≡ None
-  order : order_in_force before n.mark ≡ Some r.order
-  deepest : (x : Option ℕ) → deeper before (deeper (order_in_force None n.mark) x) ≡ deeper before (deeper (Some r.order) x)
+  mark : mark_error n.mark ≡ None
+  order : current_order before n.mark ≡ Some r.order
+  deepest : (x : Option ℕ) → deeper before (deeper (current_order None n.mark) x) ≡ deeper before (deeper (Some r.order) x)
   item : Item
   item_is : n.item ≡ Some item
   values : RunItem r item
 
-order_mark-fault : (at k : ℕ) → k ≤ 29 → mark_fault (Some (mark_at at (order_mark k))) ≡ None
+order_mark-fault : (at k : ℕ) → k ≤ 29 → mark_error (Some (mark_at at (order_mark k))) ≡ None
 order_mark-fault at k h = ap (λ v. cond (ltb 29 v) (Some (OrderTooLarge (at + 0))) None) (value-decimal k (omega arith)) ∙ rw (le-ltb 29 k h) refl
 
 order_mark-value : (at k : ℕ) → k ≤ 29 → Some ((mark_at at (order_mark k)).value) ≡ Some k
@@ -229,24 +229,24 @@ run_parts (Some j) at r h =
       | false ↦ λ e. marked_parts (Some j) at r h
     ] refl
 
-item_ok : (k at : ℕ) (i : Item) (r : CellRun) → RunItem r i → r.first ≤ r.last → r.last < cell_count k → item_fault (Some k) at (Some i) ≡ None
+item_ok : (k at : ℕ) (i : Item) (r : CellRun) → RunItem r i → r.first ≤ r.last → r.last < cell_count k → item_error (Some k) at (Some i) ≡ None
 item_ok k at i r v le lt =
     let a : ltb i.first.value (cell_count k) ≡ true = lt-ltb _ _ (omega (arith, v.first)) in
     let b : ltb (last_cell i).value (cell_count k) ≡ true = lt-ltb _ _ (omega (arith, v.last)) in
     let c : ltb (last_cell i).value i.first.value ≡ false = le-ltb _ _ (omega (arith, v.first, v.last)) in
     rw (a, b, c) refl
 
-run_fault : (before : Option ℕ) (at : ℕ) (r : CellRun) (n : WordNumbers) → IsRun r → RunParts before r n → fault_of before at n ≡ None
+run_fault : (before : Option ℕ) (at : ℕ) (r : CellRun) (n : WordNumbers) → IsRun r → RunParts before r n → error_of before at n ≡ None
 run_fault before at r n h p =
-    let i : item_fault (order_in_force before n.mark) at n.item ≡ None = ap (λ k. item_fault k at n.item) p.order ∙ ap (item_fault (Some r.order) at) p.item_is ∙ item_ok r.order at p.item r p.values h.forwards h.last in
+    let i : item_error (current_order before n.mark) at n.item ≡ None = ap (λ k. item_error k at n.item) p.order ∙ ap (item_error (Some r.order) at) p.item_is ∙ item_ok r.order at p.item r p.values h.forwards h.last in
     rw (p.mark, i) refl
 
-bare_read : (before bare : Option ℕ) (at : ℕ) → IsSmall bare → AreNumbersOf before (placed at (bare_shapes bare)) (numbers at (bare_shapes bare))
+bare_read : (before empty_order : Option ℕ) (at : ℕ) → IsSmall empty_order → AreNumbersOf before (placed at (bare_shapes empty_order)) (numbers at (bare_shapes empty_order))
 bare_read before None at h = tt
 bare_read before (Some k) at h = ((JustMark (order_mark k), order_number k (h k refl), refl, refl), ap (λ f. option_or f None) (order_mark-fault at k (h k refl)), tt)
 
 runs_read : (stated before : Option ℕ) (rs : List CellRun) (at : ℕ) → IsSmall stated → AllByRecursion IsRun rs → AreNumbersOf before (placed at (shapes_of stated before rs)) (numbers at (shapes_of stated before rs))
-runs_read stated before [] at small h = bare_read before (stated_beyond before stated) at (small_beyond before stated small)
+runs_read stated before [] at small h = bare_read before (stated_if_deeper before stated) at (small_beyond before stated small)
 runs_read stated before (r ∷ rs) at small h =
     let p = run_parts before at r h.0 in
     let next = at + length (shape_text (run_shape before r)) + 1 in (
@@ -264,24 +264,24 @@ abbrev all_pixels : List CellRun → NumberSet
 all_pixels [] = set.empty
 all_pixels (r ∷ rs) = set.union (run_pixels r) (all_pixels rs)
 
-bare_said : (before bare : Option ℕ) (at : ℕ) → pixels_said before (numbers at (bare_shapes bare)) ≡ set.empty
+bare_said : (before empty_order : Option ℕ) (at : ℕ) → pixels_of_words before (numbers at (bare_shapes empty_order)) ≡ set.empty
 bare_said before None at = refl
 bare_said before (Some k) at = empty-union set.empty
 
-run_said : (before : Option ℕ) (r : CellRun) (n : WordNumbers) → RunParts before r n → item_pixels (order_in_force before n.mark) n.item ≡ run_pixels r
+run_said : (before : Option ℕ) (r : CellRun) (n : WordNumbers) → RunParts before r n → item_pixels (current_order before n.mark) n.item ≡ run_pixels r
 run_said before r n p =
     ap (λ k. item_pixels k n.item) p.order ∙ ap (item_pixels (Some r.order)) p.item_is
     ∙ ap (λ (f : ℕ). spans r.order f (last_cell p.item).value) p.values.first
     ∙ ap (spans r.order r.first) p.values.last
 
-runs_said : (stated before : Option ℕ) (rs : List CellRun) (at : ℕ) → AllByRecursion IsRun rs → pixels_said before (numbers at (shapes_of stated before rs)) ≡ all_pixels rs
-runs_said stated before [] at h = bare_said before (stated_beyond before stated) at
+runs_said : (stated before : Option ℕ) (rs : List CellRun) (at : ℕ) → AllByRecursion IsRun rs → pixels_of_words before (numbers at (shapes_of stated before rs)) ≡ all_pixels rs
+runs_said stated before [] at h = bare_said before (stated_if_deeper before stated) at
 runs_said stated before (r ∷ rs) at h =
     let n = numbers_at at (run_shape before r) in
     let p = run_parts before at r h.0 in
     let others = numbers (at + length (shape_text (run_shape before r)) + 1) (shapes_of stated (Some r.order) rs) in
-    ap (λ (x : NumberSet). set.union x (pixels_said (order_in_force before n.mark) others)) (run_said before r n p)
-    ∙ ap (λ (k : Option ℕ). set.union (run_pixels r) (pixels_said k others)) p.order
+    ap (λ (x : NumberSet). set.union x (pixels_of_words (current_order before n.mark) others)) (run_said before r n p)
+    ∙ ap (λ (k : Option ℕ). set.union (run_pixels r) (pixels_of_words k others)) p.order
     ∙ ap (set.union (run_pixels r)) (runs_said stated (Some r.order) rs (at + length (shape_text (run_shape before r)) + 1) h.1)
 
 abbrev deepest_run : List CellRun → Option ℕ
@@ -291,7 +291,7 @@ deepest_run (r ∷ rs) = deeper (Some r.order) (deepest_run rs)
 max_left : (j k : ℕ) → k ≤ j → j ≡ max j k
 max_left j k h = omega arith
 
-stated_deepest : (before stated : Option ℕ) (at : ℕ) → IsSmall stated → deeper before (deepest_of (numbers at (bare_shapes (stated_beyond before stated)))) ≡ deeper before stated
+stated_deepest : (before stated : Option ℕ) (at : ℕ) → IsSmall stated → deeper before (deepest_of (numbers at (bare_shapes (stated_if_deeper before stated)))) ≡ deeper before stated
 stated_deepest before None at h = refl
 stated_deepest None (Some k) at h = order_mark-value at k (h k refl)
 stated_deepest (Some j) (Some k) at h =
@@ -315,7 +315,7 @@ one_more : (first last i : ℕ) (inside : Bool) → first ≤ last → (inside &
 one_more first last i true le = grind (arith, nat_tests)
 one_more first last i false le = refl
 
--- a run of cells that goes on to the next one
+-- a range of cells that is extended to the next cell
 row_more : (k first last : ℕ) → first ≤ last → spans k first (last + 1) ≡ set.union (spans k first last) (span k (last + 1))
 row_more k first last le = same_members _ _ (λ q.
     contains-spans k first (last + 1) q
@@ -325,7 +325,7 @@ row_more k first last le = same_members _ _ (λ q.
     ∙ sym (set.contains-union nat_cmp_total (spans k first last) (spans k (last + 1) (last + 1)) q)
     ∙ ap (λ (a : NumberSet). set.contains (set.union (spans k first last) a) q) (spans-one k (last + 1)))
 
--- a run that goes on to the next cell
+-- a run that is extended to the next cell
 run_more : (r : CellRun) (c : CellNumber) → r.first ≤ r.last → r.last + 1 ≡ c.index → c.order ≡ r.order → run_pixels (record r { last = c.index }) ≡ set.union (run_pixels r) (span c.order c.index)
 run_more r c le n o =
     ap (spans r.order r.first) (sym n) ∙ row_more r.order r.first r.last le
@@ -371,7 +371,7 @@ runs_of-deepest (c ∷ cs) = runs_from-deepest (run_of_one c) cs
 pub not_deeper : (c : CellNumber) (cs : List CellNumber) (k : ℕ) → (HasDeeper (c ∷ cs) (Some k) → ⊥) → c.order ≤ k
 not_deeper c cs k h = elim (cases_lt k c.order) [ inl lt ↦ absurd (h (0, c, omega arith, refl, lt)) | inr le ↦ le ]
 
--- a stated order is at least as deep as each cell
+-- a stated order is at least as deep as every cell
 pub stated_is_deepest : (cells : List CellNumber) (k : ℕ) → (HasDeeper cells (Some k) → ⊥) → deeper (deepest_cell cells) (Some k) ≡ Some k
 stated_is_deepest [] k h = refl
 stated_is_deepest (c ∷ cs) k h =
@@ -386,7 +386,7 @@ deepest_is_written a (Some k) h = stated_is_deepest (cells_of a) k h
 
 -- ---- the whole text
 
-pub written_is_read : (a : NumberSet) (stated : Option ℕ) → IsWithin a pixels → IsSmall stated → (IsTooCoarse a stated → ⊥) → Says (ascii_text a stated) a (deepest_written a stated)
+pub written_is_read : (a : NumberSet) (stated : Option ℕ) → IsWithin a pixels → IsSmall stated → (IsTooCoarse a stated → ⊥) → Represents (ascii_text a stated) a (deepest_written a stated)
 unfolding ascii_text
 written_is_read a stated in_pixels small fine =
     let cells = cells_of a in

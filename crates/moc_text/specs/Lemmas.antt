@@ -1,4 +1,4 @@
--- A lemma on readings, for the proofs of callers: the set that a text says lies in the sky.
+-- A lemma about parsing, for the proofs of callers: the set that a text represents is within the sky.
 pub mod Depths
 use Rattle.std.proofs.Common.{◌≡◌, ℕ, ◌&&◌, ◌||◌, Bool, true, false, List, [], ◌∷◌, Option, None, Some, Result, Ok, Err}
 use Rattle.std.proofs.Common.{refl, sym, ◌∙◌}
@@ -12,11 +12,11 @@ use Rattle.moc_ranges.specs.Lemmas.Members.{contains-pixels, contains-spans}
 use Rattle.moc_text.specs.declared.ascii.number.Item.{Item}
 use Rattle.moc_text.specs.declared.ascii.number.WordNumbers.{WordNumbers}
 use Rattle.moc_text.specs.declared.ascii.error.TextError.{TextError}
-use Rattle.moc_text.specs.Ascii.{words, order_in_force, item_pixels, pixels_said, deepest_of}
+use Rattle.moc_text.specs.Ascii.{words, current_order, item_pixels, pixels_of_words, deepest_of}
 use Rattle.moc_text.specs.Private.Scan.{◌>>=◌}
 use Rattle.moc_text.specs.Private.Scanned.{numbers_of, reading_of}
 
--- the empty set lies in the sky
+-- the empty set is within the sky
 pub empty_within : IsWithin set.empty pixels
 empty_within = record { each = λ q here. absurd (let none = set.contains-empty nat_cmp q in cc (here, none)) }
 
@@ -41,18 +41,18 @@ item_within (Some k) (Some i) = record {
   each = λ q here. contains-pixels q ∙ first_holds _ _ (sym (contains-spans k _ _ q) ∙ here);
 }
 
-said_within : (before : Option ℕ) (ns : List WordNumbers) → IsWithin (pixels_said before ns) pixels
-said_within before [] = empty_within
-said_within before (n ∷ ns) =
-    union_within _ _ (item_within (order_in_force before n.mark) n.item) (said_within (order_in_force before n.mark) ns)
+words_within : (before : Option ℕ) (ns : List WordNumbers) → IsWithin (pixels_of_words before ns) pixels
+words_within before [] = empty_within
+words_within before (n ∷ ns) =
+    union_within _ _ (item_within (current_order before n.mark) n.item) (words_within (current_order before n.mark) ns)
 
 of_numbers : (found : Result (List WordNumbers) TextError)
-    → IfOk {T = NumberSet × Option ℕ} (found >>= (λ ns. Ok (pixels_said None ns, deepest_of ns)))
+    → IfOk {T = NumberSet × Option ℕ} (found >>= (λ ns. Ok (pixels_of_words None ns, deepest_of ns)))
     (λ r. IsWithin r.0 pixels)
-of_numbers (Ok ns) = said_within None ns
+of_numbers (Ok ns) = words_within None ns
 of_numbers (Err e) = tt
 
--- what is read of a text lies in the sky
+-- the set that is parsed from a text is within the sky
 pub read_within : (text : List ℕ) → IfOk (reading_of text) (λ r. IsWithin r.0 pixels)
 unfolding reading_of
 read_within text = of_numbers (numbers_of None (words text))

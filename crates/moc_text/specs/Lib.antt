@@ -3,7 +3,7 @@ pub mod Reading
 pub mod AsciiText
 pub mod Lines
 pub mod UniqList
-pub mod JsonForm
+pub mod JsonFormat
 pub mod JsonText
 pub mod Faults
 pub mod Names

@@ -1,4 +1,4 @@
--- The lines of a text, and its pieces between semicolons.
+-- The lines of a text, and its parts between semicolons.
 use Rattle.std.specs.Prelude.{ℕ, Bool, ◌==◌, List, [], ◌∷◌, if◌then◌else◌}
 use Rattle.std.specs.List.{onto_first, slice_split}
 
@@ -6,7 +6,7 @@ use Rattle.std.specs.List.{onto_first, slice_split}
 abbrev pub is_line_feed : ℕ → Bool
 is_line_feed b = b == 10
 
--- the lines of a text: each ends at a line feed, and bytes after the last line feed are a last line
+-- the lines of a text: each ends with a line feed, and bytes after the last line feed are a last line
 abbrev pub lines_of : List ℕ → List (List ℕ)
 lines_of [] = []
 lines_of (b ∷ bytes) = if is_line_feed b then [] ∷ lines_of bytes else onto_first b (lines_of bytes)
@@ -15,6 +15,6 @@ lines_of (b ∷ bytes) = if is_line_feed b then [] ∷ lines_of bytes else onto_
 abbrev pub is_semicolon : ℕ → Bool
 is_semicolon b = b == 59
 
--- the pieces of a text, parted at the semicolons
+-- the parts of a text between semicolons
 abbrev pub pieces_of : List ℕ → List (List ℕ)
 pieces_of text = slice_split is_semicolon text

@@ -1,4 +1,4 @@
--- Words that contracts of private functions alone cite; no public clause does.
+-- Definitions that only private contracts use.
 pub mod Scan
 pub mod Scanned
 pub mod AsciiReading

@@ -1,4 +1,4 @@
-//! The ASCII form: orders, and behind each its cells and runs of cells.
+//! The ASCII format: orders, each followed by its cells and ranges of cells.
 
 mod error;
 mod number;
@@ -7,6 +7,6 @@ mod scan;
 mod writing;
 
 pub use error::TextError;
-pub use reading::{read_ascii, readings_are_told};
+pub use reading::{read_ascii, readings_are_unique};
 pub use scan::{digits, is_separator};
-pub use writing::{RANGE_ROOM, beyond, deepest_of, depth_of, is_too_coarse, write_ascii};
+pub use writing::{RANGE_CAPACITY, deepest_of, depth_of, if_deeper, is_too_coarse, write_ascii};

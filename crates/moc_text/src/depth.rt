@@ -4,7 +4,7 @@ ghost use Rattle.moc_text.specs.Ascii.{deeper as deeper_of};
 
 use moc_sphere::Order;
 
-/// The deeper of two orders that may be none: so the deepest order of several texts is made of what each names.
+/// Returns the deeper of two optional orders, for example the deepest order that two texts name together.
 pub fn deeper(first: Option<Order>, second: Option<Order>) -> Option<Order>
     ensures { result ≡ deeper_of first second }
 {

@@ -1,4 +1,4 @@
-//! Texts that are written piece by piece.
+//! A buffered writer for texts.
 ghost use Rattle.std.specs.Prelude.{◌≡◌, ◌+◌, ◌<◌, ◌≤◌, ◌++◌, [], ◌∷◌, decimal, IfOk, length, OnOk, take};
 ghost use Rattle.std.specs.Str.{IsAscii};
 ghost use Rattle.std.specs.String.{string_bytes};
@@ -8,18 +8,18 @@ use std::alloc::{AllocError, Global};
 use std::marker::Model;
 use std::str::from_utf8_unchecked;
 
-/// How many bytes wait at most.
-const WAITING: usize = 1024;
+/// The capacity of the buffer in bytes.
+const BUFFER_SIZE: usize = 1024;
 
-/// How many bytes a number takes at most, with the byte before it.
-const LONGEST: usize = 21;
+/// The maximum length of a number and the byte before it.
+const MAX_NUMBER_LENGTH: usize = 21;
 
-/// A text that grows. Its numbers wait in a buffer, and go to its end many at a time.
+/// A text under construction. Numbers are collected in a buffer and appended to the text when the buffer is full.
 #[derive(Drop)]
 pub struct TextWriter {
     text: String,
-    waiting: [u8; WAITING],
-    /// How many bytes wait.
+    pending: [u8; BUFFER_SIZE],
+    /// The number of bytes in the buffer.
     len: usize,
 }
 
@@ -30,12 +30,12 @@ impl Model for TextWriter {
 
     ghost Value = { List ℕ };
 
-    ghost view = { λ w. string_bytes w.text ++ take w.len w.waiting };
+    ghost view = { λ w. string_bytes w.text ++ take w.len w.pending };
 
-    ghost invariant = { λ w. (length w.waiting ≡ 1024) × (w.len ≤ 1024) × IsAscii (take w.len w.waiting) };
+    ghost invariant = { λ w. (length w.pending ≡ 1024) × (w.len ≤ 1024) × IsAscii (take w.len w.pending) };
 }
 
-/// How many digits a number has.
+/// Returns the number of decimal digits of a number.
 #[inline(always)]
 fn digit_count(number: u64) -> usize
     ensures { result ≡ length (decimal number) }
@@ -46,9 +46,9 @@ fn digit_count(number: u64) -> usize
     }
 }
 
-/// Writes a byte, and a number behind it, at a place in a buffer; gives where they end.
+/// Writes a byte and a number at an index of a buffer, and returns the index after them.
 #[inline(always)]
-fn write_number(buffer: &mut [u8; WAITING], at: usize, before: u8, number: u64) -> usize
+fn write_number(buffer: &mut [u8; BUFFER_SIZE], at: usize, before: u8, number: u64) -> usize
     requires { at + 21 ≤ 1024 }
     ensures written { take result buffer.new ≡ take at buffer.old ++ before ∷ decimal number }
     ensures within { result ≤ 1024 }
@@ -59,7 +59,7 @@ fn write_number(buffer: &mut [u8; WAITING], at: usize, before: u8, number: u64) 
     end
 }
 
-/// Puts ASCII at the end of a text.
+/// Appends ASCII bytes to a text. Fails if an allocation fails.
 fn push_ascii(text: &mut String, part: &[u8]) -> Result<(), AllocError>
     requires { IsAscii part.now }
     ensures { OnOk result (string_bytes text.new ≡ string_bytes text.old ++ part.now) }
@@ -68,66 +68,71 @@ fn push_ascii(text: &mut String, part: &[u8]) -> Result<(), AllocError>
     Ok(())
 }
 
-/// Puts what waits at the end of the text, where it leaves no room for a number; gives how many bytes wait on.
+/// Flushes the buffer to the text if it has no capacity left for a number, and returns the number of bytes that remain
+/// in the buffer.
 #[inline(always)]
-fn make_room(text: &mut String, waiting: &[u8; WAITING], len: usize) -> Result<usize, AllocError>
+fn flush_if_full(
+    text: &mut String,
+    pending: &[u8; BUFFER_SIZE],
+    len: usize,
+) -> Result<usize, AllocError>
     requires within { len ≤ 1024 }
-    requires ascii { IsAscii (take len waiting.now) }
-    ensures same { IfOk result (λ left. string_bytes text.new ++ take left waiting.now
-        ≡ string_bytes text.old ++ take len waiting.now) }
-    ensures ascii { IfOk result (λ left. IsAscii (take left waiting.now)) }
-    ensures room { IfOk result (λ left. left + 21 ≤ 1024) }
+    requires ascii { IsAscii (take len pending.now) }
+    ensures same { IfOk result (λ left. string_bytes text.new ++ take left pending.now
+        ≡ string_bytes text.old ++ take len pending.now) }
+    ensures ascii { IfOk result (λ left. IsAscii (take left pending.now)) }
+    ensures capacity { IfOk result (λ left. left + 21 ≤ 1024) }
 {
-    if len + LONGEST <= WAITING {
+    if len + MAX_NUMBER_LENGTH <= BUFFER_SIZE {
         return Ok(len);
     }
-    push_ascii(text, &waiting[..len])?;
+    push_ascii(text, &pending[..len])?;
     Ok(0)
 }
 
 impl TextWriter {
-    /// An empty text, with room for so many bytes.
-    pub fn with_capacity(alloc: Global, room: usize) -> Result<Self, AllocError>
+    /// Creates an empty text with the given capacity in bytes. Fails if an allocation fails.
+    pub fn with_capacity(alloc: Global, capacity: usize) -> Result<Self, AllocError>
         ensures { IfOk result (λ w. w ≡ []) }
     {
         Ok(TextWriter {
-            text: String::with_capacity(alloc, room)?,
-            waiting: [0; WAITING],
+            text: String::with_capacity(alloc, capacity)?,
+            pending: [0; BUFFER_SIZE],
             len: 0,
         })
     }
 
-    /// Puts a part at the end of the text.
+    /// Appends a string. Fails if an allocation fails.
     pub fn push_str(&mut self, part: &str) -> Result<(), AllocError>
         ensures { OnOk result (self.new ≡ self.old ++ part.now) }
     {
-        push_ascii(&mut self.text, &self.waiting[..self.len])?;
+        push_ascii(&mut self.text, &self.pending[..self.len])?;
         self.len = 0;
         self.text.push_str(part)?;
         Ok(())
     }
 
-    /// Puts a byte, and a number behind it, at the end of the text.
+    /// Appends a byte and a decimal number. Fails if an allocation fails.
     #[inline(always)]
     pub fn push_number(&mut self, before: u8, number: u64) -> Result<(), AllocError>
         requires { before < 128 }
         ensures { OnOk result (self.new ≡ self.old ++ before ∷ decimal number) }
     {
-        let len = make_room(&mut self.text, &self.waiting, self.len)?;
-        self.len = write_number(&mut self.waiting, len, before, number);
+        let len = flush_if_full(&mut self.text, &self.pending, self.len)?;
+        self.len = write_number(&mut self.pending, len, before, number);
         Ok(())
     }
 
-    /// The text.
+    /// Returns the text. Fails if an allocation fails.
     pub fn finish(self) -> Result<String, AllocError>
         ensures { IfOk result (λ t. string_bytes t ≡ self) }
     {
         let TextWriter {
             mut text,
-            waiting,
+            pending,
             len,
         } = self;
-        push_ascii(&mut text, &waiting[..len])?;
+        push_ascii(&mut text, &pending[..len])?;
         Ok(text)
     }
 }

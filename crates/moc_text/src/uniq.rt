@@ -1,4 +1,4 @@
-//! NUNIQ lists: the NUNIQ number of a cell on each line.
+//! Lists of NUNIQ numbers: one cell on each line.
 ghost use Rattle.std.specs.Prelude.{◌≡◌, ◌++◌, ◌<◌, ◌∷◌, [], decimal, IfErr, IfOk, length, MatchResult, OnOk};
 ghost use Rattle.std.specs.List.{flat_map};
 ghost use Rattle.std.specs.Option.{option_copied};
@@ -7,41 +7,41 @@ ghost use Rattle.moc_sphere.specs.CellNumber.{uniq_of};
 ghost use Rattle.moc_lists.specs.RangeList.{NumberSet};
 ghost use Rattle.moc_text.specs.Lines.{lines_of};
 ghost use Rattle.moc_text.specs.Names.{name_of_uniq};
-ghost use Rattle.moc_text.specs.Places.{fault_line};
-ghost use Rattle.moc_text.specs.Private.UniqReading.{behind_line_feed, IsLineRead};
+ghost use Rattle.moc_text.specs.Places.{error_line};
+ghost use Rattle.moc_text.specs.Private.UniqReading.{after_line_feed, IsLineRead};
 ghost use Rattle.moc_text.specs.Faults.{Fails};
-ghost use Rattle.moc_ranges.specs.Faults.{first_fault_of};
-ghost use Rattle.moc_text.specs.UniqList.{SaysUniq, uniq_fault, uniq_line_fault, uniq_text};
+ghost use Rattle.moc_ranges.specs.Faults.{first_error_of};
+ghost use Rattle.moc_text.specs.UniqList.{RepresentsUniq, uniq_error, uniq_line_error, uniq_text};
 
 use crate::ascii::digits;
 use itoa::Buffer;
-use moc_ranges::{Coverage, CoverageBuilder, Memory as MemoryRefused};
+use moc_ranges::{Coverage, CoverageBuilder, Memory as OutOfMemory};
 use moc_sphere::Cell;
 use std::alloc::{AllocError, Global};
 use thiserror::Error;
 
-/// A fault of a NUNIQ list, with the number of a line, counted from 1.
+/// The reason why a text is not a valid NUNIQ list. Lines are counted from 1.
 #[derive(Debug, Clone, Copy, PartialEq, Eq, Error)]
 pub enum UniqError {
-    /// A line with a byte that is no digit.
+    /// A line has a byte that is not a digit.
     #[error("a byte that is no digit, in line {line}")]
     BadByte {
         /// The number of the line.
         line: usize,
     },
-    /// A line whose number is below 4, or 2^62 or more.
+    /// The number on a line is below 4, or 2^62 or above.
     #[error("a number that is no NUNIQ number, in line {line}")]
     NotUniq {
         /// The number of the line.
         line: usize,
     },
-    /// Memory was refused.
+    /// An allocation failed.
     #[error("out of memory")]
     Memory,
 }
 
 impl UniqError {
-    /// The name of the fault, as it is printed.
+    /// Returns the printed name of the error.
     pub fn name(self) -> &'static str
         ensures { result.now ≡ name_of_uniq self }
     {
@@ -52,9 +52,9 @@ impl UniqError {
         }
     }
 
-    /// The number of the line that is at fault, counted from 1; `None` for `Memory`.
+    /// Returns the number of the invalid line, counted from 1, or `None` for `Memory`.
     pub fn line(self) -> Option<usize>
-        ensures { result ≡ fault_line self }
+        ensures { result ≡ error_line self }
     {
         match self {
             UniqError::BadByte { line } | UniqError::NotUniq { line } => Some(line),
@@ -63,20 +63,20 @@ impl UniqError {
     }
 }
 
-impl From<MemoryRefused> for UniqError {
+impl From<OutOfMemory> for UniqError {
     ghost use Rattle.std.specs.Prelude.{◌≡◌};
     ghost use Rattle.moc_text.specs.declared.uniq.UniqError.TheVariants.{Memory};
 
     ghost from_gives = { λ _ e. e ≡ Memory };
 
-    fn from(_e: MemoryRefused) -> UniqError {
+    fn from(_e: OutOfMemory) -> UniqError {
         UniqError::Memory
     }
 }
 
-/// What comes after a line that ends where the bytes begin.
-fn past_line(bytes: &[u8]) -> Option<&[u8]>
-    ensures { option_copied result ≡ behind_line_feed bytes.now }
+/// Returns the bytes after the end of the line, if the line ends here.
+fn after_line(bytes: &[u8]) -> Option<&[u8]>
+    ensures { option_copied result ≡ after_line_feed bytes.now }
 {
     match bytes {
         [] => Some(bytes),
@@ -85,7 +85,7 @@ fn past_line(bytes: &[u8]) -> Option<&[u8]>
     }
 }
 
-/// Adds the cell on the line at the front, if it has one; gives what comes after the line.
+/// Reads the first line, adds its cell unless the line is empty, and returns the bytes after the line.
 fn read_line<'a>(
     cells: &mut CoverageBuilder,
     line: usize,
@@ -94,10 +94,10 @@ fn read_line<'a>(
     requires { 0 < length bytes.now }
     ensures { MatchResult result
         (λ rest. IsLineRead line bytes.now cells.old rest.now cells.new)
-        (λ e. Fails UniqError.Memory (first_fault_of uniq_line_fault line (lines_of bytes.now)) e) }
+        (λ e. Fails UniqError.Memory (first_error_of uniq_line_error line (lines_of bytes.now)) e) }
 {
     let (value, after) = digits(bytes);
-    let Some(rest) = past_line(after) else {
+    let Some(rest) = after_line(after) else {
         return Err(UniqError::BadByte { line });
     };
     if after.len() == bytes.len() {
@@ -110,23 +110,30 @@ fn read_line<'a>(
     Ok(rest)
 }
 
-/// Reads a NUNIQ list: the pixels of the cells whose numbers (MOC 2.0) stand on the lines, in any sequence. A
-/// line ends at LF, and an empty line is skipped.
+/// Parses a NUNIQ list: a text with the NUNIQ number of a cell on each line. Numbers may be in any order. A line ends
+/// with LF, and empty lines are skipped.
 ///
-/// Refused for the first faulty line: with `BadByte` where it has a byte that is no digit, with `NotUniq` where its
-/// number is below 4, or 2^62 or more. `Memory` where memory was refused.
+/// # Errors
+/// Reports the first invalid line. Fails with `BadByte` if the line has a byte that is not a digit, with `NotUniq` if
+/// its number is below 4, or 2^62 or above, and with `Memory` if an allocation fails.
 ///
-/// One pass over the bytes; the cells as `CoverageBuilder` takes them, in O(n log n), or O(n) where they rise. The
-/// memory follows the set and not the text.
+/// # Complexity
+/// One pass over the text. The cells are added to a `CoverageBuilder`, in O(n log n), or in O(n) if they are sorted.
+///
+/// # Memory
+/// Proportional to the set, not to the text.
+///
+/// # Source
+/// NUNIQ numbers are defined in MOC 2.0.
 pub fn read_uniq(alloc: Global, text: &[u8]) -> Result<Coverage, UniqError>
-    // What is read is what the text says.
-    ensures set { IfOk result (λ c. SaysUniq text.now c) }
+    // On success, the set is the one that the text represents.
+    ensures set { IfOk result (λ c. RepresentsUniq text.now c) }
 
-    // What is refused has its first fault, unless memory ran out.
-    ensures fault { IfErr result (λ e. Fails UniqError.Memory (uniq_fault text.now) e) }
+    // On failure, the error is the first one in the text, unless an allocation failed.
+    ensures error { IfErr result (λ e. Fails UniqError.Memory (uniq_error text.now) e) }
 
-    // So a text that says a set is read as that set.
-    ensures reading { (a : NumberSet) → SaysUniq text.now a
+    // Therefore a text that represents a set is parsed as this set.
+    ensures reading { (a : NumberSet) → RepresentsUniq text.now a
         → MatchResult result (λ c. c ≡ a) (λ e. e ≡ UniqError.Memory) }
 {
     let mut cells = CoverageBuilder::new(alloc);
@@ -139,7 +146,7 @@ pub fn read_uniq(alloc: Global, text: &[u8]) -> Result<Coverage, UniqError>
     Ok(cells.build()?)
 }
 
-/// Writes the lines of cells.
+/// Appends the lines of cells.
 fn push_numbers(text: &mut String, cells: &[Cell]) -> Result<(), AllocError>
     ensures { OnOk result (string_bytes text.new
         ≡ string_bytes text.old ++ flat_map (λ c. decimal (uniq_of c) ++ 10 ∷ []) cells.now) }
@@ -151,8 +158,8 @@ fn push_numbers(text: &mut String, cells: &[Cell]) -> Result<(), AllocError>
     Ok(())
 }
 
-/// How many bytes the lines of rising numbers take at most.
-fn room_for(cells: &[Cell]) -> usize {
+/// Returns an upper bound for the length of the lines of ascending numbers.
+fn capacity_for(cells: &[Cell]) -> usize {
     let Some(last) = cells.last() else {
         return 0;
     };
@@ -160,17 +167,23 @@ fn room_for(cells: &[Cell]) -> usize {
     cells.len().saturating_mul(digits + 1)
 }
 
-/// Writes the NUNIQ list of the set: the numbers of its cells, rising, each in decimal and followed by LF.
-/// Linear in the number of cells, of which a list is made. `Memory` where memory was refused.
+/// Writes the NUNIQ list of a set: the NUNIQ numbers of its cells in ascending order, each in decimal and followed by
+/// LF.
+///
+/// # Errors
+/// Fails with `Memory` if an allocation fails.
+///
+/// # Complexity
+/// Linear in the number of cells; allocates a list of the cells.
 #[tactic(auto, unfolding(crate::specs::UniqList::uniq_text))]
-pub fn write_uniq(alloc: Global, set: &Coverage) -> Result<String, MemoryRefused>
+pub fn write_uniq(alloc: Global, set: &Coverage) -> Result<String, OutOfMemory>
     ensures text { IfOk result (λ t. string_bytes t ≡ uniq_text set.now) }
 
-    // A written list says the set that was written, so it is read as that set.
-    ensures reads_back { IfOk result (λ t. SaysUniq (string_bytes t) set.now) }
+    // The written list represents the set, so that parsing it returns the set.
+    ensures reads_back { IfOk result (λ t. RepresentsUniq (string_bytes t) set.now) }
 {
     let cells = set.cells(alloc)?;
-    let mut text = String::with_capacity(alloc, room_for(&cells))?;
+    let mut text = String::with_capacity(alloc, capacity_for(&cells))?;
     push_numbers(&mut text, &cells)?;
     Ok(text)
 }

@@ -1,4 +1,4 @@
-//! Why a set could not be written.
+//! The reasons why a set cannot be written.
 
 ghost use Rattle.std.specs.Prelude.{◌≡◌};
 ghost use Rattle.moc_text.specs.Names.{name_of_write_error};
@@ -7,19 +7,19 @@ ghost use Rattle.moc_text.specs.declared.write_error.WriteError.TheVariants.{Mem
 use std::alloc::AllocError;
 use thiserror::Error;
 
-/// Why a set was not written as a text.
+/// The reason why a set was not written as a text.
 #[derive(Debug, Clone, Copy, PartialEq, Eq, Error)]
 pub enum WriteError {
-    /// The set has a cell of a deeper order than the stated one.
+    /// A cell of the set is deeper than the stated order.
     #[error("a cell is deeper than the stated order")]
     TooCoarse,
-    /// Memory was refused.
+    /// An allocation failed.
     #[error("out of memory")]
     Memory,
 }
 
 impl WriteError {
-    /// The name of the error, as it is printed.
+    /// Returns the printed name of the error.
     pub fn name(self) -> &'static str
         ensures { result.now ≡ name_of_write_error self }
     {

@@ -1,20 +1,20 @@
-//! Compares numbers with tables that independent HEALPix libraries made or agree to, on standard input: a line
-//! `order nested ring` for each cell of orders 0 to 4, whose numbers are compared both ways, and a line `order cell:
-//! cells` for each cell of orders 0 to 3, with the cells that touch it, rising. A line that begins with `#` is a
-//! comment.
+//! Compares cell numbers with tables of independent HEALPix libraries on standard input. A line `order nested ring`
+//! gives both indices of a cell, for each cell of orders 0 to 4; they are compared both ways. A line `order cell:
+//! cells` lists the cells that touch a cell, ascending, for each cell of orders 0 to 3. A line that begins with `#` is
+//! a comment.
 #![tactic(auto)]
 
 use anyhow::{Result, bail};
 use moc_sphere::{Cell, Order};
 use std::alloc::Global;
 
-/// The cell that two words name, by its order and its nested number.
+/// Returns the cell with this order and nested index.
 fn read_cell(order: Option<&str>, nested: Option<&str>) -> Option<Cell> {
     let order = Order::new(order?.parse().ok()?)?;
     Cell::new(order, nested?.parse().ok()?).ok()
 }
 
-/// Whether the numbers of a cell in both schemes stand in the line.
+/// Tests whether the line has both indices of a cell.
 fn has_ring_number(line: &str) -> bool {
     let mut words = line.split_whitespace();
     let Some(cell) = read_cell(words.next(), words.next()) else {
@@ -24,7 +24,7 @@ fn has_ring_number(line: &str) -> bool {
     ring == Some(cell.ring()) && Cell::from_ring(cell.order(), cell.ring()) == Ok(cell)
 }
 
-/// Whether the words are these numbers, in this order.
+/// Tests whether the words are these numbers, in this order.
 fn are_words(words: &str, numbers: &[u64]) -> bool {
     let mut words = words.split_whitespace();
     for number in numbers {
@@ -36,7 +36,7 @@ fn are_words(words: &str, numbers: &[u64]) -> bool {
     words.next().is_none()
 }
 
-/// Whether the words before a colon name a cell, and those behind it the cells that touch it.
+/// Tests whether the words before a colon are a cell, and those after it the cells that touch it.
 fn has_touching(before: &str, behind: &str, alloc: Global) -> bool {
     let mut words = before.split_whitespace();
     match read_cell(words.next(), words.next()) {
@@ -45,7 +45,7 @@ fn has_touching(before: &str, behind: &str, alloc: Global) -> bool {
     }
 }
 
-/// Whether the numbers of a line are ours.
+/// Tests whether the numbers of a line are equal to ours.
 fn agrees(line: &str, alloc: Global) -> bool {
     match line.split_once(":") {
         Some((before, behind)) => has_touching(before, behind, alloc),

@@ -1,5 +1,5 @@
-//! Words that have texts combined.
-use crate::ended::expect;
+//! Subcommands that combine texts.
+use crate::program_end::expect;
 
 #[test]
 fn combinations(rt: HostRuntime) {
@@ -56,7 +56,7 @@ fn combinations_in_other_forms(rt: HostRuntime) {
 }
 
 #[test]
-fn refused_combinations(rt: HostRuntime) {
+fn failing_combinations(rt: HostRuntime) {
     for (words, input, told) in [
         (
             ["combine", "union", "ascii"],

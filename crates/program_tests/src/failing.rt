@@ -1,5 +1,5 @@
-//! Words over an input that fails.
-use crate::ended::run_words;
+//! Command lines with an input that fails.
+use crate::program_end::run_words;
 use moc_script::{DeviceFault, Source};
 use std::alloc::Global;
 use std::marker::Sync;
@@ -9,15 +9,15 @@ use std::thread::Threads;
 
 /// A reader that fails, and counts its calls.
 #[derive(Drop)]
-struct Broken {
+struct FailingReader {
     is_marked: bool,
     calls: u32,
 }
 
-impl Source for Broken {
+impl Source for FailingReader {
     ghost use Rattle.std.specs.Prelude.{None, [], false};
 
-    ghost reading = { λ _. record { delivered = []; ended = false; left = None } };
+    ghost reading = { λ _. record { delivered = []; program_end = false; left = None } };
 
     ghost mark = { λ s. s.is_marked };
 
@@ -32,18 +32,18 @@ impl Source for Broken {
     }
 }
 
-/// Checks that words tell an input that fails, and read it once.
+/// Checks that a command line reports an input that fails, and reads it once.
 fn expect_failing<T: Abort + Threads + Wait + Sync>(rt: &T, alloc: Global, words: &[&str]) {
-    let mut input = Broken {
+    let mut input = FailingReader {
         is_marked: false,
         calls: 0,
     };
-    let ended = run_words(rt, alloc, words, &mut input);
-    assert_eq!(rt; ended.status, 3, "{words:?}");
+    let program_end = run_words(rt, alloc, words, &mut input);
+    assert_eq!(rt; program_end.status, 3, "{words:?}");
     assert_eq!(rt; input.calls, 1, "{words:?}");
-    assert!(rt; ended.written.is_empty(), "{words:?}");
+    assert!(rt; program_end.written.is_empty(), "{words:?}");
     assert_eq!(rt;
-        ended.told.as_slice(),
+        program_end.error_output.as_slice(),
         b"fault Read\n".as_slice(),
         "{words:?}"
     );

@@ -1,56 +1,61 @@
 //! The calls of `moc_conversion` by themselves. Expected texts are worked out by hand.
 use moc_conversion::{
-    Complaint, InputFault, change_input, check_input, combine_input, convert_input, describe_input,
-    draw_input, tell_fault,
+    InputDiagnostic, InputError, change_input, check_input, combine_input, convert_input,
+    describe_input, draw_input, report_error,
 };
 use moc_devices::{OverReader, OverWriter};
-use moc_forms::{Change, Choice, Form, Operation};
+use moc_forms::{Change, Format, FormatChoice, Operation};
 use moc_sphere::Order;
 use std::alloc::Global;
 use std::io::{self, Read};
 use std::process::Abort;
 
-/// What is made of an input.
+/// The call that processes an input.
 #[derive(Clone, Copy)]
-enum Making {
-    Text(Form, Form),
-    Checked(Choice),
-    Figures(Choice),
-    Picture(Choice),
+enum InputCall {
+    Text(Format, Format),
+    Checked(FormatChoice),
+    Statistics(FormatChoice),
+    Picture(FormatChoice),
     Changed(Change),
     Combined(Operation),
 }
 
-impl Making {
-    /// The text that is made of this one; nothing where it is checked.
-    fn of(self, alloc: Global, text: &str) -> Result<String, Complaint> {
+impl InputCall {
+    /// Returns the output for this text; empty if the text is only checked.
+    fn of(self, alloc: Global, text: &str) -> Result<String, InputDiagnostic> {
         let input = &mut OverReader::new(text.as_bytes());
         match self {
-            Making::Text(from, to) => convert_input(alloc, from, to, input),
-            Making::Checked(choice) => match check_input(alloc, choice, input) {
+            InputCall::Text(from, to) => convert_input(alloc, from, to, input),
+            InputCall::Checked(choice) => match check_input(alloc, choice, input) {
                 Ok(()) => Ok(String::new(alloc)),
-                Err(complaint) => Err(complaint),
+                Err(diagnostic) => Err(diagnostic),
             },
-            Making::Figures(choice) => describe_input(alloc, choice, input),
-            Making::Picture(choice) => draw_input(alloc, choice, input),
-            Making::Changed(change) => change_input(alloc, change, Choice::Auto, input),
-            Making::Combined(operation) => combine_input(alloc, operation, Choice::Auto, input),
+            InputCall::Statistics(choice) => describe_input(alloc, choice, input),
+            InputCall::Picture(choice) => draw_input(alloc, choice, input),
+            InputCall::Changed(change) => change_input(alloc, change, FormatChoice::Auto, input),
+            InputCall::Combined(operation) => combine_input(
+                alloc,
+                operation,
+                FormatChoice::Auto,
+                input,
+            ),
         }
     }
 }
 
-/// Checks the text that is made of an input.
-fn is_made(rt: &impl Abort, alloc: Global, making: Making, text: &str, made: &str) {
+/// Checks the output for an input.
+fn is_made(rt: &impl Abort, alloc: Global, making: InputCall, text: &str, made: &str) {
     let seen = making.of(alloc, text).expect(rt, "a text");
     assert_eq!(rt; seen.as_str(), made, "{text:?}");
 }
 
-/// Checks what is told of an input that is refused.
-fn is_told(rt: &impl Abort, alloc: Global, making: Making, text: &str, told: &str) {
+/// Checks the diagnostic of an invalid input.
+fn fails_with(rt: &impl Abort, alloc: Global, making: InputCall, text: &str, told: &str) {
     let mut seen = Vec::new(alloc);
-    if let Err(complaint) = making.of(alloc, text) {
-        complaint
-            .tell(&mut OverWriter::new(&mut seen))
+    if let Err(diagnostic) = making.of(alloc, text) {
+        diagnostic
+            .report(&mut OverWriter::new(&mut seen))
             .expect(rt, "memory");
     }
     assert_eq!(rt; seen.as_slice(), told.as_bytes(), "{text:?}");
@@ -58,35 +63,35 @@ fn is_told(rt: &impl Abort, alloc: Global, making: Making, text: &str, told: &st
 
 #[test]
 fn texts_of_inputs(rt: HostRuntime) {
-    let choice = Choice::Named(Form::Ascii);
-    let figures =
+    let choice = FormatChoice::Named(Format::Ascii);
+    let statistics =
         "deepest 1\npixels 72057594037927936\nshare 0.020833333333\nranges 1\ncells 1\norder 1 1\n";
     for (making, text, made) in [
         (
-            Making::Text(Form::Ascii, Form::Json),
+            InputCall::Text(Format::Ascii, Format::Json),
             "2/0-3",
             "{\"1\":[0],\"2\":[]}\n",
         ),
         (
-            Making::Text(Form::Uniq, Form::Ascii),
+            InputCall::Text(Format::Uniq, Format::Ascii),
             "16\n17\n18\n19\n",
             "0/0\n",
         ),
-        (Making::Checked(Choice::Auto), "{\"0\":[3]}", ""),
-        (Making::Figures(choice), "1/3", figures),
+        (InputCall::Checked(FormatChoice::Auto), "{\"0\":[3]}", ""),
+        (InputCall::Statistics(choice), "1/3", statistics),
         (
-            Making::Changed(Change::Degrade(Order::default())),
+            InputCall::Changed(Change::Degrade(Order::default())),
             "1/4 2/",
             "0/1\n",
         ),
-        (Making::Changed(Change::Complement), "0/0-10", "0/11\n"),
+        (InputCall::Changed(Change::Complement), "0/0-10", "0/11\n"),
         (
-            Making::Combined(Operation::Difference),
+            InputCall::Combined(Operation::Difference),
             "0/0;1/3",
             "1/0-2\n",
         ),
         (
-            Making::Combined(Operation::Symmetric),
+            InputCall::Combined(Operation::Symmetric),
             "0/0-1;0/1-2;0/2",
             "0/0\n",
         ),
@@ -98,7 +103,7 @@ fn texts_of_inputs(rt: HostRuntime) {
 #[test]
 fn pictures_of_inputs(rt: HostRuntime) {
     for text in ["0/0", "0/0;0/1"] {
-        let picture = Making::Picture(Choice::Auto)
+        let picture = InputCall::Picture(FormatChoice::Auto)
             .of(rt.alloc(), text)
             .expect(&rt, "a picture");
         assert!(rt; picture.as_str().starts_with("<svg "), "{text}");
@@ -107,33 +112,33 @@ fn pictures_of_inputs(rt: HostRuntime) {
 }
 
 #[test]
-fn complaints(rt: HostRuntime) {
+fn diagnostics(rt: HostRuntime) {
     for (making, text, told) in [
         (
-            Making::Text(Form::Ascii, Form::Json),
+            InputCall::Text(Format::Ascii, Format::Json),
             "5/7-3",
             "fault Backwards\n",
         ),
         (
-            Making::Checked(Choice::Named(Form::Ascii)),
+            InputCall::Checked(FormatChoice::Named(Format::Ascii)),
             "{\"0\":[3]}",
             "fault BadByte\nbyte 0, line 1, byte 0 of it: `{\"0\":[3]}`\nthis looks like JSON\n",
         ),
         (
-            Making::Figures(Choice::Auto),
+            InputCall::Statistics(FormatChoice::Auto),
             "1/0\n99",
             "fault CellTooLarge\nbyte 4, line 2, byte 0 of it: `99`\n",
         ),
         (
-            Making::Combined(Operation::Union),
+            InputCall::Combined(Operation::Union),
             "0/0;0/12",
             "fault CellTooLarge\ntext 2, byte 2, line 1, byte 2 of it: `0/12`\n",
         ),
     ] {
-        is_told(&rt, rt.alloc(), making, text, told);
+        fails_with(&rt, rt.alloc(), making, text, told);
     }
     let mut seen = Vec::new(rt.alloc());
-    tell_fault("Spawn", &mut OverWriter::new(&mut seen)).expect(&rt, "memory");
+    report_error("Spawn", &mut OverWriter::new(&mut seen)).expect(&rt, "memory");
     assert_eq!(rt; seen.as_slice(), b"fault Spawn\n".as_slice());
 }
 
@@ -143,16 +148,16 @@ fn an_input_too_long(rt: HostRuntime) {
     let (whole, _) = text.split_at(16_777_216);
     let read = check_input(
         rt.alloc(),
-        Choice::Named(Form::Ascii),
+        FormatChoice::Named(Format::Ascii),
         &mut OverReader::new(whole),
     );
     assert!(rt; read.is_ok());
     let read = check_input(
         rt.alloc(),
-        Choice::Named(Form::Ascii),
+        FormatChoice::Named(Format::Ascii),
         &mut OverReader::new(text.as_slice()),
     );
-    assert!(rt; matches!(&read, Err(complaint) if complaint.fault == InputFault::TooLong));
+    assert!(rt; matches!(&read, Err(diagnostic) if diagnostic.fault == InputError::TooLong));
 }
 
 /// A reader of these bytes that counts its calls.
@@ -181,7 +186,7 @@ fn reads_of_an_input(rt: HostRuntime) {
         calls: 0,
     };
     let mut input = OverReader::new(&mut device);
-    let read = check_input(rt.alloc(), Choice::Named(Form::Ascii), &mut input);
+    let read = check_input(rt.alloc(), FormatChoice::Named(Format::Ascii), &mut input);
     assert!(rt; read.is_ok());
     drop(input);
     assert_eq!(rt; device.calls, 3);

@@ -1,10 +1,8 @@
-//! The words of the command line, and the calls for an input, over memory and over devices that fail.
+//! Command lines, and the calls for an input, over memory and over devices that fail.
 #![tactic(auto)]
 
 #[cfg(test)]
 mod combining;
-#[cfg(test)]
-mod ended;
 #[cfg(test)]
 mod failing;
 #[cfg(test)]
@@ -15,6 +13,8 @@ mod lines;
 mod numbers;
 #[cfg(test)]
 mod pictures;
+#[cfg(test)]
+mod program_end;
 #[cfg(test)]
 mod texts;
 #[cfg(test)]

@@ -1,5 +1,5 @@
-//! Words that have lines answered.
-use crate::ended::expect;
+//! Subcommands that answer lines.
+use crate::program_end::expect;
 
 #[test]
 fn scripts(rt: HostRuntime) {

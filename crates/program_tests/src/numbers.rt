@@ -1,6 +1,6 @@
-//! Words that ask for numbers of cells. Expected numbers are worked examples of the numbering, made apart from this
+//! Subcommands that convert cell numbers. Expected numbers are worked examples of the numberings, computed without this
 //! program.
-use crate::ended::expect;
+use crate::program_end::expect;
 
 #[test]
 fn numbers(rt: HostRuntime) {
@@ -26,7 +26,7 @@ fn numbers(rt: HostRuntime) {
 }
 
 #[test]
-fn refused_numbers(rt: HostRuntime) {
+fn invalid_numbers(rt: HostRuntime) {
     for (words, fault) in [
         (["ring", "0", "12"], "fault CellTooLarge\n"),
         (["nest", "0", "12"], "fault RingTooLarge\n"),
@@ -71,7 +71,7 @@ fn near(rt: HostRuntime) {
 }
 
 #[test]
-fn renumbered_lines(rt: HostRuntime) {
+fn converted_lines(rt: HostRuntime) {
     for (words, input, output) in [
         (
             ["renumber", "nest", "ring", "1"].as_slice(),

@@ -1,5 +1,5 @@
-//! Words that ask for pictures.
-use crate::ended::{expect, run_words};
+//! Subcommands that draw pictures.
+use crate::program_end::{expect, run_words};
 use moc_script::OverReader;
 use std::alloc::Global;
 use std::marker::Sync;
@@ -7,22 +7,22 @@ use std::process::Abort;
 use std::sync::Wait;
 use std::thread::Threads;
 
-/// The picture of a text in a form.
+/// Returns the picture of a text in a format.
 fn picture<T: Abort + Threads + Wait + Sync>(
     rt: &T,
     alloc: Global,
-    form: &str,
+    format: &str,
     input: &str,
 ) -> Vec<u8> {
-    let ended = run_words(
+    let program_end = run_words(
         rt,
         alloc,
-        &["draw", form],
+        &["draw", format],
         &mut OverReader::new(input.as_bytes()),
     );
-    assert_eq!(rt; ended.status, 0, "{form}");
-    assert!(rt; ended.told.is_empty(), "{form}");
-    ended.written
+    assert_eq!(rt; program_end.status, 0, "{format}");
+    assert!(rt; program_end.error_output.is_empty(), "{format}");
+    program_end.written
 }
 
 #[test]
@@ -47,7 +47,7 @@ fn pictures(rt: HostRuntime) {
     );
 }
 
-/// Of two texts what comes is the picture of two, and blanks behind a semicolon are none.
+/// Two texts give the picture of two; blanks after a semicolon are not a text.
 #[test]
 fn pictures_of_two(rt: HostRuntime) {
     let one = picture(&rt, rt.alloc(), "ascii", "0/0");

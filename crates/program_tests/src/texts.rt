@@ -1,5 +1,5 @@
-//! Words that ask for texts of coverages, and for what is told of them.
-use crate::ended::expect;
+//! Subcommands that write texts of coverages, diagnostics and statistics.
+use crate::program_end::expect;
 
 #[test]
 fn conversions(rt: HostRuntime) {
@@ -34,7 +34,7 @@ fn conversions(rt: HostRuntime) {
 }
 
 #[test]
-fn refused_texts(rt: HostRuntime) {
+fn invalid_texts(rt: HostRuntime) {
     for (words, input, fault) in [
         (["convert", "uniq", "ascii"], "4\nx", "fault BadByte\n"),
         (["convert", "uniq", "json"], "3", "fault NotUniq\n"),
@@ -52,7 +52,7 @@ fn refused_texts(rt: HostRuntime) {
 }
 
 #[test]
-fn refused_json(rt: HostRuntime) {
+fn invalid_json(rt: HostRuntime) {
     for (input, fault) in [
         ("{\"x\":[0]}", "fault BadOrder\n"),
         ("{\"0\":0}", "fault NotArray\n"),
@@ -106,7 +106,7 @@ fn checks(rt: HostRuntime) {
 }
 
 #[test]
-fn figures(rt: HostRuntime) {
+fn statistics(rt: HostRuntime) {
     let lines =
         "deepest 2\npixels 306244774661193728\nshare 0.088541666666\nranges 2\ncells 2\norder 0 1\norder 2 1\n";
     for (words, input) in [

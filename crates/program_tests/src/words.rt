@@ -1,6 +1,6 @@
-//! Words that ask for help, or for nothing that there is.
-use crate::ended::{expect, run_words};
-use moc_program::refuse_words;
+//! Command lines that ask for help, and invalid ones.
+use crate::program_end::{expect, run_words};
+use moc_program::report_argument_error;
 use moc_script::{OverReader, OverWriter};
 use std::alloc::Global;
 use std::io::{self, ErrorKind};
@@ -9,10 +9,10 @@ use std::process::Abort;
 use std::sync::Wait;
 use std::thread::Threads;
 
-/// Checks the status and the text of words that could not be had.
-fn expect_no_words(rt: &impl Abort, alloc: Global, kind: ErrorKind, status: u8, text: &str) {
+/// Checks the status and the text of an invalid command line.
+fn expect_invalid(rt: &impl Abort, alloc: Global, kind: ErrorKind, status: u8, text: &str) {
     let mut told = Vec::new(alloc);
-    let answered = refuse_words(&io::Error::from(kind), &mut OverWriter::new(&mut told));
+    let answered = report_argument_error(&io::Error::from(kind), &mut OverWriter::new(&mut told));
     assert_eq!(rt; answered, status);
     assert_eq!(rt; told.as_slice(), text.as_bytes());
 }
@@ -20,12 +20,12 @@ fn expect_no_words(rt: &impl Abort, alloc: Global, kind: ErrorKind, status: u8, 
 #[test]
 fn words_that_are_not_utf8(rt: HostRuntime) {
     let text = "error: a word of the command line is not UTF-8\n";
-    expect_no_words(&rt, rt.alloc(), ErrorKind::InvalidData, 2, text);
-    expect_no_words(&rt, rt.alloc(), ErrorKind::OutOfMemory, 3, "fault Memory\n");
+    expect_invalid(&rt, rt.alloc(), ErrorKind::InvalidData, 2, text);
+    expect_invalid(&rt, rt.alloc(), ErrorKind::OutOfMemory, 3, "fault Memory\n");
 }
 
 #[test]
-fn wrong_words(rt: HostRuntime) {
+fn invalid_arguments(rt: HostRuntime) {
     let tip = "error: unrecognized subcommand 'union'\n\n  tip: what does it is 'combine union'\n\n\
                Usage: moc <COMMAND>\n\nFor more information, try '--help'.\n";
     expect(&rt, rt.alloc(), &["union", "ascii"], "", 2, "", tip);
@@ -34,17 +34,21 @@ fn wrong_words(rt: HostRuntime) {
     expect(&rt, rt.alloc(), &["\x1b[1mring"], "", 2, "", control);
 }
 
-/// Checks the status of words without an input, and that they write, or that they are mistaken and tell why.
+/// Checks the status of a command line without an input, and that it writes, or is invalid and reports why.
 fn expect_status<T: Abort + Threads + Wait + Sync>(
     rt: &T,
     alloc: Global,
     words: &[&str],
     status: u8,
 ) {
-    let ended = run_words(rt, alloc, words, &mut OverReader::new(b"".as_slice()));
-    assert_eq!(rt; ended.status, status, "{words:?}");
-    assert_eq!(rt; ended.written.is_empty(), status == 2, "{words:?}");
-    assert_eq!(rt; ended.told.is_empty(), status == 0, "{words:?}");
+    let program_end = run_words(rt, alloc, words, &mut OverReader::new(b"".as_slice()));
+    assert_eq!(rt; program_end.status, status, "{words:?}");
+    assert_eq!(rt; program_end.written.is_empty(), status == 2, "{words:?}");
+    assert_eq!(rt;
+        program_end.error_output.is_empty(),
+        status == 0,
+        "{words:?}"
+    );
 }
 
 #[test]

@@ -1,8 +1,8 @@
-//! Calls of a running map, each on a map of its own that begins with base pixel 0, and how each came out: `done`,
-//! `refused` where it answered want of memory and left all as it was, or else `spoiled`.
+//! Calls of a shared map, each on its own map that starts with base pixel 0, and their results: `done`, `refused` if
+//! the call was out of memory and changed nothing, or otherwise `spoiled`.
 //!
-//! What is left is looked at by every other call: the client counts and reads all twelve parts, the other client fills
-//! them, the two meet, one takes in the other, and the map is closed.
+//! After each call except `close` the state is checked: the client counts and reads all twelve parts, the other client
+//! fills them, the two meet, one takes in the other, and the map is closed.
 
 ghost use Rattle.std.specs.Prelude.{All, IfOk, IfSome};
 ghost use Rattle.moc_shared.specs.Clients.{IsClientOf, IsHoldingOf};
@@ -18,10 +18,10 @@ use std::fmt;
 use std::io::Print;
 use std::sync::Wait;
 
-/// How many pixels a base pixel has: 4^29.
+/// The number of pixels of a base pixel: 4^29.
 const BASE: u64 = 288_230_376_151_711_744;
 
-/// A call that does a batch.
+/// A call that executes a batch.
 #[derive(Clone, Copy)]
 enum Call {
     TryApply,
@@ -39,31 +39,31 @@ impl fmt::Display for Call {
     }
 }
 
-/// How a call came out.
+/// The result of a call.
 #[derive(Clone, Copy, PartialEq, Eq)]
-enum Outcome {
+enum CallResult {
     Done,
     Refused,
     Spoiled,
 }
 
-impl fmt::Display for Outcome {
+impl fmt::Display for CallResult {
     fn fmt<W: fmt::Write>(&self, f: &mut fmt::Formatter<W>) -> fmt::Result {
         f.write_str(match self {
-            Outcome::Done => "done",
-            Outcome::Refused => "refused",
-            Outcome::Spoiled => "spoiled",
+            CallResult::Done => "done",
+            CallResult::Refused => "refused",
+            CallResult::Spoiled => "spoiled",
         })
     }
 }
 
-/// A set of pixels as an operand.
+/// Returns a set of pixels as an operand.
 fn operand(alloc: Global, from: u64, to: u64) -> Result<Operand> {
     let set = Coverage::from_ranges(alloc, &[(from, to)])?;
     Ok(Operand { set, coarse: None })
 }
 
-/// The last of the clients that are left.
+/// Removes and returns the last client.
 pub fn next(map: &SharedMap, clients: &mut Vec<Client>) -> Option<Client>
     requires { All (IsClientOf map.now) clients.old.items }
     ensures left { All (IsClientOf map.now) clients.new.items }
@@ -76,7 +76,7 @@ pub fn next(map: &SharedMap, clients: &mut Vec<Client>) -> Option<Client>
     }
 }
 
-/// A map that begins with base pixel 0, and its two clients.
+/// Returns a map that starts with base pixel 0, and its two clients.
 fn open(alloc: Global) -> Result<(SharedMap, Client, Client)>
     ensures { IfOk result (λ r. IsClientOf r.0 r.1 × IsClientOf r.0 r.2) }
 {
@@ -88,7 +88,7 @@ fn open(alloc: Global) -> Result<(SharedMap, Client, Client)>
     }
 }
 
-/// What a client is answered for a batch by this call.
+/// Returns the reply to a batch that a client executes with this call.
 fn ask<R: Wait>(
     rt: &R,
     map: &SharedMap,
@@ -116,7 +116,7 @@ fn ask<R: Wait>(
     }
 }
 
-/// What the client of a holding is answered.
+/// Returns the reply to the client of a holding.
 fn finish(map: &SharedMap, holding: Holding) -> (Client, Result<Replies, TryError>)
     requires { IsHoldingOf map.now holding }
     ensures { IsClientOf map.now result.0 }
@@ -127,19 +127,19 @@ fn finish(map: &SharedMap, holding: Holding) -> (Client, Result<Replies, TryErro
     }
 }
 
-/// What a query sees, with its client.
+/// Returns the reply to a query, with its client.
 fn look(map: &SharedMap, client: Client, batch: Batch) -> (Client, Option<Snapshot>)
     requires { IsClientOf map.now client }
     ensures { IsClientOf map.now result.0 }
 {
     match map.hold(client, batch) {
-        Ok(holding) => seen(map, holding),
+        Ok(holding) => query_reply(map, holding),
         Err((client, _, _)) => (client, None),
     }
 }
 
-/// What the query of a holding sees, with its client.
-fn seen(map: &SharedMap, holding: Holding) -> (Client, Option<Snapshot>)
+/// Returns the reply to the query of a holding, with its client.
+fn query_reply(map: &SharedMap, holding: Holding) -> (Client, Option<Snapshot>)
     requires { IsHoldingOf map.now holding }
     ensures { IsClientOf map.now result.0 }
 {
@@ -150,12 +150,12 @@ fn seen(map: &SharedMap, holding: Holding) -> (Client, Option<Snapshot>)
     }
 }
 
-/// Whether the one reply is this set.
+/// Tests whether the only reply is this set.
 fn is_cover(replies: &Replies, set: &Coverage) -> bool {
     matches!(replies.first(), Some(Reply::Cover(cover)) if cover.same(set))
 }
 
-/// How many pixels the one reply says that changed, or were counted.
+/// Returns the number of changed or counted pixels in the only reply.
 fn pixels(replies: &Replies) -> Option<u64> {
     match replies.first()? {
         Reply::Changed(pixels) | Reply::Total(pixels) => Some(*pixels),
@@ -163,7 +163,7 @@ fn pixels(replies: &Replies) -> Option<u64> {
     }
 }
 
-/// How many pixels a client counts in the whole sky.
+/// Returns the number of pixels that a client counts in the whole sky.
 fn count(alloc: Global, map: &SharedMap, client: &mut Client) -> Result<Option<u64>>
     requires { IsClientOf map.now client.old }
     ensures { IsClientOf map.now client.new }
@@ -172,7 +172,7 @@ fn count(alloc: Global, map: &SharedMap, client: &mut Client) -> Result<Option<u
     Ok(pixels(&map.try_apply(client, &count)?))
 }
 
-/// How many pixels change where a client fills the whole sky.
+/// Returns the number of pixels that change when a client fills the whole sky.
 fn fill(alloc: Global, map: &SharedMap, client: &mut Client) -> Result<Option<u64>>
     requires { IsClientOf map.now client.old }
     ensures { IsClientOf map.now client.new }
@@ -181,76 +181,80 @@ fn fill(alloc: Global, map: &SharedMap, client: &mut Client) -> Result<Option<u6
     Ok(pixels(&map.try_apply(client, &fill)?))
 }
 
-/// Whether a client reads just this set in the whole sky.
+/// Tests whether a client reads exactly this set in the whole sky.
 fn reads(alloc: Global, map: &SharedMap, client: Client, set: &Coverage) -> Result<(Client, bool)>
     requires { IsClientOf map.now client }
     ensures { IfOk result (λ r. IsClientOf map.now r.0) }
 {
     let read = Batch::one(alloc, Command::Read(operand(alloc, 0, PIXEL_COUNT)?))?;
     let (client, snapshot) = look(map, client, read);
-    let shown = match snapshot {
+    let reply_of_look = match snapshot {
         Some(snapshot) => is_cover(&snapshot.answer(alloc)?, set),
         None => false,
     };
-    Ok((client, shown))
+    Ok((client, reply_of_look))
 }
 
-/// Whether the map has just this set, no part of it is held, and each call of its two clients works.
-fn stands(alloc: Global, map: SharedMap, a: Client, b: Client, set: &Coverage) -> Result<bool>
+/// Tests whether the map has exactly this set, no part of it is held, and each call of its two clients works.
+fn is_intact(alloc: Global, map: SharedMap, a: Client, b: Client, set: &Coverage) -> Result<bool>
     requires { IsClientOf map a × IsClientOf map b }
 {
     let (mut a, mut b) = (a, b);
     let counted = count(alloc, &map, &mut a)? == Some(set.count());
-    let (mut a, shown) = reads(alloc, &map, a, set)?;
+    let (mut a, reply_of_look) = reads(alloc, &map, a, set)?;
     let filled = fill(alloc, &map, &mut b)? == Some(PIXEL_COUNT - set.count());
     map.meet(&mut a, &mut b);
     map.take_in(&mut a, b);
-    Ok(counted && shown && filled && map.close(a)?.count() == PIXEL_COUNT)
+    Ok(counted && reply_of_look && filled && map.close(a)?.count() == PIXEL_COUNT)
 }
 
-/// The outcome, if what was left stands. After a refusal nothing else is refused.
-fn settled(outcome: Outcome, stands: Result<bool>) -> Result<Outcome> {
-    match stands {
-        Ok(stands) => Ok(if stands { outcome } else { Outcome::Spoiled }),
+/// Returns the result if the state is right. After a failed allocation no other allocation fails.
+fn checked_result(outcome: CallResult, is_intact: Result<bool>) -> Result<CallResult> {
+    match is_intact {
+        Ok(is_intact) => Ok(if is_intact {
+            outcome
+        } else {
+            CallResult::Spoiled
+        }),
         Err(error) => match outcome {
-            Outcome::Done => Err(error),
-            Outcome::Refused | Outcome::Spoiled => Ok(Outcome::Spoiled),
+            CallResult::Done => Err(error),
+            CallResult::Refused | CallResult::Spoiled => Ok(CallResult::Spoiled),
         },
     }
 }
 
-/// How an inversion by this call comes out.
-fn invert<R: Wait>(rt: &R, alloc: Global, call: Call) -> Result<Outcome> {
+/// Reports the result of an inversion by this call.
+fn invert<R: Wait>(rt: &R, alloc: Global, call: Call) -> Result<CallResult> {
     let (map, a, b) = open(alloc)?;
     let (a, answer) = ask(rt, &map, call, a, Batch::one(alloc, Command::Invert)?);
     let outcome = match &answer {
-        Ok(replies) if pixels(replies) == Some(PIXEL_COUNT) => Outcome::Done,
-        Err(TryError::Memory) => Outcome::Refused,
-        _ => Outcome::Spoiled,
+        Ok(replies) if pixels(replies) == Some(PIXEL_COUNT) => CallResult::Done,
+        Err(TryError::Memory) => CallResult::Refused,
+        _ => CallResult::Spoiled,
     };
     let left = match outcome {
-        Outcome::Done => (BASE, PIXEL_COUNT),
-        Outcome::Refused | Outcome::Spoiled => (0, BASE),
+        CallResult::Done => (BASE, PIXEL_COUNT),
+        CallResult::Refused | CallResult::Spoiled => (0, BASE),
     };
     let set = Coverage::from_ranges(alloc, &[left])?;
-    settled(outcome, stands(alloc, map, a, b, &set))
+    checked_result(outcome, is_intact(alloc, map, a, b, &set))
 }
 
-/// How a reading of base pixel 0 by this call comes out.
-fn read<R: Wait>(rt: &R, alloc: Global, call: Call) -> Result<Outcome> {
+/// Reports the result of a read of base pixel 0 by this call.
+fn read<R: Wait>(rt: &R, alloc: Global, call: Call) -> Result<CallResult> {
     let set = Coverage::from_ranges(alloc, &[(0, BASE)])?;
     let (map, a, b) = open(alloc)?;
     let read = Batch::one(alloc, Command::Read(operand(alloc, 0, BASE)?))?;
     let (a, answer) = ask(rt, &map, call, a, read);
     let outcome = match &answer {
-        Ok(replies) if is_cover(replies, &set) => Outcome::Done,
-        Err(TryError::Memory) => Outcome::Refused,
-        _ => Outcome::Spoiled,
+        Ok(replies) if is_cover(replies, &set) => CallResult::Done,
+        Err(TryError::Memory) => CallResult::Refused,
+        _ => CallResult::Spoiled,
     };
-    settled(outcome, stands(alloc, map, a, b, &set))
+    checked_result(outcome, is_intact(alloc, map, a, b, &set))
 }
 
-/// What a query sees, if there is one, with the client.
+/// Returns the reply to a query, if there is one, with the client.
 fn look_first(map: &SharedMap, client: Client, query: Option<Batch>) -> (Client, Option<Snapshot>)
     requires { IsClientOf map.now client }
     ensures { IsClientOf map.now result.0 }
@@ -261,81 +265,85 @@ fn look_first(map: &SharedMap, client: Client, query: Option<Batch>) -> (Client,
     }
 }
 
-/// How an add by `answer` comes out, to a list that a snapshot of this query shares, or to one of the map alone.
-fn add<R: Wait>(rt: &R, alloc: Global, query: Option<Batch>) -> Result<Outcome> {
+/// Reports the result of an add by `answer`, to a list that a snapshot of this query shares, or to a list of the map
+/// only.
+fn add<R: Wait>(rt: &R, alloc: Global, query: Option<Batch>) -> Result<CallResult> {
     let (map, a, b) = open(alloc)?;
     let (mut a, snapshot) = look_first(&map, a, query);
     let more = Command::Add(operand(alloc, BASE + 2, BASE + 4)?);
     let outcome = match map.answer(rt, &mut a, more) {
-        Ok(Reply::Changed(2)) => Outcome::Done,
-        Err(Memory) => Outcome::Refused,
-        Ok(_) => Outcome::Spoiled,
+        Ok(Reply::Changed(2)) => CallResult::Done,
+        Err(Memory) => CallResult::Refused,
+        Ok(_) => CallResult::Spoiled,
     };
     drop(snapshot);
     let left: &[(u64, u64)] = match outcome {
-        Outcome::Done => &[(0, BASE), (BASE + 2, BASE + 4)],
-        Outcome::Refused | Outcome::Spoiled => &[(0, BASE)],
+        CallResult::Done => &[(0, BASE), (BASE + 2, BASE + 4)],
+        CallResult::Refused | CallResult::Spoiled => &[(0, BASE)],
     };
     let set = Coverage::from_ranges(alloc, left)?;
-    settled(outcome, stands(alloc, map, a, b, &set))
+    checked_result(outcome, is_intact(alloc, map, a, b, &set))
 }
 
-/// How the answer of a snapshot comes out.
-fn shown(answer: &Result<Replies, Memory>, set: &Coverage) -> Outcome {
+/// Reports the result of a snapshot's reply.
+fn reply_of_look(answer: &Result<Replies, Memory>, set: &Coverage) -> CallResult {
     match answer {
-        Ok(replies) if is_cover(replies, set) => Outcome::Done,
-        Err(Memory) => Outcome::Refused,
-        _ => Outcome::Spoiled,
+        Ok(replies) if is_cover(replies, set) => CallResult::Done,
+        Err(Memory) => CallResult::Refused,
+        _ => CallResult::Spoiled,
     }
 }
 
-/// How two answers of one snapshot come out. No two are refused.
-fn answer_twice(alloc: Global) -> Result<Outcome> {
+/// Reports the result of two replies of one snapshot. At most one of them fails.
+fn answer_twice(alloc: Global) -> Result<CallResult> {
     let set = Coverage::from_ranges(alloc, &[(0, BASE)])?;
     let (map, a, b) = open(alloc)?;
     let read = Batch::one(alloc, Command::Read(operand(alloc, 0, BASE)?))?;
     let (a, snapshot) = look(&map, a, read);
     let Some(snapshot) = snapshot else {
-        return Ok(Outcome::Spoiled);
+        return Ok(CallResult::Spoiled);
     };
-    let first = shown(&snapshot.answer(alloc), &set);
-    let second = shown(&snapshot.answer(alloc), &set);
+    let first = reply_of_look(&snapshot.answer(alloc), &set);
+    let second = reply_of_look(&snapshot.answer(alloc), &set);
     let outcome = match first {
-        Outcome::Done => second,
-        Outcome::Refused if second == Outcome::Done => Outcome::Refused,
-        Outcome::Refused | Outcome::Spoiled => Outcome::Spoiled,
+        CallResult::Done => second,
+        CallResult::Refused if second == CallResult::Done => CallResult::Refused,
+        CallResult::Refused | CallResult::Spoiled => CallResult::Spoiled,
     };
-    settled(outcome, stands(alloc, map, a, b, &set))
+    checked_result(outcome, is_intact(alloc, map, a, b, &set))
 }
 
-/// How the making of a map comes out.
-fn make(alloc: Global) -> Result<Outcome> {
+/// Reports the result of the creation of a map.
+fn make(alloc: Global) -> Result<CallResult> {
     let set = Coverage::from_ranges(alloc, &[(0, BASE)])?;
     let start = Coverage::from_ranges(alloc, &[(0, BASE)])?;
     match SharedMap::new(alloc, start, 2) {
         Ok((map, mut clients)) => match (next(&map, &mut clients), next(&map, &mut clients)) {
-            (Some(b), Some(a)) => settled(Outcome::Done, stands(alloc, map, a, b, &set)),
-            _ => Ok(Outcome::Spoiled),
+            (Some(b), Some(a)) => checked_result(
+                CallResult::Done,
+                is_intact(alloc, map, a, b, &set),
+            ),
+            _ => Ok(CallResult::Spoiled),
         },
-        Err(NewError::Memory) => Ok(Outcome::Refused),
-        Err(NewError::BadCount) => Ok(Outcome::Spoiled),
+        Err(NewError::Memory) => Ok(CallResult::Refused),
+        Err(NewError::BadCount) => Ok(CallResult::Spoiled),
     }
 }
 
-/// How the end of a map comes out.
-fn close(alloc: Global) -> Result<Outcome> {
+/// Reports the result of the end of a map.
+fn close(alloc: Global) -> Result<CallResult> {
     let set = Coverage::from_ranges(alloc, &[(0, BASE)])?;
     let (map, mut a, b) = open(alloc)?;
     map.take_in(&mut a, b);
     Ok(match map.close(a) {
-        Ok(closed) if closed.same(&set) => Outcome::Done,
-        Err(CloseError::Memory) => Outcome::Refused,
-        _ => Outcome::Spoiled,
+        Ok(closed) if closed.same(&set) => CallResult::Done,
+        Err(CloseError::Memory) => CallResult::Refused,
+        _ => CallResult::Spoiled,
     })
 }
 
-/// Tells how each call comes out.
-pub fn tell<R: Print + Wait>(rt: &R, alloc: Global) -> Result<()> {
+/// Reports the result of each call.
+pub fn report<R: Print + Wait>(rt: &R, alloc: Global) -> Result<()> {
     println!(rt; "new: {}", make(alloc)?)?;
     for call in [Call::TryApply, Call::Apply, Call::Finish] {
         println!(rt; "{call} of an update: {}", invert(rt, alloc, call)?)?;

@@ -1,4 +1,4 @@
-//! Answers a script of four lines by two lanes, and says how the crew ended and how many lines it wrote.
+//! Runs a script of four lines with two lanes, and reports the result and the number of output lines.
 
 use anyhow::{Result, bail};
 use moc_script::{Lanes, OpenGate, OverReader, OverWriter, crew};
@@ -8,11 +8,11 @@ use std::marker::Sync;
 use std::sync::Wait;
 use std::thread::Threads;
 
-/// A blank line, and four that are answered, two by each lane.
+/// A blank line, and four lines with replies, two for each lane.
 const SCRIPT: &[u8] = b"add 0/0\nadd 0/1\n\ncount 0/0\ncount 0/1\n";
 
-/// Tells how the crew ends.
-pub fn tell<R: Print + Threads + Wait + Sync>(rt: &R, alloc: Global) -> Result<()> {
+/// Reports the result of the crew.
+pub fn report<R: Print + Threads + Wait + Sync>(rt: &R, alloc: Global) -> Result<()> {
     let Some(lanes) = Lanes::new(2) else {
         bail!("no lanes");
     };

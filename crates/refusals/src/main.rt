@@ -1,5 +1,5 @@
-//! `refusals WORK`: does a work that takes memory, and says how it came out. `tests/program.py` refuses each growth of
-//! each work in turn, and counts the growths of `once` and of `often`. Without a word all are done.
+//! `refusals WORK`: executes a work that allocates, and reports its result. `tests/program.py` makes each allocation of
+//! each work fail in turn, and counts the allocations of `once` and of `often`. Without a word it executes all works.
 #![tactic(auto)]
 
 mod calls;
@@ -18,28 +18,28 @@ use std::thread::Threads;
 fn main(rt: HostRuntime) -> Result<()> {
     let words: Vec<String> = std::env::args(&rt)?.collect(rt.alloc())?;
     match words.get(1) {
-        Some(work) => tell(&rt, rt.alloc(), work.as_str()),
-        None => tell_all(&rt, rt.alloc()),
+        Some(work) => report(&rt, rt.alloc(), work.as_str()),
+        None => report_all(&rt, rt.alloc()),
     }
 }
 
-/// Tells how a work comes out.
-fn tell<R: Print + Threads + Wait + Sync>(rt: &R, alloc: Global, work: &str) -> Result<()> {
+/// Reports the result of a work.
+fn report<R: Print + Threads + Wait + Sync>(rt: &R, alloc: Global, work: &str) -> Result<()> {
     match work {
-        "calls" => calls::tell(rt, alloc),
-        "crew" => crew::tell(rt, alloc),
-        "inversion" => inversion::tell(rt, alloc),
-        "often" => steady::tell(rt, alloc, 30),
-        "once" => steady::tell(rt, alloc, 1),
-        "script" => script::tell(rt, alloc),
+        "calls" => calls::report(rt, alloc),
+        "crew" => crew::report(rt, alloc),
+        "inversion" => inversion::report(rt, alloc),
+        "often" => steady::report(rt, alloc, 30),
+        "once" => steady::report(rt, alloc, 1),
+        "script" => script::report(rt, alloc),
         _ => bail!("no work {work}"),
     }
 }
 
-/// Tells how each work comes out.
-fn tell_all<R: Print + Threads + Wait + Sync>(rt: &R, alloc: Global) -> Result<()> {
+/// Reports the result of each work.
+fn report_all<R: Print + Threads + Wait + Sync>(rt: &R, alloc: Global) -> Result<()> {
     for work in ["calls", "crew", "inversion", "often", "once", "script"] {
-        tell(rt, alloc, work)?;
+        report(rt, alloc, work)?;
     }
     Ok(())
 }

@@ -1,15 +1,15 @@
-//! Runs a script of six lines, and says how the run ended and how many answers it wrote.
+//! Runs a script of six lines, and reports the result and the number of replies.
 
 use anyhow::Result;
 use moc_script::{OverReader, OverWriter, run};
 use std::alloc::Global;
 use std::io::Print;
 
-/// Two blank lines, and four that are answered.
+/// Two blank lines, and four lines with replies.
 const SCRIPT: &[u8] = b" \t\n\nadd 0/0\ncount 0/0-1\nadd 0/1 ; read 0/0-2\nread\n";
 
-/// Tells how the run ends.
-pub fn tell(rt: &impl Print, alloc: Global) -> Result<()> {
+/// Reports the result of the run.
+pub fn report(rt: &impl Print, alloc: Global) -> Result<()> {
     let mut room = [0u8; 256];
     let mut source = OverReader::new(SCRIPT);
     let mut sink = OverWriter::new(room.as_mut_slice());

@@ -1,6 +1,7 @@
-//! Calls of the step machine and of a running map that take no memory, each as often as there are rounds.
+//! Calls of the step machine and of a shared map that do not allocate, each as often as there are rounds.
 //!
-//! Clients and batches are made before, and as many for any number of rounds: so no growth depends on that number.
+//! Clients and batches are created first, as many for any number of rounds, so that no allocation depends on that
+//! number.
 
 ghost use Rattle.std.specs.Prelude.{All, IfOk};
 ghost use Rattle.moc_shared.specs.Clients.{IsClientOf};
@@ -14,7 +15,7 @@ use moc_steps::{Step, World, next_step};
 use std::alloc::Global;
 use std::io::Print;
 
-/// How many clients the map has: one more than the most rounds.
+/// The number of clients of the map: one more than the largest number of rounds.
 const CLIENTS: u8 = 31;
 
 /// A world in which a client has taken all parts of an inversion but the last.
@@ -28,7 +29,7 @@ fn taking(alloc: Global) -> Result<World> {
     Ok(world)
 }
 
-/// Asks whether steps are permitted, and which is next; returns whether all is as it should be.
+/// Asks whether steps are permitted, and which is next; returns whether every reply is right.
 fn ask(world: &World) -> bool {
     let take = world.permits(&Step::Take { client: 1 });
     let end = world.permits(&Step::End { client: 1 });
@@ -36,7 +37,7 @@ fn ask(world: &World) -> bool {
     take.is_ok() && end.is_err() && idle.is_err() && next_step(world).is_some()
 }
 
-/// Holds the parts of a batch, and lets them go.
+/// Takes the parts of a batch, and lets them go.
 fn hold(map: &SharedMap, client: Client, batch: Batch) -> Result<Client>
     requires { IsClientOf map.now client }
     ensures { IfOk result (λ c. IsClientOf map.now c) }
@@ -67,7 +68,7 @@ fn batches(alloc: Global) -> Result<Vec<Batch>> {
     Ok(batches)
 }
 
-/// Does the rounds of the last clients, as many as are asked for; the first takes them in.
+/// Executes the rounds of the last clients, as many as requested; the first client takes them in.
 fn go_rounds(
     map: &SharedMap,
     first: &mut Client,
@@ -87,8 +88,8 @@ fn go_rounds(
     Ok(())
 }
 
-/// Does so many rounds, 30 at most.
-pub fn tell(rt: &impl Print, alloc: Global, rounds: usize) -> Result<()> {
+/// Executes this number of rounds, at most 30.
+pub fn report(rt: &impl Print, alloc: Global, rounds: usize) -> Result<()> {
     let world = taking(alloc)?;
     for _ in 0..rounds {
         if !ask(&world) {

@@ -1,10 +1,10 @@
-//! Scripts, schedules and numbers between devices that move one byte a call.
-use crate::failing::{Devices, FailingSink, FailingSource, SOUND};
+//! Scripts, schedules and numbers over devices that move one byte a call.
+use crate::failing::{Devices, FailingSink, FailingSource, WORKING};
 use moc_script::{Renumbering, RunError, play, renumber, run};
 use std::alloc::Global;
 use std::process::Abort;
 
-/// What a text is taken for.
+/// The language of a text.
 #[derive(Clone, Copy, Debug, PartialEq, Eq)]
 pub enum Language {
     Script,
@@ -12,17 +12,17 @@ pub enum Language {
     Numbers(Renumbering),
 }
 
-/// How a call between such devices ended, what was written, and how often the writer was flushed.
+/// The end of a call over such devices: its result, the output, and the number of flushes.
 #[derive(Drop)]
-pub struct Ended {
+pub struct CallEnd {
     pub devices: Devices,
     pub result: Result<(), RunError>,
     pub text: Vec<u8>,
     pub flushes: Option<u64>,
 }
 
-/// Answers a text between such devices.
-pub fn between(alloc: Global, language: Language, text: &[u8], devices: Devices) -> Ended {
+/// Executes a text over such devices.
+pub fn between(alloc: Global, language: Language, text: &[u8], devices: Devices) -> CallEnd {
     let mut source = FailingSource::new(text, devices);
     let mut sink = FailingSink::new(alloc, devices);
     let result = match language {
@@ -30,7 +30,7 @@ pub fn between(alloc: Global, language: Language, text: &[u8], devices: Devices)
         Language::Schedule => play(alloc, &mut source, &mut sink),
         Language::Numbers(renumbering) => renumber(alloc, &mut source, &mut sink, renumbering),
     };
-    Ended {
+    CallEnd {
         devices,
         result,
         text: sink.taken,
@@ -38,21 +38,21 @@ pub fn between(alloc: Global, language: Language, text: &[u8], devices: Devices)
     }
 }
 
-/// Checks how a call ended, what was written, and how often the writer was flushed.
+/// Checks the result of a call, the output, and the number of flushes.
 pub fn expect_end(
     rt: &impl Abort,
-    ended: &Ended,
-    outcome: Result<(), RunError>,
+    call_end: &CallEnd,
+    result_of_call: Result<(), RunError>,
     text: &[u8],
     flushes: u64,
 ) {
-    let devices = ended.devices;
-    assert_eq!(rt; ended.result, outcome, "{devices:?}");
-    assert_eq!(rt; ended.text.as_slice(), text, "{devices:?}");
-    assert_eq!(rt; ended.flushes, Some(flushes), "{devices:?}");
+    let devices = call_end.devices;
+    assert_eq!(rt; call_end.result, result_of_call, "{devices:?}");
+    assert_eq!(rt; call_end.text.as_slice(), text, "{devices:?}");
+    assert_eq!(rt; call_end.flushes, Some(flushes), "{devices:?}");
 }
 
-/// Checks the answers to a text.
+/// Checks the replies to a text.
 pub fn expect_answers(
     rt: &impl Abort,
     alloc: Global,
@@ -60,16 +60,16 @@ pub fn expect_answers(
     text: &[u8],
     answers: &[u8],
 ) {
-    let ended = between(alloc, language, text, SOUND);
-    expect_end(rt, &ended, Ok(()), answers, 1);
+    let call_end = between(alloc, language, text, WORKING);
+    expect_end(rt, &call_end, Ok(()), answers, 1);
 }
 
-/// Checks what was read or written.
+/// Checks the bytes of a read or a write.
 pub fn has_text(rt: &impl Abort, seen: &[u8], text: &str) {
     assert_eq!(rt; seen, text.as_bytes(), "{text:?}");
 }
 
-/// Whether a text stands at the front of a room, and nothing behind it.
+/// Tests whether a text is at the front of a buffer, and the rest is zero.
 pub fn holds(room: &[u8], text: &[u8]) -> bool {
     let (front, rest) = room.split_at(text.len().min(room.len()));
     front == text && rest.iter().all(|byte| *byte == 0)

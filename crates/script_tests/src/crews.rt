@@ -1,7 +1,7 @@
-//! What crews are answered: real threads, held up by their gate.
-use crate::between::{Ended, expect_end};
+//! Replies to crews: real threads, delayed by their gate.
+use crate::between::{CallEnd, expect_end};
 use crate::failing::{
-    Devices, FailingSink, FailingSource, Failure, SOUND, failing_reader, failing_writer,
+    Devices, FailingSink, FailingSource, Failure, WORKING, failing_reader, failing_writer,
 };
 use crate::scripts::million_lines;
 use moc_script::{
@@ -24,7 +24,7 @@ const ANSWERS: &[u8] = b"changed 288230376151711744\nchanged 288230376151711744\
 
 const CLAIMS: &[u8] = b"claim 0/4\nhop\n\nclaim 1/17";
 
-// A number of lanes.
+// Returns this number of lanes.
 fn lanes(rt: &impl Abort, count: u8) -> Lanes {
     match Lanes::new(count) {
         Some(lanes) => lanes,
@@ -32,7 +32,7 @@ fn lanes(rt: &impl Abort, count: u8) -> Lanes {
     }
 }
 
-// A crew between such devices.
+// Runs a crew over such devices.
 fn crew_between<T: Abort + Threads + Wait + Sync, G: Gate + Sync>(
     rt: &T,
     alloc: Global,
@@ -40,7 +40,7 @@ fn crew_between<T: Abort + Threads + Wait + Sync, G: Gate + Sync>(
     count: u8,
     gate: &G,
     devices: Devices,
-) -> Ended {
+) -> CallEnd {
     let lanes = lanes(rt, count);
     let mut source = FailingSource::new(script, devices);
     let mut sink = FailingSink::new(alloc, devices);
@@ -49,7 +49,7 @@ fn crew_between<T: Abort + Threads + Wait + Sync, G: Gate + Sync>(
         Err(CrewError::Run(error)) => Err(error),
         Err(CrewError::Spawn) => panic!(rt; "a thread could not be started"),
     };
-    Ended {
+    CallEnd {
         devices,
         result,
         text: sink.taken,
@@ -57,7 +57,7 @@ fn crew_between<T: Abort + Threads + Wait + Sync, G: Gate + Sync>(
     }
 }
 
-// Checks the text of a crew.
+// Checks the output of a crew.
 fn expect<T: Abort + Threads + Wait + Sync, G: Gate + Sync>(
     rt: &T,
     alloc: Global,
@@ -66,7 +66,7 @@ fn expect<T: Abort + Threads + Wait + Sync, G: Gate + Sync>(
     gate: &G,
     text: &[u8],
 ) {
-    let ended = crew_between(rt, alloc, script, count, gate, SOUND);
+    let ended = crew_between(rt, alloc, script, count, gate, WORKING);
     expect_end(rt, &ended, Ok(()), text, 1);
 }
 
@@ -93,7 +93,7 @@ fn more_than_a_million_lines_of_a_crew(rt: HostRuntime) {
 
 #[test]
 fn claims_in_three_lanes(rt: HostRuntime) {
-    let ended = crew_between(&rt, rt.alloc(), CLAIMS, 3, &OpenGate, SOUND);
+    let ended = crew_between(&rt, rt.alloc(), CLAIMS, 3, &OpenGate, WORKING);
     assert_eq!(rt; ended.result, Ok(()));
     let first = b"claimed\nfault UnknownWord\ntaken 72057594037927936\ncover 0/4\n";
     let second = b"taken 72057594037927936\nfault UnknownWord\nclaimed\ncover 1/17\n";
@@ -111,7 +111,7 @@ fn numbers_of_lanes(rt: HostRuntime) {
     }
 }
 
-// Keeps each lane in its first pass until both lanes are in theirs.
+// Delays the first pass of each lane until both lanes have begun theirs.
 #[derive(Drop)]
 struct Both {
     first: AtomicU64,
@@ -152,7 +152,7 @@ fn two_lanes_at_once(rt: HostRuntime) {
     assert!(rt; gate.gave_up.load(Ordering::SeqCst) == 0);
 }
 
-// Keeps lane 0 in its first pass until lane 1 has done a line.
+// Delays the first pass of lane 0 until lane 1 has executed a line.
 #[derive(Drop)]
 struct SecondFirst {
     is_done: AtomicU64,
@@ -180,7 +180,7 @@ impl Gate for SecondFirst {
     }
 }
 
-// Lane 1 is done before lane 0 begins: the claim of the second line goes first.
+// Lane 1 ends before lane 0 begins: the claim of the second line comes first.
 #[test]
 fn second_lane_first(rt: HostRuntime) {
     let gate = SecondFirst {
@@ -192,14 +192,14 @@ fn second_lane_first(rt: HostRuntime) {
     assert!(rt; gate.gave_up.load(Ordering::SeqCst) == 0);
 }
 
-// Adds up what it is told: 100 times the lane and the line.
+// Sums its arguments: 100 times the lane and the line.
 #[derive(Drop)]
-struct Told {
+struct LinesSeen {
     passed: AtomicU64,
     done: AtomicU64,
 }
 
-impl Gate for Told {
+impl Gate for LinesSeen {
     fn pass(&self, lane: u8, line: u64) {
         let _ = self
             .passed
@@ -213,14 +213,14 @@ impl Gate for Told {
     }
 }
 
-// The gate is told of the lines 1, 2 and 4, the bad one too, in the lanes 0, 1 and 2.
+// The gate sees the lines 1, 2 and 4, also the invalid one, in the lanes 0, 1 and 2.
 #[test]
-fn lines_are_told(rt: HostRuntime) {
-    let gate = Told {
+fn gate_sees_each_line(rt: HostRuntime) {
+    let gate = LinesSeen {
         passed: AtomicU64::new(0),
         done: AtomicU64::new(0),
     };
-    let ended = crew_between(&rt, rt.alloc(), CLAIMS, 3, &gate, SOUND);
+    let ended = crew_between(&rt, rt.alloc(), CLAIMS, 3, &gate, WORKING);
     assert_eq!(rt; ended.result, Ok(()));
     assert_eq!(rt; gate.passed.load(Ordering::SeqCst), 307);
     assert_eq!(rt; gate.done.load(Ordering::SeqCst), 307);
@@ -244,7 +244,7 @@ fn writers_that_fail(rt: HostRuntime) {
     }
 }
 
-// The whole text is taken, and could not be sent on.
+// The whole output is accepted, and its flush fails.
 #[test]
 fn a_flush_that_fails(rt: HostRuntime) {
     let devices = failing_writer(Failure::Flush, 0, 1);
@@ -257,7 +257,7 @@ fn a_flush_that_fails(rt: HostRuntime) {
 fn too_long_a_line(rt: HostRuntime) {
     let mut script = Vec::from_slice(rt.alloc(), b"add 0/0\n").expect(&rt, "memory");
     script.resize(LINE_LIMIT + 9, b' ').expect(&rt, "memory");
-    let gate = Told {
+    let gate = LinesSeen {
         passed: AtomicU64::new(0),
         done: AtomicU64::new(0),
     };

@@ -5,7 +5,7 @@ use moc_script::{DeviceFault, Log, Sink, Source};
 use std::alloc::Global;
 use std::io::{self, ErrorKind, Read, Write};
 
-/// After how many calls a device fails, and how often.
+/// The number of calls before a device fails, and the number of failures.
 #[derive(Clone, Copy, Debug, PartialEq, Eq)]
 pub struct Failures {
     pub calls: u64,
@@ -13,7 +13,7 @@ pub struct Failures {
 }
 
 impl Failures {
-    /// Whether the next call fails.
+    /// Counts a call, and returns whether it fails.
     fn next(&mut self) -> bool {
         if self.calls > 0 {
             self.calls -= 1;
@@ -25,18 +25,18 @@ impl Failures {
     }
 }
 
-/// How a writer fails.
+/// The way in which a writer fails.
 #[derive(Clone, Copy, Debug, PartialEq, Eq)]
 pub enum Failure {
-    /// A write is an error.
+    /// A write returns an error.
     Error,
-    /// A write takes no byte.
+    /// A write accepts no byte.
     TakesNone,
-    /// A flush is an error.
+    /// A flush returns an error.
     Flush,
 }
 
-/// How the reader and the writer fail.
+/// The failures of the reader and the writer.
 #[derive(Clone, Copy, Debug, PartialEq, Eq)]
 pub struct Devices {
     pub reader: Failures,
@@ -47,31 +47,31 @@ pub struct Devices {
 /// More failures than a call can meet.
 pub const PLENTY: u64 = 1 << 40;
 
-/// Devices that do not fail.
-pub const SOUND: Devices = Devices {
+/// Returns devices that do not fail.
+pub const WORKING: Devices = Devices {
     reader: Failures { calls: 0, times: 0 },
     writer: Failures { calls: 0, times: 0 },
     failure: Failure::Error,
 };
 
-/// Devices whose reader fails, after so many calls and so often.
+/// Returns devices whose reader fails after this number of calls, this number of times.
 pub fn failing_reader(calls: u64, times: u64) -> Devices {
     Devices {
         reader: Failures { calls, times },
-        ..SOUND
+        ..WORKING
     }
 }
 
-/// Devices whose writer fails so, after so many calls and so often.
+/// Returns devices whose writer fails in this way after this number of calls, this number of times.
 pub fn failing_writer(failure: Failure, calls: u64, times: u64) -> Devices {
     Devices {
         writer: Failures { calls, times },
         failure,
-        ..SOUND
+        ..WORKING
     }
 }
 
-/// A reader that gives one byte a call, but fails so.
+/// A reader that delivers one byte a call, and fails as stated.
 #[derive(Drop)]
 pub struct FailingSource<'a> {
     bytes: &'a [u8],
@@ -82,7 +82,7 @@ pub struct FailingSource<'a> {
 }
 
 impl<'a> FailingSource<'a> {
-    /// A reader of these bytes.
+    /// Returns a reader of these bytes.
     pub fn new(bytes: &'a [u8], devices: Devices) -> FailingSource<'a>
         ensures { result.is_marked ≡ false }
     {
@@ -129,7 +129,7 @@ impl Source for FailingSource<'_> {
     }
 }
 
-/// A writer that takes one byte a call, but fails so.
+/// A writer that accepts one byte a call, and fails as stated.
 #[derive(Drop)]
 pub struct FailingSink {
     pub taken: Vec<u8>,
@@ -141,7 +141,7 @@ pub struct FailingSink {
 }
 
 impl FailingSink {
-    /// A writer that has taken nothing.
+    /// Returns a writer that has accepted nothing.
     pub fn new(alloc: Global, devices: Devices) -> FailingSink
         ensures unmarked { result.is_marked ≡ false }
         ensures empty { result.taken.items ≡ [] }
@@ -200,7 +200,7 @@ impl Sink for FailingSink {
     }
 }
 
-/// A reader and writer of std that fails at its first call and then works, and counts its calls.
+/// A reader and writer of std that fails at its first call, works afterwards, and counts its calls.
 #[derive(Drop)]
 pub struct FailsOnce {
     pub has_failed: bool,

@@ -1,10 +1,10 @@
-//! The calls of `moc_lines` for a language of one's own: words and fields, commands, answers, and inputs that are read
+//! The calls of `moc_lines` for other line languages: words and fields, commands, replies, and inputs that are read
 //! whole.
 use crate::between::has_text;
 use moc_lines::{
-    Commands, InputError, LINE_LIMIT, LineFault, OverReader, OverWriter, ReadError,
-    answer_all_lines, answer_text, is_blank_text, is_word, number_behind_last, number_in,
-    only_field, push_count, push_cover, push_fault, push_reply_line, read_all, read_batch,
+    Commands, LINE_LIMIT, LineError, OverReader, OverWriter, ReadError, ScriptInputError,
+    answer_all_lines, answer_text, is_blank_text, is_word, line_after_last, only_field,
+    parse_decimal, push_count, push_cover, push_error, push_reply_line, read_all, read_batch,
     read_commands, split_line, split_word, two_fields,
 };
 use moc_parts::{Map, Reply};
@@ -45,7 +45,7 @@ fn numbers_of_fields(rt: HostRuntime) {
         ("1x", None),
         ("1234567890123456789012345x", None),
     ] {
-        assert_eq!(rt; number_in(field.as_bytes()), number, "{field}");
+        assert_eq!(rt; parse_decimal(field.as_bytes()), number, "{field}");
     }
 }
 
@@ -57,19 +57,19 @@ fn fields(rt: HostRuntime) {
     has_text(&rt, second, "18");
     for text in ["", " ", "7 8"] {
         assert!(rt;
-            only_field(text.as_bytes()) == Err(ReadError::Fault(LineFault::WrongCount)),
+            only_field(text.as_bytes()) == Err(ReadError::Fault(LineError::WrongCount)),
             "{text:?}"
         );
     }
     for text in ["", "7", "7 8 9"] {
         assert!(rt;
-            two_fields(text.as_bytes()) == Err(ReadError::Fault(LineFault::WrongCount)),
+            two_fields(text.as_bytes()) == Err(ReadError::Fault(LineError::WrongCount)),
             "{text:?}"
         );
     }
 }
 
-/// The answer to a line by a map of base pixels 0 and 1.
+/// Returns the reply to a line of a map of base pixels 0 and 1.
 fn answer(rt: &impl Abort, alloc: Global, line: &str) -> Vec<u8> {
     let start = read_set(rt, alloc, 2);
     let mut map = Map::new(alloc, start).expect(rt, "memory");
@@ -78,7 +78,7 @@ fn answer(rt: &impl Abort, alloc: Global, line: &str) -> Vec<u8> {
     answer_text(alloc, &replies).expect(rt, "memory")
 }
 
-/// The first base pixels, so many of them.
+/// Returns the set of the first base pixels, up to this number.
 fn read_set(rt: &impl Abort, alloc: Global, base_pixels: u64) -> Coverage {
     let mut cells = Vec::new(alloc);
     for index in 0..base_pixels {
@@ -112,11 +112,11 @@ fn batches(rt: HostRuntime) {
         );
     }
     for (line, fault) in [
-        ("", LineFault::EmptyCommand),
-        ("add 0/0;", LineFault::EmptyCommand),
-        ("hop", LineFault::UnknownWord),
-        ("degrade 30", LineFault::OrderTooLarge),
-        ("near 0 12", LineFault::CellTooLarge),
+        ("", LineError::EmptyCommand),
+        ("add 0/0;", LineError::EmptyCommand),
+        ("hop", LineError::UnknownWord),
+        ("degrade 30", LineError::OrderTooLarge),
+        ("near 0 12", LineError::CellTooLarge),
     ] {
         let read = read_batch(rt.alloc(), line.as_bytes());
         assert!(rt;
@@ -133,7 +133,7 @@ fn texts_of_answers(rt: HostRuntime) {
     let replies = [Reply::Changed(7), Reply::Near(true)];
     push_reply_line(alloc, &replies, &mut text).expect(&rt, "memory");
     push_count(b"midway ", 2, &mut text).expect(&rt, "memory");
-    push_fault(LineFault::WrongCount.name(), &mut text).expect(&rt, "memory");
+    push_error(LineError::WrongCount.name(), &mut text).expect(&rt, "memory");
     push_cover(alloc, &read_set(&rt, alloc, 0), &mut text).expect(&rt, "memory");
     push_cover(alloc, &read_set(&rt, alloc, 3), &mut text).expect(&rt, "memory");
     has_text(
@@ -148,14 +148,14 @@ fn whole_inputs(rt: HostRuntime) {
     let text = b"add 0/0\n\nread 0/0";
     let all = read_all(rt.alloc(), &mut OverReader::new(text.as_slice())).expect(&rt, "lines");
     has_text(&rt, &all, "add 0/0\n\nread 0/0");
-    assert_eq!(rt; number_behind_last(&all), 4);
+    assert_eq!(rt; line_after_last(&all), 4);
     for (text, line, behind) in [("a\nb\n", "a", "b\n"), ("\n", "", ""), ("a", "a", "")] {
         let (seen, rest) = split_line(text.as_bytes());
         has_text(&rt, seen, line);
         has_text(&rt, rest, behind);
     }
     for (text, number) in [("", 1), ("a", 2), ("a\n", 2), ("a\nb", 3)] {
-        assert_eq!(rt; number_behind_last(text.as_bytes()), number, "{text:?}");
+        assert_eq!(rt; line_after_last(text.as_bytes()), number, "{text:?}");
     }
 }
 
@@ -167,7 +167,7 @@ fn a_line_too_long_is_numbered(rt: HostRuntime) {
     assert!(rt; all.is_ok());
     text.push(b'x').expect(&rt, "memory");
     let all = read_all(rt.alloc(), &mut OverReader::new(text.as_slice()));
-    assert!(rt; matches!(all, Err(InputError::TooLong { line: 2 })));
+    assert!(rt; matches!(all, Err(ScriptInputError::TooLong { line: 2 })));
 }
 
 #[test]

@@ -1,7 +1,7 @@
-//! What lines of numbers are answered.
+//! Replies to lines of numbers.
 use crate::between::{Language, expect_answers as expect};
 use moc_script::{
-    LINE_LIMIT, NumberFault, Numbering, NumberingNameError, OverReader, OverWriter, Renumbering,
+    LINE_LIMIT, NumberError, Numbering, NumberingNameError, OverReader, OverWriter, Renumbering,
     RunError, renumber,
 };
 use moc_sphere::Order;
@@ -12,13 +12,13 @@ use std::str::FromStr;
 // The names of the numberings.
 const NAMES: [&str; 3] = ["nest", "ring", "uniq"];
 
-// The ring numbers of the cells of order 1, by their nested numbers.
+// The ring indices of the cells of order 1, by nested index.
 const RINGS: [u64; 48] = [
     13, 5, 4, 0, 15, 7, 6, 1, 17, 9, 8, 2, 19, 11, 10, 3, 28, 20, 27, 12, 30, 22, 21, 14, 32, 24,
     23, 16, 34, 26, 25, 18, 44, 37, 36, 29, 45, 39, 38, 31, 46, 41, 40, 33, 47, 43, 42, 35,
 ];
 
-// Numbers of an order, by the names of two numberings.
+// Converts numbers of an order between two numberings, given by name.
 fn numbers(from: &str, to: &str, order: u8) -> Option<Language> {
     Some(Language::Numbers(Renumbering {
         from: Numbering::from_str(from).ok()?,
@@ -27,7 +27,7 @@ fn numbers(from: &str, to: &str, order: u8) -> Option<Language> {
     }))
 }
 
-// The numbers of the cells of order 1 in this numbering, by their nested numbers, a line each.
+// The numbers of the cells of order 1 in this numbering, by nested index, one a line.
 fn cells_of_order_1(alloc: Global, name: &str) -> Result<String, AllocError> {
     let mut lines = String::new(alloc);
     for (index, ring) in RINGS.iter().enumerate() {
@@ -63,7 +63,7 @@ fn all_cells_of_order_1(rt: HostRuntime) {
     assert!(rt; Numbering::from_str("nested") == Err(NumberingNameError::NotNumbering));
 }
 
-// Cells of the least and of the greatest order: the first and the last in some numbering.
+// Cells of the smallest and of the largest order: the first and the last in a numbering.
 #[test]
 fn ends_of_orders(rt: HostRuntime) {
     for (order, lines) in [
@@ -92,9 +92,9 @@ fn ends_of_orders(rt: HostRuntime) {
     }
 }
 
-// Faults of fields are those of any numbering.
+// Errors of fields are the same for every numbering.
 #[test]
-fn faulty_fields(rt: HostRuntime) {
+fn invalid_fields(rt: HostRuntime) {
     let fields = b"1 2\nx 2\n2 x\nx\n-1\n+1\n1x\n1;2\n0x1\n1.0\n";
     let told = b"\
 fault WrongCount
@@ -119,9 +119,9 @@ fault BadNumber
     }
 }
 
-// A number of more than 64 bits is too large, as one of 64 bits is.
+// A number of more than 64 bits is too large, as a number of 64 bits is.
 #[test]
-fn faulty_numbers(rt: HostRuntime) {
+fn invalid_numbers(rt: HostRuntime) {
     for (from, lines, answers) in [
         (
             "nest",
@@ -162,7 +162,7 @@ fn faulty_numbers(rt: HostRuntime) {
     );
 }
 
-// Blank lines have no answer; blanks round a number and zeros before it are skipped; a last line needs no line feed.
+// Blank lines have no reply; blanks around a number and leading zeros are skipped; the last line needs no line feed.
 #[test]
 fn blanks_and_line_ends(rt: HostRuntime) {
     for blanks in ["", "\n \t\r\n\r\n  "] {
@@ -180,7 +180,7 @@ fn blanks_and_line_ends(rt: HostRuntime) {
     );
 }
 
-// A number, a line of so many zeros, and a number more.
+// A number, a line of this number of zeros, and another number.
 fn lines_with_zeros(alloc: Global, zeros: usize) -> Result<Vec<u8>, AllocError> {
     let mut lines = Vec::from_slice(alloc, b"1\n")?;
     let end = lines.len().saturating_add(zeros);
@@ -189,12 +189,12 @@ fn lines_with_zeros(alloc: Global, zeros: usize) -> Result<Vec<u8>, AllocError> 
     Ok(lines)
 }
 
-// Checks what such lines are answered, from the nested numbers of order 1 to the ring numbers.
+// Checks the replies to such lines, from the nested indices of order 1 to the ring indices.
 fn expect_over_zeros(
     rt: &impl Abort,
     alloc: Global,
     zeros: usize,
-    outcome: Result<(), RunError>,
+    expected_result: Result<(), RunError>,
     answers: &[u8],
 ) {
     let lines = lines_with_zeros(alloc, zeros).expect(rt, "memory");
@@ -209,7 +209,7 @@ fn expect_over_zeros(
             order: Order::of(1),
         },
     );
-    assert_eq!(rt; ended, outcome);
+    assert_eq!(rt; ended, expected_result);
     assert_eq!(rt; text.as_slice(), answers);
 }
 
@@ -220,16 +220,16 @@ fn one_number(rt: HostRuntime) {
         (nest, ring, 18, Ok(27)),
         (ring, nest, 27, Ok(18)),
         (uniq, ring, 34, Ok(27)),
-        (nest, uniq, 48, Err(NumberFault::CellTooLarge)),
-        (ring, uniq, u64::MAX, Err(NumberFault::RingTooLarge)),
-        (uniq, nest, 3, Err(NumberFault::NotUniq)),
-        (uniq, nest, 15, Err(NumberFault::OtherOrder)),
+        (nest, uniq, 48, Err(NumberError::CellTooLarge)),
+        (ring, uniq, u64::MAX, Err(NumberError::RingTooLarge)),
+        (uniq, nest, 3, Err(NumberError::NotUniq)),
+        (uniq, nest, 15, Err(NumberError::OtherOrder)),
     ] {
         let order = Order::of(1);
         assert_eq!(rt; Renumbering { from, to, order }.of(number), told);
     }
-    let faults = [NumberFault::WrongCount, NumberFault::BadNumber];
-    assert_eq!(rt; faults.map(NumberFault::name), ["WrongCount", "BadNumber"]);
+    let faults = [NumberError::WrongCount, NumberError::BadNumber];
+    assert_eq!(rt; faults.map(NumberError::name), ["WrongCount", "BadNumber"]);
 }
 
 #[test]

@@ -1,5 +1,5 @@
-//! What schedules are answered.
-use crate::between::{Ended, Language, between, expect_answers, expect_end, holds};
+//! Replies to schedules.
+use crate::between::{CallEnd, Language, between, expect_answers, expect_end, holds};
 use crate::failing::{Devices, Failure, PLENTY, failing_reader, failing_writer};
 use moc_script::{OverReader, OverWriter, RunError, play};
 use std::alloc::{AllocError, Global};
@@ -48,13 +48,13 @@ order 1 2
 cover 0/0-1
 ";
 
-// Checks the answers to a schedule.
+// Checks the replies to a schedule.
 fn expect(rt: &impl Abort, alloc: Global, schedule: &[u8], answers: &[u8]) {
     expect_answers(rt, alloc, Language::Schedule, schedule, answers);
 }
 
-// Plays the schedule between such devices.
-fn played(alloc: Global, devices: Devices) -> Ended {
+// Plays the schedule over such devices.
+fn play_between(alloc: Global, devices: Devices) -> CallEnd {
     between(alloc, Language::Schedule, SCHEDULE, devices)
 }
 
@@ -79,7 +79,7 @@ take 2";
 }
 
 #[test]
-fn refusals_of_one_client(rt: HostRuntime) {
+fn errors_of_one_client(rt: HostRuntime) {
     let schedule = b"\
 take 7
 begin 7 invert
@@ -114,7 +114,7 @@ cover
 }
 
 #[test]
-fn refusals_of_two_clients(rt: HostRuntime) {
+fn errors_of_two_clients(rt: HostRuntime) {
     let schedule = b"\
 begin 1 add
 take 1
@@ -154,7 +154,7 @@ cover
     expect(&rt, rt.alloc(), schedule, answers);
 }
 
-// The second to begin is the first to edit, and so stands first; blank lines are counted, and have no answer.
+// The second client to begin edits first, so it comes first in the order; blank lines are counted and have no reply.
 #[test]
 fn order_by_first_edits(rt: HostRuntime) {
     let schedule = b"\
@@ -203,7 +203,7 @@ cover
     expect(&rt, rt.alloc(), schedule, answers);
 }
 
-// A client that has taken all parts of a footprint holds just those.
+// A client that has taken all parts of a footprint holds exactly these.
 #[test]
 fn footprints(rt: HostRuntime) {
     for (command, held) in [
@@ -218,14 +218,14 @@ fn footprints(rt: HostRuntime) {
         ),
         ("add 0/3 ; add", [0, 3].as_slice()),
     ] {
-        let (schedule, answers) = taken_and_tried(rt.alloc(), command, held).expect(&rt, "memory");
+        let (schedule, answers) = takes_and_tries(rt.alloc(), command, held).expect(&rt, "memory");
         expect(&rt, rt.alloc(), schedule.as_bytes(), answers.as_bytes());
     }
 }
 
-// A schedule in which a client takes as many parts as it should hold, and may take no more, and tries to give each
-// part; and its answers.
-fn taken_and_tried(
+// Returns a schedule in which a client takes as many parts as it should hold, may take no more, and tries to give each
+// part; and its replies.
+fn takes_and_tries(
     alloc: Global,
     command: &str,
     held: &[usize],
@@ -251,7 +251,7 @@ fn taken_and_tried(
 }
 
 #[test]
-fn faulty_lines(rt: HostRuntime) {
+fn invalid_lines(rt: HostRuntime) {
     let schedule = b"\
 hop
 take 1 2
@@ -279,9 +279,9 @@ cover
     expect(&rt, rt.alloc(), schedule, answers);
 }
 
-// Which fault comes first, and what parts a line.
+// Which error of a line comes first, and what separates fields.
 #[test]
-fn first_fault_of_a_line(rt: HostRuntime) {
+fn first_error_of_a_line(rt: HostRuntime) {
     let schedule = b"\
 begin
 begin 1;add 0/0
@@ -325,7 +325,7 @@ fn empty_schedule(rt: HostRuntime) {
     expect(&rt, rt.alloc(), b"\n", b"order\ncover\n");
 }
 
-// The front of the answers to so many lines. Each line of the schedule has one.
+// Returns the front of the replies to this number of lines. Each line of the schedule has one.
 fn first_lines(text: &[u8], count: usize) -> &[u8] {
     let mut lines = 0usize;
     for (at, byte) in text.iter().enumerate() {
@@ -339,7 +339,7 @@ fn first_lines(text: &[u8], count: usize) -> &[u8] {
     text
 }
 
-// How many lines of a text are whole.
+// Returns the number of whole lines of a text.
 fn whole_lines(text: &[u8]) -> usize {
     text.iter().filter(|byte| **byte == b'\n').count()
 }
@@ -347,7 +347,7 @@ fn whole_lines(text: &[u8]) -> usize {
 #[test]
 fn failing_reads(rt: HostRuntime) {
     for reads in 0..SCHEDULE.len() + 1 {
-        let ended = played(rt.alloc(), failing_reader(reads as u64, PLENTY));
+        let ended = play_between(rt.alloc(), failing_reader(reads as u64, PLENTY));
         let given = SCHEDULE.split_at(reads.min(SCHEDULE.len())).0;
         let expected = first_lines(ANSWERS, whole_lines(given));
         expect_end(&rt, &ended, Err(RunError::Read), expected, 0);
@@ -359,18 +359,18 @@ fn failing_writes(rt: HostRuntime) {
     for writes in 0..ANSWERS.len() {
         let expected = ANSWERS.split_at(writes).0;
         for failure in [Failure::Error, Failure::TakesNone] {
-            let ended = played(rt.alloc(), failing_writer(failure, writes as u64, PLENTY));
+            let ended = play_between(rt.alloc(), failing_writer(failure, writes as u64, PLENTY));
             expect_end(&rt, &ended, Err(RunError::Write), expected, 0);
         }
     }
-    let ended = played(rt.alloc(), failing_writer(Failure::Flush, 0, PLENTY));
+    let ended = play_between(rt.alloc(), failing_writer(Failure::Flush, 0, PLENTY));
     expect_end(&rt, &ended, Err(RunError::Write), ANSWERS, 1);
 }
 
-// With ample memory all is answered. Where one growth is refused, just the lines before the one that is named are, and
-// the last two lines not at all.
+// With enough memory every line is answered. If one allocation fails, exactly the lines before the reported one are
+// answered, and the last two lines are not.
 #[test]
-fn refused_growths(rt: HostRuntime) {
+fn failing_allocations(rt: HostRuntime) {
     let mut room = [0u8; 256];
     let mut source = OverReader::new(SCHEDULE);
     let mut sink = OverWriter::new(room.as_mut_slice());

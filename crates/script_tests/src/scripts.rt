@@ -1,10 +1,10 @@
-//! What scripts are answered.
-use crate::between::{Ended, Language, between, expect_answers, expect_end, holds};
+//! Replies to scripts.
+use crate::between::{CallEnd, Language, between, expect_answers, expect_end, holds};
 use crate::failing::{Devices, FailsOnce, Failure, PLENTY, failing_reader, failing_writer};
 use crate::silent::{SilentReader, SilentWriter, run_over_std};
 use moc_script::{
-    CrewError, DeviceFault, LINE_LIMIT, LineFault, OverReader, OverWriter, ReadError, RunError,
-    Sink, Source, StepFault, run, write_all,
+    CrewError, DeviceFault, LINE_LIMIT, LineError, OverReader, OverWriter, ReadError, RunError,
+    ScheduleLineError, Sink, Source, run, write_all,
 };
 use std::alloc::{AllocError, Global};
 use std::fmt::Display;
@@ -20,12 +20,12 @@ const CHANGES: &[u8] = b"add 0/0\nadd 0/0\nclaim 1/0 0/5\nread 0/5\ninvert\nread
 const CHANGED: &[u8] = b"changed 288230376151711744\nchanged 0\ntaken 72057594037927936\ncover\n\
       changed 3458764513820540928\ncover 0/1-11\n";
 
-// Runs a script between such devices.
-fn run_between(alloc: Global, script: &[u8], devices: Devices) -> Ended {
+// Runs a script over such devices.
+fn run_between(alloc: Global, script: &[u8], devices: Devices) -> CallEnd {
     between(alloc, Language::Script, script, devices)
 }
 
-// Checks the answers to a script.
+// Checks the replies to a script.
 fn expect(rt: &impl Abort, alloc: Global, script: &[u8], answers: &[u8]) {
     expect_answers(rt, alloc, Language::Script, script, answers);
 }
@@ -99,7 +99,7 @@ near no
 }
 
 #[test]
-fn faults(rt: HostRuntime) {
+fn errors_of_lines(rt: HostRuntime) {
     let script = b"\
 add 5/7-3
 hop 1
@@ -228,7 +228,7 @@ fn no_input_and_no_last_line_feed(rt: HostRuntime) {
     expect(&rt, rt.alloc(), b"add 29/0\ndegrade 0", answers);
 }
 
-// Runs a script over std's readers and writers.
+// Runs a script over readers and writers of std.
 fn run_over(alloc: Global, script: &[u8]) -> (Result<(), RunError>, Vec<u8>) {
     let mut taken = Vec::new(alloc);
     let mut source = OverReader::new(script);
@@ -238,24 +238,24 @@ fn run_over(alloc: Global, script: &[u8]) -> (Result<(), RunError>, Vec<u8>) {
     (result, taken)
 }
 
-// `add` and spaces, so many bytes.
+// Returns `add` and spaces, with this number of bytes.
 fn add_and_spaces(alloc: Global, len: usize) -> Result<Vec<u8>, AllocError> {
     let mut line = Vec::from_slice(alloc, b"add")?;
     line.resize(len, b' ')?;
     Ok(line)
 }
 
-// Checks how a line of so many bytes, `add` and spaces, is answered.
+// Checks the reply to a line of this number of bytes, `add` and spaces.
 fn expect_long(
     rt: &impl Abort,
     alloc: Global,
     len: usize,
-    outcome: Result<(), RunError>,
+    expected_result: Result<(), RunError>,
     answers: &[u8],
 ) {
     let line = add_and_spaces(alloc, len).expect(rt, "memory");
     let (ended, text) = run_over(alloc, &line);
-    assert_eq!(rt; ended, outcome);
+    assert_eq!(rt; ended, expected_result);
     assert_eq!(rt; text.as_slice(), answers);
 }
 
@@ -266,8 +266,8 @@ fn longest_line(rt: HostRuntime) {
     expect_long(&rt, rt.alloc(), LINE_LIMIT.saturating_add(1), too_long, b"");
 }
 
-// The front of the answers that the whole lines of a front of the script have: the lines of SCRIPT have 27, 37, 0, 0,
-// 18, 16 and 10 bytes of them.
+// The replies to the whole lines in a prefix of the script: the lines of SCRIPT have 27, 37, 0, 0, 18, 16 and 10 bytes
+// of replies.
 fn answers_to_front(bytes: usize) -> &'static [u8] {
     let mut answered = 0usize;
     for (end, len) in [
@@ -285,7 +285,7 @@ fn answers_to_front(bytes: usize) -> &'static [u8] {
     ANSWERS.split_at(answered.min(ANSWERS.len())).0
 }
 
-// A reader that fails for good, and one that fails once and then goes on, end the call alike.
+// A reader that fails for good, and a reader that fails once and then works, end the call alike.
 #[test]
 fn failing_reads(rt: HostRuntime) {
     for reads in 0..SCRIPT.len() + 1 {
@@ -297,8 +297,8 @@ fn failing_reads(rt: HostRuntime) {
     expect(&rt, rt.alloc(), SCRIPT, ANSWERS);
 }
 
-// The answers to the whole lines of a front of CHANGES: each line has one.
-fn changed_by_front(bytes: usize) -> &'static [u8] {
+// The replies to the whole lines in a prefix of CHANGES: each line has one.
+fn answers_to_changes(bytes: usize) -> &'static [u8] {
     let mut line = 1u64;
     for byte in CHANGES.split_at(bytes.min(CHANGES.len())).0 {
         if *byte == b'\n' {
@@ -312,11 +312,17 @@ fn changed_by_front(bytes: usize) -> &'static [u8] {
 fn failing_reads_of_changes(rt: HostRuntime) {
     for reads in 0..CHANGES.len() + 1 {
         let ended = run_between(rt.alloc(), CHANGES, failing_reader(reads as u64, PLENTY));
-        expect_end(&rt, &ended, Err(RunError::Read), changed_by_front(reads), 0);
+        expect_end(
+            &rt,
+            &ended,
+            Err(RunError::Read),
+            answers_to_changes(reads),
+            0,
+        );
     }
 }
 
-// Checks that a writer that fails so, after each number of writes, ends the call with the bytes before.
+// Checks that a writer that fails in this way, after each number of writes, ends the call with the bytes before.
 fn expect_written(
     rt: &impl Abort,
     alloc: Global,
@@ -333,7 +339,7 @@ fn expect_written(
     }
 }
 
-// A writer whose write is an error or takes no byte, for good or once, ends the call with the bytes before.
+// A writer that returns an error or accepts no byte, for good or once, ends the call with the bytes before.
 #[test]
 fn failing_writes(rt: HostRuntime) {
     for (script, answers) in [(SCRIPT, ANSWERS), (CHANGES, CHANGED)] {
@@ -355,7 +361,7 @@ fn failing_flush(rt: HostRuntime) {
     }
 }
 
-// Standard input and output report none of their bytes, and neither do these.
+// Standard input and output report none of their bytes, and neither do these devices.
 #[test]
 fn devices_that_report_nothing(rt: HostRuntime) {
     let mut writer = SilentWriter {
@@ -369,7 +375,7 @@ fn devices_that_report_nothing(rt: HostRuntime) {
     assert_eq!(rt; writer.bytes.as_slice(), ANSWERS);
 }
 
-// A device of std that has not been called yet, and fails at its first call alone.
+// A device of std that has not been called yet, and fails only at its first call.
 fn fails_once() -> FailsOnce {
     FailsOnce {
         has_failed: false,
@@ -378,7 +384,7 @@ fn fails_once() -> FailsOnce {
     }
 }
 
-// Checks what a call answers.
+// Checks the result of a call.
 fn expect_call(
     rt: &impl Abort,
     answer: Result<usize, DeviceFault>,
@@ -413,7 +419,7 @@ fn writes_of_std(rt: HostRuntime) {
     assert!(rt; device.calls == 2 && device.flushes == 1);
 }
 
-// All lines are there after one read, so that one write has all answers.
+// All lines are there after one read, so that one write has all replies.
 #[test]
 fn writes_of_a_short_script(rt: HostRuntime) {
     let mut device = FailsOnce {
@@ -544,23 +550,23 @@ fn texts_of_errors(rt: HostRuntime) {
     let error = CrewError::Run(RunError::Read);
     expect_text(&rt, alloc, &error, "the input could not be read");
     expect_text(&rt, alloc, &DeviceFault, "a device failed");
-    let fault = ReadError::Fault(LineFault::TooManyCommands);
+    let fault = ReadError::Fault(LineError::TooManyCommands);
     expect_text(&rt, alloc, &fault, "a line has at most 16 commands");
     expect_text(&rt, alloc, &ReadError::Memory, "out of memory");
 }
 
 #[test]
-fn texts_of_step_faults(rt: HostRuntime) {
+fn texts_of_schedule_errors(rt: HostRuntime) {
     let alloc = rt.alloc();
-    let fault = StepFault::Line(LineFault::BadNumber);
+    let fault = ScheduleLineError::Line(LineError::BadNumber);
     expect_text(&rt, alloc, &fault, "a field that is no number");
-    let fault = StepFault::ClientTooLarge;
+    let fault = ScheduleLineError::ClientTooLarge;
     expect_text(&rt, alloc, &fault, "a client above 4294967295");
-    let fault = StepFault::PartTooLarge;
+    let fault = ScheduleLineError::PartTooLarge;
     expect_text(&rt, alloc, &fault, "a part above 11");
 }
 
-// The lines of a text before the one of this number, counted from 1.
+// Returns the lines of a text before the line with this number, counted from 1.
 fn lines_before(text: &[u8], number: u64) -> &[u8] {
     let mut line = 1u64;
     for (at, byte) in text.iter().enumerate() {
@@ -574,10 +580,10 @@ fn lines_before(text: &[u8], number: u64) -> &[u8] {
     text
 }
 
-// With ample memory all is answered. Where one growth is refused (`rt try --test --fail-alloc N`, for each N), just the
-// lines before are.
+// With enough memory every line is answered. If one allocation fails (`rt try --test --fail-alloc N`, for each N),
+// exactly the lines before are answered.
 #[test]
-fn refused_growths(rt: HostRuntime) {
+fn failing_allocations(rt: HostRuntime) {
     let mut room = [0u8; 128];
     let mut source = OverReader::new(SCRIPT);
     let mut sink = OverWriter::new(room.as_mut_slice());

@@ -6,10 +6,10 @@ use moc_script::{OverReader, OverWriter, RunError, Sink, Source, run};
 use std::alloc::Global;
 use std::io::{self, ErrorKind, Read, Write};
 
-/// How many bytes a reader delivers at most in one call, and how many a writer accepts.
-const MOST_READ: usize = 3;
+/// The largest number of bytes that one call delivers or accepts.
+const MAX_READ: usize = 3;
 
-const MOST_WRITTEN: usize = 5;
+const MAX_WRITTEN: usize = 5;
 
 /// A reader of some bytes.
 #[derive(Drop)]
@@ -19,7 +19,7 @@ pub struct SilentReader<'a> {
 
 impl Read for SilentReader<'_> {
     fn read(&mut self, buffer: &mut [u8]) -> io::Result<usize> {
-        let count = self.rest.len().min(buffer.len()).min(MOST_READ);
+        let count = self.rest.len().min(buffer.len()).min(MAX_READ);
         let (front, rest) = self.rest.split_at(count);
         buffer[..count].copy_from_slice(front);
         self.rest = rest;
@@ -35,7 +35,7 @@ pub struct SilentWriter {
 
 impl Write for SilentWriter {
     fn write(&mut self, bytes: &[u8]) -> io::Result<usize> {
-        let count = bytes.len().min(MOST_WRITTEN);
+        let count = bytes.len().min(MAX_WRITTEN);
         match self.bytes.extend_from_slice(&bytes[..count]) {
             Ok(()) => Ok(count),
             Err(_) => Err(ErrorKind::OutOfMemory.into()),
@@ -47,7 +47,7 @@ impl Write for SilentWriter {
     }
 }
 
-/// Runs a script between a reader and a writer of std, whatever these report of their bytes.
+/// Runs a script between a reader and a writer of std, whether they report their bytes or not.
 pub fn run_over_std<R: Read, W: Write>(
     alloc: Global,
     source: &mut OverReader<R>,

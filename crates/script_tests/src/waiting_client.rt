@@ -1,29 +1,29 @@
-//! A client that sends a line only once it has the answers to the lines before.
+//! A client that sends a line only when it has the replies to the lines before.
 ghost use Rattle.std.specs.Prelude.{◌≡◌, [], false, None};
 ghost use Rattle.std.specs.FinSet as set;
 ghost use Rattle.moc_lines.specs.Runs.{answers_to, script_rules, whole_lines_of};
 
 use crate::between::has_text;
-use crate::failing::{FailingSink, SOUND};
+use crate::failing::{FailingSink, WORKING};
 use moc_lines::{DeviceFault, GuardedSource, Log, RunError, answer_all_lines};
 use moc_parts::Map;
 use moc_ranges::Coverage;
 use std::alloc::Global;
 
-/// A client that sends one byte a call, and would wait for ever if the answer to a line before were missing.
+/// A client that sends one byte a call, and would wait forever if the reply to an earlier line were missing.
 #[derive(Drop)]
 struct WaitingClient<'a> {
     script: &'a [u8],
     is_ended: bool,
-    /// How many lines it has sent.
+    /// The number of lines that it has sent.
     lines: usize,
-    /// Whether a read came before an answer.
+    /// Whether a read came before a reply.
     has_waited: bool,
     log: Log,
 }
 
 impl<'a> WaitingClient<'a> {
-    /// A client that sends this script, and has sent nothing.
+    /// Returns a client that sends this script, and has sent nothing yet.
     fn new(script: &'a [u8]) -> WaitingClient<'a>
         ensures { result.log.bytes ≡ [] }
     {
@@ -70,12 +70,12 @@ impl GuardedSource<FailingSink> for WaitingClient<'_> {
     }
 }
 
-/// How many line feeds a text has.
+/// Returns the number of line feeds in a text.
 fn lines_in(text: &[u8]) -> usize {
     text.iter().filter(|byte| **byte == b'\n').count()
 }
 
-/// Answers the lines of a client that may be read only after all answers.
+/// Answers the lines of a client that may be read only after all replies.
 fn answer_client(
     alloc: Global,
     map: &mut Map,
@@ -95,7 +95,7 @@ fn a_client_waits_for_each_answer(rt: HostRuntime) {
     let alloc = rt.alloc();
     let mut map = Map::new(alloc, Coverage::empty(alloc)).expect(&rt, "memory");
     let mut client = WaitingClient::new(b"add 0/0\nhop\ncount 0/0-1\n");
-    let mut sink = FailingSink::new(alloc, SOUND);
+    let mut sink = FailingSink::new(alloc, WORKING);
     let result = answer_client(alloc, &mut map, &mut client, &mut sink);
     assert_eq!(rt; result, Ok(()));
     assert!(rt; !client.has_waited);

@@ -4,7 +4,7 @@ use moc_text::{TextError, WriteError, is_separator, read_ascii, write_ascii};
 use std::alloc::Global;
 use std::process::Abort;
 
-/// Checks that the text is read as these ranges of pixels and this deepest order.
+/// Checks that the text is parsed as these ranges of pixels and this MOC order.
 fn is_read(
     rt: &impl Abort,
     alloc: Global,
@@ -16,17 +16,17 @@ fn is_read(
     says(rt, alloc, &said, ranges, deepest);
 }
 
-/// The fault of a text, if it has one.
-fn fault(alloc: Global, text: &[u8]) -> Option<TextError> {
+/// Returns the error of a text, if it has one.
+fn error_of(alloc: Global, text: &[u8]) -> Option<TextError> {
     match read_ascii(alloc, text) {
         Ok(_) => None,
-        Err(fault) => Some(fault),
+        Err(error_of) => Some(error_of),
     }
 }
 
-/// Checks the fault of a text, and its place.
-fn is_at_fault(rt: &impl Abort, alloc: Global, text: &str, wanted: TextError, place: usize) {
-    let seen = fault(alloc, text.as_bytes());
+/// Checks the error of a text, and its position.
+fn fails_at(rt: &impl Abort, alloc: Global, text: &str, wanted: TextError, place: usize) {
+    let seen = error_of(alloc, text.as_bytes());
     assert_eq!(rt;
         (seen, wanted.place()),
         (Some(wanted), Some(place)),
@@ -34,7 +34,7 @@ fn is_at_fault(rt: &impl Abort, alloc: Global, text: &str, wanted: TextError, pl
     );
 }
 
-/// Checks the text of what a text says.
+/// Checks the text of a set that is parsed from a text.
 fn is_rewritten(rt: &impl Abort, alloc: Global, text: &str, stated: Option<u8>, wanted: &str) {
     let (set, _) = read_ascii(alloc, text.as_bytes()).expect(rt, "a set");
     let written = write_ascii(alloc, &set, stated.and_then(Order::new)).expect(rt, "a text");
@@ -90,13 +90,13 @@ fn numbers_that_are_too_long(rt: HostRuntime) {
         ("s", "/0", TextError::OrderTooLarge { at: 1 }),
     ] {
         let text = repeated(&rt, rt.alloc(), front.as_bytes(), b'9', back.as_bytes());
-        let seen = fault(rt.alloc(), &text);
+        let seen = error_of(rt.alloc(), &text);
         assert_eq!(rt; seen, Some(wanted));
     }
 }
 
 #[test]
-fn faults_of_bytes(rt: HostRuntime) {
+fn errors_of_bytes(rt: HostRuntime) {
     for (text, at) in [
         ("5/7x", 3),
         ("5-3/", 3),
@@ -107,39 +107,39 @@ fn faults_of_bytes(rt: HostRuntime) {
         ("1/2/", 3),
         ("5/-", 2),
     ] {
-        is_at_fault(&rt, rt.alloc(), text, TextError::BadByte { at }, at);
+        fails_at(&rt, rt.alloc(), text, TextError::BadByte { at }, at);
     }
     for (text, at) in [("5/7-", 4), ("s", 1), ("1/1-", 4), ("1/1-2 4 2/12-", 13)] {
-        is_at_fault(&rt, rt.alloc(), text, TextError::Unfinished { at }, at);
+        fails_at(&rt, rt.alloc(), text, TextError::Unfinished { at }, at);
     }
 }
 
 #[test]
-fn faults_of_numbers(rt: HostRuntime) {
+fn errors_of_numbers(rt: HostRuntime) {
     for (text, at) in [("5/7-3", 2), ("1/1-2 4 2/12-1", 10)] {
-        is_at_fault(&rt, rt.alloc(), text, TextError::Backwards { at }, at);
+        fails_at(&rt, rt.alloc(), text, TextError::Backwards { at }, at);
     }
     for (text, at) in [
         ("1/5-999", 4),
         ("1/50-999", 2),
         ("s29/3458764513820540928", 4),
     ] {
-        is_at_fault(&rt, rt.alloc(), text, TextError::CellTooLarge { at }, at);
+        fails_at(&rt, rt.alloc(), text, TextError::CellTooLarge { at }, at);
     }
 }
 
 #[test]
-fn faults_of_orders(rt: HostRuntime) {
+fn errors_of_orders(rt: HostRuntime) {
     for text in ["7 5/1", "1"] {
-        is_at_fault(&rt, rt.alloc(), text, TextError::NoOrder { at: 0 }, 0);
+        fails_at(&rt, rt.alloc(), text, TextError::NoOrder { at: 0 }, 0);
     }
     for (text, at) in [("30/0", 0), ("s30/0", 1)] {
-        is_at_fault(&rt, rt.alloc(), text, TextError::OrderTooLarge { at }, at);
+        fails_at(&rt, rt.alloc(), text, TextError::OrderTooLarge { at }, at);
     }
 }
 
 #[test]
-fn faults_without_a_place(rt: HostRuntime) {
+fn errors_without_a_position(rt: HostRuntime) {
     assert_eq!(rt; TextError::Memory.place(), None);
 }
 
@@ -174,7 +174,7 @@ fn a_deepest_order_that_is_too_coarse(rt: HostRuntime) {
     assert!(rt; matches!(coarse, Err(WriteError::TooCoarse)));
 }
 
-// No two of these cells touch, so each is an item of its own, and the set has as many pixels.
+// No two of these cells touch, so each is an item, and the set has as many pixels.
 #[test]
 fn many_items(rt: HostRuntime) {
     let alloc = rt.alloc();
@@ -191,7 +191,7 @@ fn many_items(rt: HostRuntime) {
     );
 }
 
-// The second half stands before the first, and both are read twice.
+// The second half comes before the first, and both are read twice.
 #[test]
 fn many_items_in_any_sequence(rt: HostRuntime) {
     let alloc = rt.alloc();

@@ -1,12 +1,12 @@
 use super::{Q1, Q2, every_second, repeated, says};
 use moc_sphere::Order;
 use moc_text::{
-    JsonError, JsonPlace, WriteError, json_site, json_syntax_error, read_json, write_json,
+    JsonError, JsonPlace, WriteError, json_content_at, json_syntax_error, read_json, write_json,
 };
 use std::alloc::Global;
 use std::process::Abort;
 
-/// Checks that the text is read as these ranges of pixels and this deepest order.
+/// Checks that the text is parsed as these ranges of pixels and this MOC order.
 fn is_read(
     rt: &impl Abort,
     alloc: Global,
@@ -18,32 +18,32 @@ fn is_read(
     says(rt, alloc, &said, ranges, deepest);
 }
 
-/// The fault of a text, if it has one.
-fn fault(alloc: Global, text: &[u8]) -> Option<JsonError> {
+/// Returns the error of a text, if it has one.
+fn error_of(alloc: Global, text: &[u8]) -> Option<JsonError> {
     match read_json(alloc, text) {
         Ok(_) => None,
-        Err(fault) => Some(fault),
+        Err(error_of) => Some(error_of),
     }
 }
 
-/// Checks the fault of a text, and its place.
-fn is_at_fault(
+/// Checks the error of a text, and its position.
+fn fails_at(
     rt: &impl Abort,
     alloc: Global,
     text: &str,
     wanted: JsonError,
     place: Option<JsonPlace>,
 ) {
-    let seen = fault(alloc, text.as_bytes());
+    let seen = error_of(alloc, text.as_bytes());
     assert_eq!(rt; (seen, wanted.place()), (Some(wanted), place), "{text}");
 }
 
-/// The place of a name.
+/// The position of a name.
 fn name(name: usize) -> Option<JsonPlace> {
     Some(JsonPlace { name, item: None })
 }
 
-/// The place of an item of the first name.
+/// The position of an item of the first name.
 fn item(item: usize) -> Option<JsonPlace> {
     Some(JsonPlace {
         name: 0,
@@ -51,14 +51,14 @@ fn item(item: usize) -> Option<JsonPlace> {
     })
 }
 
-/// Checks the text of what a text says, with the deepest order that it names.
+/// Checks the text of a set that is parsed from a text, with the MOC order of the text.
 fn is_rewritten(rt: &impl Abort, alloc: Global, text: &str, wanted: &str) {
     let (set, deepest) = read_json(alloc, text.as_bytes()).expect(rt, "a set");
     let written = write_json(alloc, &set, deepest).expect(rt, "a text");
     assert_eq!(rt; written.as_str(), wanted);
 }
 
-/// Checks what stands at a place of a text whose names are 1, 10 and 2 in byte order.
+/// Checks what is at a position of a text whose names are 1, 10 and 2 in byte order.
 fn has_site(
     rt: &impl Abort,
     alloc: Global,
@@ -68,13 +68,13 @@ fn has_site(
 ) {
     let place = place.expect(rt, "a place");
     let json = b"{\"1\":[],\"10\":[5],\"2\":[0,192]}".as_slice();
-    let site = json_site(alloc, json, place).expect(rt, "JSON");
+    let site = json_content_at(alloc, json, place).expect(rt, "JSON");
     assert_eq!(rt; site.order, order.and_then(Order::new));
     assert_eq!(rt; site.text.as_deref(), text);
 }
 
 #[test]
-fn sites_of_faults(rt: HostRuntime) {
+fn positions_of_errors(rt: HostRuntime) {
     let alloc = rt.alloc();
     has_site(&rt, alloc, name(1), Some(10), Some("10"));
     has_site(&rt, alloc, name(3), None, None);
@@ -85,9 +85,9 @@ fn sites_of_faults(rt: HostRuntime) {
     has_site(&rt, alloc, item, Some(2), Some("192"));
 }
 
-/// Where the grammar breaks is where `serde_json` stops.
+/// The position of a syntax error is the position at which `serde_json` stops.
 #[test]
-fn texts_that_are_no_json(rt: HostRuntime) {
+fn texts_that_are_not_json(rt: HostRuntime) {
     for (text, at) in [
         ("{\"1\":[0,]}", Some((1, 9))),
         ("{\n\"1\":[0", Some((2, 6))),
@@ -112,38 +112,38 @@ fn objects(rt: HostRuntime) {
     is_read(&rt, alloc, b"{}", &[], None);
 }
 
-// Names stand in byte order, so "10" is name 0 where "2" is name 1.
+// Names are in byte order, so "10" is name 0, and "2" is name 1.
 #[test]
-fn faults_of_names(rt: HostRuntime) {
+fn errors_of_names(rt: HostRuntime) {
     let alloc = rt.alloc();
     for (text, at) in [
         ("{\"1\":[],\"30\":[0]}", 1),
         ("{\"\":[]}", 0),
         ("{\"+1\":[]}", 0),
     ] {
-        is_at_fault(&rt, alloc, text, JsonError::BadOrder { name: at }, name(at));
+        fails_at(&rt, alloc, text, JsonError::BadOrder { name: at }, name(at));
     }
     for (text, at) in [("{\"1\":5}", 0), ("{\"2\":5,\"10\":[]}", 1)] {
-        is_at_fault(&rt, alloc, text, JsonError::NotArray { name: at }, name(at));
+        fails_at(&rt, alloc, text, JsonError::NotArray { name: at }, name(at));
     }
-    is_at_fault(&rt, alloc, "[1]", JsonError::NotObject, None);
+    fails_at(&rt, alloc, "[1]", JsonError::NotObject, None);
 }
 
 #[test]
-fn faults_of_numbers(rt: HostRuntime) {
+fn errors_of_numbers(rt: HostRuntime) {
     let alloc = rt.alloc();
     for (text, place) in [("{\"2\":[-1]}", 0), ("{\"2\":[0,1.5]}", 1)] {
         let error = JsonError::NotWhole { name: 0, place };
-        is_at_fault(&rt, alloc, text, error, item(place));
+        fails_at(&rt, alloc, text, error, item(place));
     }
     for (text, place) in [("{\"1\":[0,48]}", 1), ("{\"1\":[48,-1]}", 0)] {
         let error = JsonError::CellTooLarge { name: 0, place };
-        is_at_fault(&rt, alloc, text, error, item(place));
+        fails_at(&rt, alloc, text, error, item(place));
     }
 }
 
 #[test]
-fn faults_without_a_place(rt: HostRuntime) {
+fn errors_without_a_position(rt: HostRuntime) {
     for error in [JsonError::NotJson, JsonError::NotObject, JsonError::Memory] {
         assert_eq!(rt; error.place(), None);
     }
@@ -152,10 +152,13 @@ fn faults_without_a_place(rt: HostRuntime) {
 #[test]
 fn not_json(rt: HostRuntime) {
     let alloc = rt.alloc();
-    assert_eq!(rt; fault(alloc, b"{\"1\":[0"), Some(JsonError::NotJson));
-    assert_eq!(rt; fault(alloc, b"{\"1\":[0]}\xff"), Some(JsonError::NotJson));
+    assert_eq!(rt; error_of(alloc, b"{\"1\":[0"), Some(JsonError::NotJson));
+    assert_eq!(rt;
+        error_of(alloc, b"{\"1\":[0]}\xff"),
+        Some(JsonError::NotJson)
+    );
     let brackets = repeated(&rt, alloc, b"", b'[', b"");
-    assert_eq!(rt; fault(alloc, &brackets), Some(JsonError::NotJson));
+    assert_eq!(rt; error_of(alloc, &brackets), Some(JsonError::NotJson));
 }
 
 #[test]

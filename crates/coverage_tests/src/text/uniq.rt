@@ -3,11 +3,11 @@ use moc_ranges::Coverage;
 use moc_text::{UniqError, read_ascii, read_uniq, write_uniq};
 use std::alloc::Global;
 
-/// The fault of a text, if it has one.
-fn fault(alloc: Global, text: &[u8]) -> Option<UniqError> {
+/// Returns the error of a text, if it has one.
+fn error_of(alloc: Global, text: &[u8]) -> Option<UniqError> {
     match read_uniq(alloc, text) {
         Ok(_) => None,
-        Err(fault) => Some(fault),
+        Err(error_of) => Some(error_of),
     }
 }
 
@@ -32,7 +32,7 @@ fn lists(rt: HostRuntime) {
 }
 
 #[test]
-fn faults(rt: HostRuntime) {
+fn errors_of_lines(rt: HostRuntime) {
     let alloc = rt.alloc();
     for (text, wanted) in [
         ("4\nx", UniqError::BadByte { line: 2 }),
@@ -40,7 +40,7 @@ fn faults(rt: HostRuntime) {
         ("\n3\nx", UniqError::NotUniq { line: 2 }),
         ("4611686018427387904", UniqError::NotUniq { line: 1 }),
     ] {
-        assert_eq!(rt; fault(alloc, text.as_bytes()), Some(wanted));
+        assert_eq!(rt; error_of(alloc, text.as_bytes()), Some(wanted));
     }
     assert_eq!(rt; UniqError::BadByte { line: 2 }.line(), Some(2));
     assert_eq!(rt; UniqError::NotUniq { line: 1 }.line(), Some(1));

@@ -1,16 +1,16 @@
-//! Sixteen clients of one map on eight threads, two on each, with batches over several parts that all of them take.
-//! What one batch changes no other may see in part:
+//! Sixteen clients of one map on eight threads, two on each, with batches across several parts that all of them take.
+//! No client may see a part of what another batch changes:
 //!
 //! - two threads add a cell to each of ten parts, and remove them, each ten by one batch;
-//! - two count these cells, of which there are ten or none;
-//! - two move a token from part to part, each time by one batch, which removes it, adds it elsewhere and counts it
-//!   where it was;
-//! - two count a token's places in all twelve parts, of which there is one.
+//! - two threads count these cells: the count is ten or zero;
+//! - two threads move a token from part to part, each time by one batch, which removes it, adds it elsewhere, and
+//!   counts it at its old place;
+//! - two threads count the places of a token in all twelve parts: the count is one.
 //!
-//! The two clients of a thread take turns, meet every few turns, and at the end one takes in the other, while the other
-//! threads go on. A batch is done at once, or waiting, or from a holding, which may be let go before; a query also by a
-//! look or a snapshot. Where a part is held a thread tries again some times and then waits, so that each does all its
-//! turns.
+//! The two clients of a thread take turns and meet every few turns. At the end one takes in the other, while the other
+//! threads go on. A batch is executed at once, or with waiting, or from a holding, which may be let go first; a query
+//! also by a look or a snapshot. If a part is held, a thread retries a few times and then waits, so that each thread
+//! executes all its turns.
 ghost use Rattle.std.specs.Prelude.{◌<◌, All, IfOk, IfErr, IfSome};
 ghost use Rattle.moc_shared.specs.Clients.{IsClientOf, IsHoldingOf};
 
@@ -25,38 +25,38 @@ use std::sync::Wait;
 use std::sync::atomic::AtomicU64;
 use std::thread;
 
-/// How many threads there are.
+/// The number of threads.
 const THREADS: u8 = 8;
 
-/// How many turns each makes.
+/// The number of turns of each thread.
 const TURNS: u64 = 10_000;
 
-/// How many cells of order 5 a base pixel has.
+/// The number of cells of order 5 in a base pixel.
 const CELLS: u64 = 1024;
 
-/// After how many turns the two clients of a thread meet.
+/// The number of turns after which the two clients of a thread meet.
 const MEETING: u64 = 16;
 
-/// How often a call is tried before it waits.
+/// The number of tries before a call waits.
 const TRIES: u64 = 50;
 
-/// How many parts a wide batch takes.
+/// The number of parts of a wide batch.
 const WIDE: u64 = 10;
 
-/// What a thread does, again and again.
+/// The work that a thread repeats.
 #[derive(Clone, Copy)]
 enum Task {
     /// Adds and removes cells in ten parts.
     Toggle,
-    /// Counts them.
+    /// Counts these cells.
     Count,
     /// Moves a token.
     Move,
-    /// Counts its places.
+    /// Counts the places of a token.
     Seek,
 }
 
-/// How a client does a batch.
+/// The way in which a client executes a batch.
 #[derive(Clone, Copy)]
 enum Way {
     Try,
@@ -70,7 +70,7 @@ enum Way {
 /// The clients of a thread: the one whose turn it is, and the other.
 type Pair = (Client, Client);
 
-/// What the thread with this number does.
+/// Returns the work of the thread with this number.
 fn task_of(number: u8) -> Task {
     match number / 2 {
         0 => Task::Toggle,
@@ -80,7 +80,7 @@ fn task_of(number: u8) -> Task {
     }
 }
 
-/// How a client does its batch in this turn. An update is neither looked at nor seen.
+/// Returns the way in which a client executes its batch in this turn. Only queries use looks and snapshots.
 fn way_of(turn: u64, is_update: bool) -> Way {
     match turn % 11 {
         0 | 3 | 6 => Way::Try,
@@ -93,7 +93,7 @@ fn way_of(turn: u64, is_update: bool) -> Way {
     }
 }
 
-/// The cell of order 5 at this place, in each part from one up to another.
+/// The cell of order 5 at this place, in each part from one up to, not including, another.
 fn cells(rt: &impl Abort, alloc: Global, from: u64, to: u64, place: u64) -> Operand {
     let mut all = Coverage::empty(alloc);
     for part in from..to {
@@ -104,12 +104,12 @@ fn cells(rt: &impl Abort, alloc: Global, from: u64, to: u64, place: u64) -> Oper
     Operand::from(all)
 }
 
-/// The cell of this place in each part of a wide batch.
+/// Returns the cell at this place in each part of a wide batch.
 fn wide(rt: &impl Abort, alloc: Global, place: u64) -> Operand {
     cells(rt, alloc, 1, 1 + WIDE, place)
 }
 
-/// The batch that moves a token from a part to another, and looks where it was.
+/// Returns the batch that moves a token from one part to another, and counts it at its old place.
 fn move_token(rt: &impl Abort, alloc: Global, from: u64, to: u64, place: u64) -> Batch
     requires { (from < 12) × (to < 12) }
 {
@@ -120,7 +120,7 @@ fn move_token(rt: &impl Abort, alloc: Global, from: u64, to: u64, place: u64) ->
     Batch::new(commands).expect(rt, "a batch")
 }
 
-/// The batches by which a token goes through all parts, in turn.
+/// Returns the batches that move a token through all parts in turn.
 fn moves(rt: &impl Abort, alloc: Global, place: u64) -> Vec<Batch> {
     let mut batches = Vec::new(alloc);
     for turn in 0..12u64 {
@@ -131,12 +131,12 @@ fn moves(rt: &impl Abort, alloc: Global, place: u64) -> Vec<Batch> {
     batches
 }
 
-/// Where the token of this thread, or of the one that it looks after, lies.
+/// The place of the token that this thread moves or counts.
 fn token_place(number: u8) -> u64 {
     100 + u64::from(number % 2)
 }
 
-/// The batches that a thread does in turn.
+/// Returns the batches that a thread executes in turn.
 fn batches_of(rt: &impl Abort, alloc: Global, number: u8) -> Vec<Batch> {
     let place = u64::from(number % 2);
     match task_of(number) {
@@ -158,12 +158,12 @@ fn batches_of(rt: &impl Abort, alloc: Global, number: u8) -> Vec<Batch> {
     }
 }
 
-/// How many pixels the reply to a command of the batch tells of.
+/// Returns the number of pixels in the reply to a command of the batch.
 fn pixels(replies: &Replies, command: usize) -> Option<u64> {
     replies.as_slice().get(command)?.pixels()
 }
 
-/// Whether a batch of the thread may be answered so.
+/// Tests whether a batch of the thread may have this reply.
 fn is_right(task: Task, replies: &Replies) -> bool {
     let first = pixels(replies, 0);
     match task {
@@ -176,7 +176,7 @@ fn is_right(task: Task, replies: &Replies) -> bool {
     }
 }
 
-/// Does the batch, waiting where it must.
+/// Executes the batch, and waits if a part is held.
 fn wait<R: Wait>(
     rt: &R,
     map: &SharedMap,
@@ -191,7 +191,8 @@ fn wait<R: Wait>(
     (client, replies)
 }
 
-/// Does the batch at once, in one of some tries; `None` where a part was held each time, and where memory ran out.
+/// Executes the batch at once, with a few tries; returns `None` if a part was held each time, or if an allocation
+/// failed.
 fn try_some(map: &SharedMap, client: &mut Client, batch: &Batch) -> Option<Replies>
     requires { IsClientOf map.now client.old }
     ensures { IsClientOf map.now client.new }
@@ -206,7 +207,7 @@ fn try_some(map: &SharedMap, client: &mut Client, batch: &Batch) -> Option<Repli
     None
 }
 
-/// Holds the parts of the batch, by one of some tries.
+/// Takes the parts of the batch, with a few tries.
 fn hold_some(
     alloc: Global,
     map: &SharedMap,
@@ -231,8 +232,8 @@ fn hold_some(
     Err(client)
 }
 
-/// What a query sees, told after its parts were given back.
-fn see(alloc: Global, map: &SharedMap, holding: Holding) -> (Client, Option<Replies>)
+/// Returns the reply to a query after its parts were given back.
+fn query_holding(alloc: Global, map: &SharedMap, holding: Holding) -> (Client, Option<Replies>)
     requires { IsHoldingOf map.now holding }
     ensures { IsClientOf map.now result.0 }
 {
@@ -243,13 +244,18 @@ fn see(alloc: Global, map: &SharedMap, holding: Holding) -> (Client, Option<Repl
     }
 }
 
-/// Does the batch from a holding.
-fn spend(alloc: Global, map: &SharedMap, holding: Holding, way: Way) -> (Client, Option<Replies>)
+/// Executes the batch from a holding.
+fn execute_holding(
+    alloc: Global,
+    map: &SharedMap,
+    holding: Holding,
+    way: Way,
+) -> (Client, Option<Replies>)
     requires { IsHoldingOf map.now holding }
     ensures { IsClientOf map.now result.0 }
 {
     match way {
-        Way::Snapshot => see(alloc, map, holding),
+        Way::Snapshot => query_holding(alloc, map, holding),
         Way::LetGo => (map.let_go(holding), None),
         _ => {
             let (client, replies) = map.finish(holding);
@@ -258,7 +264,7 @@ fn spend(alloc: Global, map: &SharedMap, holding: Holding, way: Way) -> (Client,
     }
 }
 
-/// Does the batch this way, if no part is held in some tries.
+/// Executes the batch in this way, if no part is held in one of the tries.
 fn do_at_once(
     alloc: Global,
     map: &SharedMap,
@@ -284,13 +290,13 @@ fn do_at_once(
             )
         }
         _ => match hold_some(alloc, map, client, batch) {
-            Ok(holding) => spend(alloc, map, holding, way),
+            Ok(holding) => execute_holding(alloc, map, holding, way),
             Err(client) => (client, None),
         },
     }
 }
 
-/// A turn: the first of the pair does the batch, and the other is the next.
+/// One turn: the first client of the pair executes the batch, and the other is next.
 fn take_turn<R: Wait>(
     rt: &R,
     alloc: Global,
@@ -314,7 +320,7 @@ fn take_turn<R: Wait>(
     ((other, client), replies)
 }
 
-/// All turns of a thread: how many were answered right.
+/// All turns of a thread: returns the number of right replies.
 fn take_turns<R: Wait>(
     rt: &R,
     alloc: Global,
@@ -341,7 +347,7 @@ fn take_turns<R: Wait>(
     (pair, good)
 }
 
-/// A thread's work, once all threads have started. One client comes back, which has taken in the other.
+/// The work of a thread after all threads have started. Returns one client, which has taken in the other.
 fn work<R: Abort + Wait>(
     rt: &R,
     alloc: Global,
@@ -361,7 +367,7 @@ fn work<R: Abort + Wait>(
     (first, good)
 }
 
-/// The clients, two by two.
+/// Returns the clients in pairs.
 fn pairs_of(alloc: Global, map: &SharedMap, clients: Vec<Client>) -> Option<Vec<Pair>>
     requires { All (IsClientOf map.now) clients.items }
     ensures { IfSome result (λ pairs. All (λ p. IsClientOf map.now p.0 × IsClientOf map.now p.1) pairs.items) }
@@ -381,7 +387,7 @@ fn pairs_of(alloc: Global, map: &SharedMap, clients: Vec<Client>) -> Option<Vec<
     Some(pairs)
 }
 
-/// The two tokens, where they lie at the start.
+/// Returns the set of the two tokens at the start.
 fn tokens(rt: &impl Abort, alloc: Global) -> Coverage {
     let first = cells(rt, alloc, 0, 1, token_place(0));
     let second = cells(rt, alloc, 0, 1, token_place(1));

@@ -1,8 +1,9 @@
-//! What a work comes to.
+//! The result of a work.
 use anyhow::Result;
 use std::time::{Clock, Instant};
 
-/// The time of the slowest thread, how many calls changed just a cell, and how many readings were answered beside them.
+/// The time of the slowest thread, the number of calls that changed exactly one cell, and the number of reads
+/// meanwhile.
 #[derive(Clone, Copy, PartialEq, Eq, PartialOrd, Ord)]
 pub struct Figure {
     pub micros: u64,
@@ -11,7 +12,7 @@ pub struct Figure {
 }
 
 impl Figure {
-    /// Nothing was done.
+    /// No result yet.
     pub fn nothing() -> Figure {
         Figure {
             good: 0,
@@ -20,7 +21,7 @@ impl Figure {
         }
     }
 
-    /// So many readings, which are not timed.
+    /// A number of reads, without a time.
     pub fn of_reads(reads: u64) -> Figure {
         Figure {
             good: 0,
@@ -29,7 +30,7 @@ impl Figure {
         }
     }
 
-    /// So many good calls since then.
+    /// A number of calls that changed exactly one cell since a time.
     pub fn since<R: Clock>(rt: &R, start: &Instant, good: u64) -> Result<Figure> {
         let micros = u64::try_from(start.elapsed(rt)?.as_micros()).unwrap_or(u64::MAX);
         Ok(Figure {
@@ -39,16 +40,16 @@ impl Figure {
         })
     }
 
-    /// All of these, done at the same time.
-    pub fn of_all(figures: Vec<Figure>) -> Figure {
+    /// The sum of all, executed at the same time.
+    pub fn of_all(statistics: Vec<Figure>) -> Figure {
         let mut all = Figure::nothing();
-        for figure in figures {
+        for figure in statistics {
             all = all.with(figure);
         }
         all
     }
 
-    /// Both, done at the same time.
+    /// The sum of both, executed at the same time.
     fn with(self, other: Figure) -> Figure {
         Figure {
             good: self.good.saturating_add(other.good),

@@ -1,4 +1,4 @@
-//! What clients do, each on a thread of its own.
+//! The work of clients, each on its own thread.
 ghost use Rattle.moc_shared.specs.Clients.{IsClientOf, IsHoldingOf};
 
 use crate::clients::figure::Figure;
@@ -13,44 +13,44 @@ use std::sync::atomic::{AtomicU64, Ordering};
 use std::thread;
 use std::time::{Clock, Instant};
 
-/// How many pixels a base pixel has: 4^29.
+/// The number of pixels of a base pixel: 4^29.
 const BASE: u64 = 288_230_376_151_711_744;
 
-/// How many pixels a cell of order 13 has: 4^16.
+/// The number of pixels of a cell of order 13: 4^16.
 const CELL: u64 = 4_294_967_296;
 
-/// How many cells of order 13 the sky has: 12·4^13.
+/// The number of cells of order 13: 12·4^13.
 pub const CELLS: u64 = 805_306_368;
 
-/// How many of them a base pixel has.
+/// The number of cells of order 13 in a base pixel.
 const BASE_CELLS: u64 = 67_108_864;
 
-/// How often a thread looks whether the others have started.
+/// The number of checks whether the other threads have started.
 const TURNS: u64 = 1_000_000;
 
-/// What the threads do.
+/// The job of the threads.
 #[derive(Clone, Copy)]
 pub enum Job {
-    /// Each adds a cell in a base pixel of its own, and removes it.
+    /// Each adds a cell in its own base pixel, and removes it.
     OwnParts,
-    /// Each adds a cell of its own in base pixel 0, and removes it.
+    /// Each adds its own cell in base pixel 0, and removes it.
     OnePart,
-    /// Client 0 does so, and the others read base pixel 0 by snapshots until it is done.
+    /// Client 0 adds and removes, and the others read base pixel 0 by snapshots until it ends.
     Readers,
-    /// Client 0 does so, and the others make the ASCII text of what they read so until it is done.
+    /// Client 0 adds and removes, and the others write the ASCII text of such snapshots until it ends.
     Printers,
-    /// Client 0 does so, and the others take base pixel 0 and give it back until it is done.
+    /// Client 0 adds and removes, and the others take base pixel 0 and give it back until it ends.
     Takers,
 }
 
 impl Job {
-    /// Whether all but client 0 look at what it changes.
+    /// Whether all clients but client 0 read what it changes.
     pub fn has_readers(self) -> bool {
         matches!(self, Job::Readers | Job::Printers | Job::Takers)
     }
 }
 
-/// What threads know of one another.
+/// The state that threads share.
 #[derive(Drop)]
 pub struct Plan {
     pub job: Job,
@@ -61,7 +61,7 @@ pub struct Plan {
 }
 
 impl Plan {
-    /// So many threads do so many rounds of a job.
+    /// Returns the state for this number of threads and rounds of a job.
     pub fn new(job: Job, threads: u8, rounds: u64) -> Plan {
         Plan {
             job,
@@ -73,19 +73,19 @@ impl Plan {
     }
 }
 
-/// A cell of order 13.
+/// Returns a cell of order 13.
 pub fn cell(alloc: Global, index: u64) -> Result<Operand> {
     let from = (index % CELLS) * CELL;
     let set = Coverage::from_ranges(alloc, &[(from, from + CELL)])?;
     Ok(Operand { set, coarse: None })
 }
 
-/// Whether the one reply is that just a cell changed.
+/// Tests whether the only reply is that exactly one cell changed.
 pub fn changed_a_cell(replies: &Replies) -> bool {
     matches!(replies.as_slice().first(), Some(Reply::Changed(CELL)))
 }
 
-/// Whether all threads have started. It yields to them, and gives up after so many turns.
+/// Waits until all threads have started. Yields between checks, and gives up after a limit.
 fn have_started(plan: &Plan) -> bool {
     plan.started.fetch_add(1, Ordering::SeqCst);
     for _ in 0..TURNS {
@@ -97,7 +97,7 @@ fn have_started(plan: &Plan) -> bool {
     false
 }
 
-/// A thread's work, once all threads have started. Nothing is good where memory or the clock is refused.
+/// The work of a thread after all threads have started. No call counts if an allocation or the clock fails.
 pub fn work<R: Wait + Clock>(
     rt: &R,
     alloc: Global,
@@ -143,7 +143,7 @@ fn change<R: Wait + Clock>(
     Figure::since(rt, &start, good).ok()
 }
 
-/// Adds a set and removes it in turn, waiting for the part: how many of the calls changed just a cell.
+/// Adds a set and removes it in turn, waiting for the part; returns the number of calls that changed exactly one cell.
 fn come_and_go<R: Wait>(
     rt: &R,
     map: &SharedMap,
@@ -164,7 +164,7 @@ fn come_and_go<R: Wait>(
     good
 }
 
-/// Whether the batch changes just a cell, once its part is free.
+/// Tests whether the batch changes exactly one cell, when its part is free.
 fn changes_a_cell<R: Wait>(rt: &R, map: &SharedMap, client: &mut Client, batch: &Batch) -> bool
     requires { IsClientOf map.now client.old }
     ensures { IsClientOf map.now client.new }
@@ -175,8 +175,7 @@ fn changes_a_cell<R: Wait>(rt: &R, map: &SharedMap, client: &mut Client, batch: 
     }
 }
 
-/// Reads base pixel 0, or just takes it, until some other thread has ended: how many readings were answered, or how
-/// often it was taken.
+/// Reads base pixel 0, or only takes it, until another thread has ended; returns the number of reads, or of takes.
 fn read(alloc: Global, map: &SharedMap, plan: &Plan, client: Client) -> Option<Figure>
     requires { IsClientOf map.now client }
 {
@@ -203,12 +202,12 @@ fn read(alloc: Global, map: &SharedMap, plan: &Plan, client: Client) -> Option<F
     Some(Figure::of_reads(reads))
 }
 
-/// Whether a query was answered, with its client.
+/// Tests whether a query has a reply, and returns its client.
 fn read_once(alloc: Global, map: &SharedMap, client: Client, batch: Batch) -> (Client, bool)
     requires { IsClientOf map.now client }
     ensures { IsClientOf map.now result.0 }
 {
-    let (client, snapshot) = look(map, client, batch);
+    let (client, snapshot) = query_look(map, client, batch);
     let is_answered = match snapshot {
         Some(snapshot) => snapshot.answer(alloc).is_ok(),
         None => false,
@@ -216,12 +215,12 @@ fn read_once(alloc: Global, map: &SharedMap, client: Client, batch: Batch) -> (C
     (client, is_answered)
 }
 
-/// Whether a query was answered and the text of what it read was made, with its client.
+/// Tests whether a query has a reply and its text is written, and returns its client.
 fn print_once(alloc: Global, map: &SharedMap, client: Client, batch: Batch) -> (Client, bool)
     requires { IsClientOf map.now client }
     ensures { IsClientOf map.now result.0 }
 {
-    let (client, snapshot) = look(map, client, batch);
+    let (client, snapshot) = query_look(map, client, batch);
     let is_printed = match snapshot {
         Some(snapshot) => is_text_made(alloc, &snapshot),
         None => false,
@@ -229,7 +228,7 @@ fn print_once(alloc: Global, map: &SharedMap, client: Client, batch: Batch) -> (
     (client, is_printed)
 }
 
-/// Whether the ASCII text of what a snapshot read could be made.
+/// Tests whether the ASCII text of a snapshot is written.
 fn is_text_made(alloc: Global, snapshot: &Snapshot) -> bool {
     let Ok(replies) = snapshot.answer(alloc) else {
         return false;
@@ -240,7 +239,7 @@ fn is_text_made(alloc: Global, snapshot: &Snapshot) -> bool {
     }
 }
 
-/// Takes the parts of a batch and gives them back: whether that was so, with the client.
+/// Takes the parts of a batch and gives them back; returns whether it did, and the client.
 fn touch(map: &SharedMap, client: Client, batch: Batch) -> (Client, bool)
     requires { IsClientOf map.now client }
     ensures { IsClientOf map.now result.0 }
@@ -251,19 +250,19 @@ fn touch(map: &SharedMap, client: Client, batch: Batch) -> (Client, bool)
     }
 }
 
-/// What a query sees, with its client; nothing where a part is held.
-fn look(map: &SharedMap, client: Client, batch: Batch) -> (Client, Option<Snapshot>)
+/// Returns the reply to a query, with its client; `None` if a part is held.
+fn query_look(map: &SharedMap, client: Client, batch: Batch) -> (Client, Option<Snapshot>)
     requires { IsClientOf map.now client }
     ensures { IsClientOf map.now result.0 }
 {
     match map.hold(client, batch) {
-        Ok(holding) => seen(map, holding),
+        Ok(holding) => query_reply(map, holding),
         Err((client, _, _)) => (client, None),
     }
 }
 
-/// What the query of a holding sees, with its client.
-fn seen(map: &SharedMap, holding: Holding) -> (Client, Option<Snapshot>)
+/// Returns the reply to the query of a holding, with its client.
+fn query_reply(map: &SharedMap, holding: Holding) -> (Client, Option<Snapshot>)
     requires { IsHoldingOf map.now holding }
     ensures { IsClientOf map.now result.0 }
 {

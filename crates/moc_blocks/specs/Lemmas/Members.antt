@@ -1,4 +1,4 @@
--- What is a member of a set: lemmas on the definitions, for proofs.
+-- Membership in sets: lemmas on the definitions, for proofs.
 use Rattle.std.specs.Prelude.{◌≡◌, ℕ, zero, suc, ◌+◌, ◌-◌, List, [], ◌∷◌, Bool, ◌&&◌, ◌||◌, nat_le, nat_lt, nat_eq}
 use Rattle.std.specs.FinSet as set
 use Rattle.std.specs.Ordering.{nat_cmp}
@@ -9,11 +9,11 @@ use Rattle.std.proofs.lemmas.Bool.Decides.{nat_tests}
 use Rattle.std.proofs.lemmas.List.Folds.{list_any-append}
 use Rattle.moc_blocks.specs.RangeList.{NumberSet, numbers, set_of}
 
--- two sets with the same members are one
+-- two sets with the same members are equal
 pub same_members : (a b : NumberSet) → ((q : ℕ) → set.contains a q ≡ set.contains b q) → a ≡ b
 same_members a b same = set.same_set nat_cmp_total set.nat_cmp-IsAntisymmetric a b same
 
--- what a test keeps of a set: its numbers that pass
+-- the members of a filtered set are those that pass the test
 pub contains-kept : (a : NumberSet) (p : ℕ → Bool) (q : ℕ) → set.contains (set.retain a p) q ≡ (set.contains a q && p q)
 contains-kept a p q = set.contains-retain a p q (λ x tie. ap p (sym (set.nat_cmp-IsAntisymmetric q x tie)))
 
@@ -21,7 +21,7 @@ any-range : (from n q : ℕ) → list_any (λ y. nat_eq y q) (range_with_len fro
 any-range from zero q = grind (arith, nat_tests)
 any-range from (suc n) q = let rest = any-range (from + 1) n q in grind (arith, nat_tests)
 
--- its members
+-- the members of a range
 pub contains-numbers : (from to q : ℕ) → set.contains (numbers from to) q ≡ (nat_le from q && nat_lt q to)
 unfolding numbers
 contains-numbers from to q =
@@ -44,11 +44,11 @@ contains-set_of (range ∷ ranges) q =
     set.contains-union nat_cmp_total (numbers range.0 range.1) (set_of ranges) q
     ∙ (λ i. contains-numbers range.0 range.1 q i || contains-set_of ranges q i)
 
--- the members of two lists, one behind the other
+-- the members of two concatenated lists
 pub in_ranges-append : (rs ss : List (ℕ × ℕ)) (q : ℕ) → in_ranges (rs ++ ss) q ≡ (in_ranges rs q || in_ranges ss q)
 in_ranges-append rs ss q = list_any-append (λ range. in_range range q) rs ss
 
--- ---- laws of truth values, for what is in one list or another
+-- ---- Boolean algebra, for membership in one list or another
 
 pub or_false : (b : Bool) → (b || false) ≡ b
 or_false true = refl

@@ -1,4 +1,4 @@
--- Laws of lists of ranges.
+-- Lemmas on lists of ranges.
 use Rattle.std.specs.Prelude.{◌≡◌, ℕ, ◌<◌, ◌≤◌, Bool, ◌&&◌, ◌||◌, List, [], ◌∷◌, nat_le, nat_lt}
 use Rattle.std.specs.FinSet as set
 use Rattle.std.specs.Ordering.{nat_cmp, eq_by_cmp}
@@ -28,7 +28,7 @@ len_nothing : set.len (set_of []) ≡ 0
 unfolding set_of
 len_nothing = set.len-empty nat_cmp
 
--- a set grows by n where n numbers that it lacks are added
+-- adding n numbers that are not members makes a set larger by n
 pub len-more : (from n : ℕ) (a : NumberSet) → ((q : ℕ) → from ≤ q → q < from + n → set.contains a q ≡ false)
     → set.len (set.union (numbers from (from + n)) a) ≡ n + set.len a
 len-more from zero a none =
@@ -59,7 +59,7 @@ len-more from (suc n) a none =
     ∙ ap (λ b. cond b (set.len rest) (set.len rest + 1)) lacks
     ∙ omega arith
 
--- the size of a normal list's set, range by range
+-- the size of a normal list's set, from its first range and the others
 pub len-set_of_cons : (range : ℕ × ℕ) (ranges : List (ℕ × ℕ)) → IsNormal (range ∷ ranges)
     → set.len (set_of (range ∷ ranges)) ≡ (range.1 - range.0) + set.len (set_of ranges)
 unfolding set_of
@@ -84,7 +84,7 @@ room low [] le normal after = omega (arith, len_nothing)
 room low (range ∷ ranges) le normal after =
     omega (arith, len-set_of_cons range ranges normal, room range.1 ranges normal.1 normal.3 normal.2)
 
--- no normal list has more numbers than there are pixels
+-- the size of a normal list's set is at most the number of pixels
 pub len_bounded : (ranges : List (ℕ × ℕ)) → IsNormal ranges → set.len (set_of ranges) ≤ pixel_count
 len_bounded [] normal = omega (arith, len_nothing)
 len_bounded (range ∷ ranges) normal =

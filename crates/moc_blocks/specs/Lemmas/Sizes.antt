@@ -1,4 +1,4 @@
--- How the sizes of sets add up.
+-- Sums of the sizes of sets.
 use Rattle.std.proofs.Common.{◌≡◌, ℕ, ◌+◌, Bool, true, false, cond, not, ◌&&◌, ◌||◌, List, [], ◌∷◌, refl, sym, ap, ◌∙◌}
 use Rattle.std.proofs.Common.{arith, inl, inr}
 use Rattle.std.specs.FinSet as set
@@ -52,9 +52,9 @@ insert-old a k has = same_members _ _ (λ q.
     set.contains-insert nat_cmp_total a k q
     ∙ old (eq_by_cmp nat_cmp q k) (set.contains a q) (λ e. ap (set.contains a) (same_number q k e) ∙ has))
 
-grown : (a : NumberSet) (k : ℕ) (p : ℕ → Bool) → set.contains a k ≡ false
+growing_list : (a : NumberSet) (k : ℕ) (p : ℕ → Bool) → set.contains a k ≡ false
     → set.len (set.retain (set.insert a k) p) ≡ cond (p k) (set.len (set.retain a p) + 1) (set.len (set.retain a p))
-grown a k p new =
+growing_list a k p new =
     let fresh : set.contains (set.retain a p) k ≡ false = contains-kept a p k ∙ ap (λ b. b && p k) new in
     ap set.len (retain-insert a k p)
     ∙ elim (p k) as (λ b.
@@ -93,12 +93,12 @@ split_list p (k ∷ ks) =
           ∙ before
           ∙ ap set.len (sym (insert-old a k has))
       | inr new ↦
-          (λ i. grown a k p new i + grown a k (λ k. not (p k)) new i)
+          (λ i. growing_list a k p new i + growing_list a k (λ k. not (p k)) new i)
           ∙ one_side (p k) _ _ _ before
           ∙ sym (set.len-insert nat_cmp_total a k ∙ ap (λ b. cond b (set.len a) (set.len a + 1)) new)
     ]
 
--- a set has as many numbers as it shares with another, and those that it does not, together
+-- the size of a set is the sum of the sizes of its intersection with another set and its difference from it
 pub len_parts : (a b : NumberSet) → set.len (set.intersection a b) + set.len (set.difference a b) ≡ set.len a
 len_parts a b =
     let listed : set.from_list (set.items a) ≡ a =

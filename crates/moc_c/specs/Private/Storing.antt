@@ -1,4 +1,4 @@
--- How desks and members are stored, and what holds of them.
+-- Models of stores and members, and their invariants.
 use Rattle.std.specs.Prelude.{◌≡◌, ◌≤◌, All, ℕ, List, None, refl}
 use Rattle.std.specs.Ordering.{nat_cmp}
 use Rattle.std.specs.FinMap as map
@@ -13,11 +13,11 @@ use Rattle.moc_shared.specs.declared.map.SharedMap.{SharedMap}
 use Rattle.moc_c.specs.Contents.{Contents}
 use Rattle.moc_c.specs.Membership.{Membership}
 
--- no set has a key that is still to come
-abbrev pub HasNoneFrom : ℕ → map.FinMap nat_cmp NumberSet → Type 0
-HasNoneFrom next sets = (key : ℕ) → next ≤ key → map.get sets key ≡ None
+-- no set has an id that is still to come
+abbrev pub IsEmptyFrom : ℕ → map.FinMap nat_cmp NumberSet → Type 0
+IsEmptyFrom next sets = (id : ℕ) → next ≤ id → map.get sets id ≡ None
 
--- the contents of a desk
+-- the contents of a store
 abbrev pub contents_code : Coded Contents
 contents_code =
     code_by (map.FinMap nat_cmp NumberSet × (ℕ × List ℕ))
@@ -29,8 +29,8 @@ abbrev pub membership_code : Coded Membership
 membership_code =
     code_by (SharedMap × (Client × List Client))
     (coded× shared_map.the_row.coded (coded× client.the_row.coded (coded_list client.the_row.coded)))
-    (λ m. (m.map, (m.client, m.spare))) (λ p. record { map = p.0; client = p.1.0; spare = p.1.1 }) (λ _. refl)
+    (λ m. (m.map, (m.client, m.unassigned))) (λ p. record { map = p.0; client = p.1.0; unassigned = p.1.1 }) (λ _. refl)
 
 -- all are clients of the map
 abbrev pub AreMembers : SharedMap → Client → List Client → Type 0
-AreMembers map client spare = IsClientOf map client × All (λ c. IsClientOf map c) spare
+AreMembers map client unassigned = IsClientOf map client × All (λ c. IsClientOf map c) unassigned

@@ -1,4 +1,4 @@
--- What is a member of a set: lemmas on the definitions, for proofs.
+-- Membership in sets: lemmas on the definitions, for proofs.
 use Rattle.std.specs.Prelude.{◌≡◌, ℕ, Bool, true, not, ◌&&◌, ◌||◌}
 use Rattle.std.specs.FinSet as set
 use Rattle.std.specs.Cmp.{nat_cmp_total}
@@ -15,7 +15,7 @@ contains-symmetric a b q =
     set.contains-union nat_cmp_total (set.difference a b) (set.difference b a) q
     ∙ (λ i. set.contains-difference nat_cmp_total a b q i || set.contains-difference nat_cmp_total b a q i)
 
--- two tests are the same where each holds if the other does
+-- two Booleans are equal if each implies the other
 pub same_truth : (x y : Bool) → (x ≡ true → y ≡ true) → (y ≡ true → x ≡ true) → x ≡ y
 same_truth true y there back = sym (there refl)
 same_truth false true there back = back refl

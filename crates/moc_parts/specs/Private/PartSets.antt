@@ -1,4 +1,4 @@
--- Sets of parts, as the program stores them: twelve flags. Only the contracts of private functions cite this file.
+-- Sets of parts as twelve flags. Only private contracts use this file.
 use Rattle.std.specs.Prelude.{◌≡◌, ℕ, ◌<◌, Bool, false, ◌&&◌, List, length, get_or, map, nat_le, nat_lt}
 use Rattle.std.specs.List.{range_with_len}
 use Rattle.std.specs.Ordering.{nat_cmp}
@@ -12,8 +12,8 @@ use Rattle.moc_lists.specs.RangeList.{numbers}
 use Rattle.moc_lists.specs.Lemmas.Members.{contains-numbers, contains-kept}
 
 -- the parts whose flags are set
-unfoldable pub flagged : List Bool → set.FinSet nat_cmp
-flagged flags = set.retain (numbers 0 12) (λ b. get_or flags b false)
+unfoldable pub parts_of_flags : List Bool → set.FinSet nat_cmp
+parts_of_flags flags = set.retain (numbers 0 12) (λ b. get_or flags b false)
 
 -- the flags of the twelve parts
 unfoldable pub flags_of : set.FinSet nat_cmp → List Bool
@@ -22,18 +22,18 @@ flags_of parts = map (λ b. set.contains parts b) (range_with_len 0 12)
 from_none : (b : ℕ) → (nat_le 0 b && nat_lt b 12) ≡ nat_lt b 12
 from_none b = grind (arith, nat_tests)
 
--- a number is among the flagged parts where it is below twelve and its flag is set
-pub contains-flagged : (flags : List Bool) (b : ℕ)
-    → set.contains (flagged flags) b ≡ (nat_lt b 12 && get_or flags b false)
-unfolding flagged
-contains-flagged flags b =
+-- a number is a flagged part if and only if it is below twelve and its flag is set
+pub contains-parts_of_flags : (flags : List Bool) (b : ℕ)
+    → set.contains (parts_of_flags flags) b ≡ (nat_lt b 12 && get_or flags b false)
+unfolding parts_of_flags
+contains-parts_of_flags flags b =
     contains-kept (numbers 0 12) (λ k. get_or flags k false) b
     ∙ ap (λ t. t && get_or flags b false) (contains-numbers 0 12 b ∙ from_none b)
 
--- below twelve it is among them where its flag is set
+-- a number below twelve is a flagged part if and only if its flag is set
 pub contains-flagged_below : (flags : List Bool) (b : ℕ) → b < 12
-    → set.contains (flagged flags) b ≡ get_or flags b false
-contains-flagged_below flags b l = contains-flagged flags b ∙ ap (λ t. t && get_or flags b false) (lt-ltb b 12 l)
+    → set.contains (parts_of_flags flags) b ≡ get_or flags b false
+contains-flagged_below flags b l = contains-parts_of_flags flags b ∙ ap (λ t. t && get_or flags b false) (lt-ltb b 12 l)
 
 length-flags_of : (parts : set.FinSet nat_cmp) → length (flags_of parts) ≡ 12
 unfolding flags_of
@@ -43,8 +43,9 @@ get-flags_of : (parts : set.FinSet nat_cmp) (b : ℕ) → b < 12 → get_or (fla
 unfolding flags_of
 get-flags_of parts b l = get_or-map-range_with_len (λ k. set.contains parts k) 0 12 b b false l (omega arith)
 
--- the flags of the flagged parts are the flags
-pub flags_of-flagged : (flags : List Bool) → length flags ≡ 12 → flags_of (flagged flags) ≡ flags
-flags_of-flagged flags twelve = ext_get_or false _ flags (length-flags_of (flagged flags) ∙ sym twelve) (λ b l.
-    let below : b < 12 = subst (λ n. b < n) (length-flags_of (flagged flags)) l in
-    get-flags_of (flagged flags) b below ∙ contains-flagged_below flags b below)
+-- converting flags to parts and back returns the same flags
+pub flags_of-parts_of_flags : (flags : List Bool) → length flags ≡ 12 → flags_of (parts_of_flags flags) ≡ flags
+flags_of-parts_of_flags flags twelve =
+    ext_get_or false _ flags (length-flags_of (parts_of_flags flags) ∙ sym twelve) (λ b l.
+    let below : b < 12 = subst (λ n. b < n) (length-flags_of (parts_of_flags flags)) l in
+    get-flags_of (parts_of_flags flags) b below ∙ contains-flagged_below flags b below)

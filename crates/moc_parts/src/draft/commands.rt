@@ -1,4 +1,4 @@
-//! What each command does to a draft.
+//! The effect of each command on a draft.
 ghost use Rattle.std.specs.Prelude.{◌≡◌, ◌≤◌, IfOk, OnOk, if◌then◌else◌};
 ghost use Rattle.std.specs.FinSet as set;
 ghost use Rattle.moc_ranges.specs.Cells.{degrade};
@@ -24,10 +24,10 @@ impl<'a> Draft<'a> {
         ensures set { OnOk result (self.new.set ≡ set.union self.old.set (operand_set operand.now)) }
         ensures reply { IfOk result (λ r.
             r ≡ reply.Changed (set.len (set.difference (operand_set operand.now) self.old.set))) }
-        ensures found { self.new.found ≡ self.old.found }
+        ensures previous { self.new.previous ≡ self.old.previous }
     {
-        let resolved = operand.resolved(alloc)?;
-        let added = self.change(alloc, &Change::Join(resolved.set()))?;
+        let effective_set = operand.effective_set(alloc)?;
+        let added = self.change(alloc, &Change::Union(effective_set.set()))?;
         Ok(Reply::Changed(added))
     }
 
@@ -37,27 +37,27 @@ impl<'a> Draft<'a> {
         ensures set { OnOk result (self.new.set ≡ set.difference self.old.set (operand_set operand.now)) }
         ensures reply { IfOk result (λ r.
             r ≡ reply.Changed (set.len (set.intersection self.old.set (operand_set operand.now)))) }
-        ensures found { self.new.found ≡ self.old.found }
+        ensures previous { self.new.previous ≡ self.old.previous }
     {
-        let resolved = operand.resolved(alloc)?;
-        let removed = self.change(alloc, &Change::Leave(resolved.set()))?;
+        let effective_set = operand.effective_set(alloc)?;
+        let removed = self.change(alloc, &Change::Subtract(effective_set.set()))?;
         Ok(Reply::Changed(removed))
     }
 
-    /// Keeps what the set of an operand has.
+    /// Keeps the pixels that are in the set of an operand.
     fn keep(&mut self, alloc: Global, operand: &Operand) -> Result<Reply, Memory>
         requires { IsOperand operand.now }
         ensures set { OnOk result (self.new.set ≡ set.intersection self.old.set (operand_set operand.now)) }
         ensures reply { IfOk result (λ r.
             r ≡ reply.Changed (set.len (set.difference self.old.set (operand_set operand.now)))) }
-        ensures found { self.new.found ≡ self.old.found }
+        ensures previous { self.new.previous ≡ self.old.previous }
     {
-        let resolved = operand.resolved(alloc)?;
-        let removed = self.change(alloc, &Change::Share(resolved.set()))?;
+        let effective_set = operand.effective_set(alloc)?;
+        let removed = self.change(alloc, &Change::Intersect(effective_set.set()))?;
         Ok(Reply::Changed(removed))
     }
 
-    /// Adds the set of an operand if nothing of it is there.
+    /// Adds the set of an operand if none of its pixels is in the draft.
     fn claim(&mut self, alloc: Global, operand: &Operand) -> Result<Reply, Memory>
         requires { IsOperand operand.now }
         ensures set { OnOk result (self.new.set
@@ -67,58 +67,58 @@ impl<'a> Draft<'a> {
         ensures reply { IfOk result (λ r. r ≡ (if meets self.old.set (operand_set operand.now)
             then reply.Taken (set.len (set.intersection self.old.set (operand_set operand.now)))
             else reply.Claimed)) }
-        ensures found { self.new.found ≡ self.old.found }
+        ensures previous { self.new.previous ≡ self.old.previous }
     {
-        let resolved = operand.resolved(alloc)?;
-        let other = resolved.set();
+        let effective_set = operand.effective_set(alloc)?;
+        let other = effective_set.set();
         let common = self.count_common(other);
         if common > 0 {
             return Ok(Reply::Taken(common));
         }
-        self.change(alloc, &Change::Join(other))?;
+        self.change(alloc, &Change::Union(other))?;
         Ok(Reply::Claimed)
     }
 
-    /// Takes the pixels of the sky that are not there.
+    /// Replaces the set by its complement in the sky.
     fn invert(&mut self, alloc: Global) -> Result<Reply, Memory>
         ensures set { OnOk result (self.new.set ≡ complement self.old.set) }
         ensures reply { IfOk result (λ r. r ≡ reply.Changed pixel_count) }
-        ensures found { self.new.found ≡ self.old.found }
+        ensures previous { self.new.previous ≡ self.old.previous }
     {
         self.change(alloc, &Change::Invert)?;
         Ok(Reply::Changed(PIXEL_COUNT))
     }
 
-    /// Degrades to an order.
+    /// Degrades the set to an order.
     fn degrade(&mut self, alloc: Global, order: Order) -> Result<Reply, Memory>
         requires { order ≤ 29 }
         ensures set { OnOk result (self.new.set ≡ degrade self.old.set order) }
         ensures reply { IfOk result (λ r.
             r ≡ reply.Changed (set.len (set.difference (degrade self.old.set order) self.old.set))) }
-        ensures found { self.new.found ≡ self.old.found }
+        ensures previous { self.new.previous ≡ self.old.previous }
     {
         let added = self.change(alloc, &Change::Degrade(order))?;
         Ok(Reply::Changed(added))
     }
 
-    /// Counts the pixels of an operand's set that are there.
+    /// Counts the pixels in the intersection with the set of an operand.
     fn total(&self, alloc: Global, operand: &Operand) -> Result<Reply, Memory>
         ensures { IfOk result (λ r.
             r ≡ reply.Total (set.len (set.intersection self.now.set (operand_set operand.now)))) }
     {
-        let resolved = operand.resolved(alloc)?;
-        Ok(Reply::Total(self.count_common(resolved.set())))
+        let effective_set = operand.effective_set(alloc)?;
+        Ok(Reply::Total(self.count_common(effective_set.set())))
     }
 
-    /// Reads the pixels of an operand's set that are there.
+    /// Returns the intersection with the set of an operand.
     fn read(&self, alloc: Global, operand: &Operand) -> Result<Reply, Memory>
         ensures { IfOk result (λ r. r ≡ reply.Cover (set.intersection self.now.set (operand_set operand.now))) }
     {
-        let resolved = operand.resolved(alloc)?;
-        Ok(Reply::Cover(self.common(alloc, resolved.set())?))
+        let effective_set = operand.effective_set(alloc)?;
+        Ok(Reply::Cover(self.common(alloc, effective_set.set())?))
     }
 
-    /// Whether a pixel of a cell or of a touching cell is there.
+    /// Returns whether the set has a pixel in a cell or in a cell that touches it.
     fn near(&self, alloc: Global, cell: Cell) -> Result<Reply, Memory>
         ensures { IfOk result (λ r. r ≡ reply.Near (meets self.now.set (surroundings cell))) }
     {
@@ -126,12 +126,12 @@ impl<'a> Draft<'a> {
         Ok(Reply::Near(self.meets(&around)))
     }
 
-    /// Does a command.
+    /// Executes one command.
     pub(crate) fn answer(&mut self, alloc: Global, command: &Command) -> Result<Reply, Memory>
         requires { IsCommand command.now }
         ensures set { OnOk result (self.new.set ≡ set_after self.old.set command.now) }
         ensures reply { IfOk result (λ r. r ≡ reply_on self.old.set command.now) }
-        ensures found { self.new.found ≡ self.old.found }
+        ensures previous { self.new.previous ≡ self.old.previous }
     {
         match command {
             Command::Add(x) => self.add(alloc, x),
@@ -146,7 +146,7 @@ impl<'a> Draft<'a> {
         }
     }
 
-    /// Does commands in order.
+    /// Executes commands in order.
     pub(crate) fn answer_all(
         &mut self,
         alloc: Global,
@@ -155,7 +155,7 @@ impl<'a> Draft<'a> {
         requires { AreCommands commands.now }
         ensures set { OnOk result (self.new.set ≡ set_after_all self.old.set commands.now) }
         ensures replies { IfOk result (λ r. r ≡ replies_on self.old.set commands.now) }
-        ensures found { self.new.found ≡ self.old.found }
+        ensures previous { self.new.previous ≡ self.old.previous }
     {
         let mut replies = Replies::new(alloc);
         for command in commands {

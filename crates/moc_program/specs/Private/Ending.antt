@@ -1,11 +1,11 @@
--- How the program ends with an outcome.
+-- The exit status of a result.
 use Rattle.std.specs.Prelude.{Result, Ok, Err}
 use Rattle.moc_program.specs.Statuses.{status_of}
-use Rattle.moc_program.specs.declared.status.ProgramFault.{ProgramFault}
+use Rattle.moc_program.specs.declared.status.ProgramError.{ProgramError}
 use Rattle.moc_program.specs.declared.status.Status.{Status}
-use Rattle.moc_program.specs.declared.status.Status.TheVariants.{Done}
+use Rattle.moc_program.specs.declared.status.Status.TheVariants.{Success}
 
--- how it ends with this outcome
-abbrev pub end_of : Result (Unit {0}) ProgramFault → Status
-end_of (Ok _) = Done
-end_of (Err fault) = status_of fault
+-- the exit status of a result
+abbrev pub status_of_result : Result (Unit {0}) ProgramError → Status
+status_of_result (Ok _) = Success
+status_of_result (Err fault) = status_of fault

@@ -5,7 +5,7 @@ use Rattle.moc_sphere.specs.Rings.{ring_number}
 use Rattle.moc_program.specs.declared.action.Number.{Number}
 use Rattle.moc_program.specs.declared.action.Number.TheVariants.{Ring, Nest, Uniq, Cell, Near}
 
--- the cell is the one that the number is of
+-- the cell has the number
 abbrev pub IsCellOf : Number → CellNumber → Type 0
 IsCellOf (Ring order index) cell = (index < cell_count order) × (cell ≡ cell_number order index)
 IsCellOf (Nest order ring) cell = (cell.order ≡ order) × IsCell cell × (ring_number order cell.index ≡ ring)

@@ -1,5 +1,4 @@
--- What callers know of the cells of a set: they are cells, in rising NUNIQ, and their pixels are
--- just the set's.
+-- Lemmas on the cells of a set: they are cells, in ascending NUNIQ, and have exactly the pixels of the set.
 use Rattle.std.proofs.Common.{◌≡◌, ℕ, zero, suc, ◌+◌, ◌-◌, ◌*◌, ◌/◌, ◌^◌, ◌<◌, ◌≤◌, Bool, true, false, cond}
 use Rattle.std.proofs.Common.{List, [], ◌∷◌, ◌++◌, get_or, map, refl, sym, ap, subst, ◌∙◌, inl, inr, arith}
 use Rattle.std.specs.Prelude.{nat_le, nat_lt, ⊤}
@@ -20,7 +19,7 @@ use Rattle.moc_blocks.specs.Lemmas.Members.{same_members, contains-set_of, in_ra
 use Rattle.moc_ranges.specs.Lemmas.Members.{contains-pixels, same_truth, contains-span, cell_range}
 use Rattle.moc_ranges.specs.Operations.{pixels, IsWithin}
 use Rattle.moc_ranges.specs.Cells.{span, is_cell_of, cells_below, cells_of}
-use Rattle.moc_ranges.specs.Private.RisingCells.{AllUniqFrom, IsRisingUniq}
+use Rattle.moc_ranges.specs.Private.SortedCells.{AllUniqFrom, IsSortedUniq}
 
 -- ---- cells
 
@@ -57,9 +56,9 @@ pub cells_are : (a : NumberSet) → AllByRecursion IsCell (cells_of a)
 unfolding cells_of
 cells_are a = AllByRecursion-filter IsCell (is_cell_of a) (cells_below 30) (cells_below-are 30 (omega arith))
 
--- ---- numbers of a cell
+-- ---- the pixels of a cell
 
--- the pixels of the cell i of size w
+-- a number whose cell of size w is i is in the range of this cell
 pub in_cell_range : (i w q : ℕ) → 0 < w → q / w ≡ i → in_range (i * w, (i + 1) * w) q ≡ true
 in_cell_range i w q pos is =
     let f = div-add-mod' q w in
@@ -70,7 +69,7 @@ in_cell_range i w q pos is =
     let high : q < (i + 1) * w = omega arith in
     and_from _ _ (le-leb (i * w) q low) (lt-ltb q ((i + 1) * w) high)
 
--- and only those
+-- a number in the range of a cell of size w has this cell
 pub of_cell_range : (i w q : ℕ) → 0 < w → in_range (i * w, (i + 1) * w) q ≡ true → q / w ≡ i
 of_cell_range i w q pos has =
     let parts = and_parts _ _ has in
@@ -86,13 +85,13 @@ four_parts k small =
     let deeper : 29 - k ≡ suc (29 - suc k) = omega arith in
     ap (λ n. 4 ^ n) deeper ∙ pow-succ' 4 (29 - suc k) ∙ omega arith
 
--- the cell of a pixel has the parent that is its cell of the order before
+-- the parent of a pixel's cell is the pixel's cell of the order before
 pub parent_of_pixel : (k q : ℕ) → k < 29 → q / cell_size (suc k) / 4 ≡ q / cell_size k
 parent_of_pixel k q small = div-div-eq-div-mul q (cell_size (suc k)) 4 ∙ ap (λ w. q / w) (sym (four_parts k small))
 
--- ---- what the cells of a set have is in the set
+-- ---- the pixels of the cells of a set are in the set
 
--- the numbers of a cell are the pixels of its span
+-- the range of a cell has the pixels of its span
 pub in_span : (k i q : ℕ) → k ≤ 29 → i < cell_count k → in_range (cell_range (cell_number k i)) q ≡ true
     → set.contains (span k i) q ≡ true
 in_span k i q small fits has =
@@ -134,9 +133,9 @@ cells_inside a (c ∷ cells) q are has = elim (cases_Bool (is_cell_of a c)) [
       ≡ true) other has)
 ]
 
--- ---- what is in the set is in one of its cells
+-- ---- each pixel of the set is in one of its cells
 
--- the largest cell around a number that lies in the set
+-- the largest cell around a number that is inside the set
 record HasCell (a : NumberSet) (q : ℕ) : Type 0 where
   order : ℕ
   order_in_range : order ≤ 29
@@ -225,7 +224,7 @@ inside_only : (a : NumberSet) (q : ℕ) → in_ranges (map cell_range (cells_of 
 unfolding cells_of
 inside_only a q has = cells_inside a (cells_below 30) q (cells_below-are 30 (omega arith)) has
 
--- the pixels of the cells of a set are the set's
+-- the pixels of the cells of a set are those of the set
 pub cells_fill : (a : NumberSet) → IsWithin a pixels → set_of (map cell_range (cells_of a)) ≡ a
 cells_fill a within = same_members _ a (λ q.
     contains-set_of (map cell_range (cells_of a)) q
@@ -267,19 +266,19 @@ AllUniqBelow-more : (high higher : ℕ) (xs : List CellNumber) → high ≤ high
 AllUniqBelow-more high higher [] le all = tt
 AllUniqBelow-more high higher (x ∷ xs) le all = (omega arith, AllUniqBelow-more high higher xs le all.1)
 
-IsRisingUniq-append : (middle : ℕ) (xs ys : List CellNumber) → IsRisingUniq xs → AllUniqBelow middle xs
-    → IsRisingUniq ys → AllUniqFrom middle ys → IsRisingUniq (xs ++ ys)
-IsRisingUniq-append middle [] ys up below more from = more
-IsRisingUniq-append middle (x ∷ xs) ys up below more from = (
+IsSortedUniq-append : (middle : ℕ) (xs ys : List CellNumber) → IsSortedUniq xs → AllUniqBelow middle xs
+    → IsSortedUniq ys → AllUniqFrom middle ys → IsSortedUniq (xs ++ ys)
+IsSortedUniq-append middle [] ys up below more from = more
+IsSortedUniq-append middle (x ∷ xs) ys up below more from = (
   AllUniqFrom-append (uniq_of x + 1) xs ys up.0 (AllUniqFrom-less middle (uniq_of x + 1) ys (omega arith) from),
-  IsRisingUniq-append middle xs ys up.1 below.1 more from,
+  IsSortedUniq-append middle xs ys up.1 below.1 more from,
 )
 
-IsRisingUniq-filter : (p : CellNumber → Bool) (xs : List CellNumber) → IsRisingUniq xs → IsRisingUniq (filter p xs)
-IsRisingUniq-filter p [] up = tt
-IsRisingUniq-filter p (x ∷ xs) up =
-    let rest = IsRisingUniq-filter p xs up.1 in
-    elim (p x) as (λ b. IsRisingUniq (cond b (x ∷ filter p xs) (filter p xs))) [
+IsSortedUniq-filter : (p : CellNumber → Bool) (xs : List CellNumber) → IsSortedUniq xs → IsSortedUniq (filter p xs)
+IsSortedUniq-filter p [] up = tt
+IsSortedUniq-filter p (x ∷ xs) up =
+    let rest = IsSortedUniq-filter p xs up.1 in
+    elim (p x) as (λ b. IsSortedUniq (cond b (x ∷ filter p xs) (filter p xs))) [
       | true ↦ (AllUniqFrom-filter (uniq_of x + 1) p xs up.0, rest)
       | false ↦ rest
     ]
@@ -289,10 +288,10 @@ order_from : (k low from n : ℕ) → low ≤ 4 ^ (k + 1) + from
 order_from k low from zero le = tt
 order_from k low from (suc n) le = (le, order_from k low (from + 1) n (omega arith))
 
-order_rising : (k from n : ℕ) → IsRisingUniq (map (cell_number k) (range_with_len from n))
-order_rising k from zero = tt
-order_rising k from (suc n) =
-    (order_from k (4 ^ (k + 1) + from + 1) (from + 1) n (omega arith), order_rising k (from + 1) n)
+order_ascending : (k from n : ℕ) → IsSortedUniq (map (cell_number k) (range_with_len from n))
+order_ascending k from zero = tt
+order_ascending k from (suc n) =
+    (order_from k (4 ^ (k + 1) + from + 1) (from + 1) n (omega arith), order_ascending k (from + 1) n)
 
 order_below : (k from n high : ℕ) → 4 ^ (k + 1) + (from + n) ≤ high
     → AllUniqBelow high (map (cell_number k) (range_with_len from n))
@@ -303,7 +302,7 @@ next_power : (k : ℕ) → 4 ^ (k + 1) ≡ 4 * 4 ^ k
 next_power k = let one : k + 1 ≡ suc k = omega arith in ap (λ e. 4 ^ e) one ∙ pow-succ' 4 k
 
 cells_below-rise : (orders : ℕ)
-    → IsRisingUniq (cells_below orders) × AllUniqBelow (4 ^ (orders + 1)) (cells_below orders)
+    → IsSortedUniq (cells_below orders) × AllUniqBelow (4 ^ (orders + 1)) (cells_below orders)
 unfolding cells_below
 cells_below-rise zero = (tt, tt)
 cells_below-rise (suc k) =
@@ -312,19 +311,19 @@ cells_below-rise (suc k) =
     let same : suc k ≡ k + 1 = omega arith in
     let next : 4 ^ (suc k + 1) ≡ 4 * 4 ^ (k + 1) = next_power (suc k) ∙ ap (λ e. 4 * 4 ^ e) same in
     let last = next_power k in (
-      IsRisingUniq-append (4 ^ (k + 1)) (cells_below k) here before.0 before.1 (order_rising k 0 (cell_count k))
+      IsSortedUniq-append (4 ^ (k + 1)) (cells_below k) here before.0 before.1 (order_ascending k 0 (cell_count k))
           (order_from k (4 ^ (k + 1)) 0 (cell_count k) (omega arith)),
       AllUniqBelow-append (4 ^ (suc k + 1)) (cells_below k) here
           (AllUniqBelow-more (4 ^ (k + 1)) (4 ^ (suc k + 1)) (cells_below k) (omega arith) before.1)
           (order_below k 0 (cell_count k) (4 ^ (suc k + 1)) (omega arith)),
     )
 
-cells_of-rise : (a : NumberSet) → IsRisingUniq (cells_of a)
+cells_of-rise : (a : NumberSet) → IsSortedUniq (cells_of a)
 unfolding cells_of
-cells_of-rise a = IsRisingUniq-filter (is_cell_of a) (cells_below 30) (cells_below-rise 30).0
+cells_of-rise a = IsSortedUniq-filter (is_cell_of a) (cells_below 30) (cells_below-rise 30).0
 
--- so the number of each is below that of the next
-increasing : (cells : List CellNumber) → IsRisingUniq cells → IsStrictlyIncreasing (map uniq_of cells)
+-- each NUNIQ number is less than the next
+increasing : (cells : List CellNumber) → IsSortedUniq cells → IsStrictlyIncreasing (map uniq_of cells)
 increasing [] up k within = absurd (omega arith)
 increasing (c ∷ []) up k within = absurd (omega arith)
 increasing (c ∷ (d ∷ cells)) up zero within = omega (arith, up.0.0)
@@ -334,6 +333,6 @@ increasing (c ∷ (d ∷ cells)) up (suc k) within =
     subst (λ n. get_or rest k 0 < get_or (uniq_of c ∷ rest) n 0) next
     (increasing (d ∷ cells) up.1 k (omega (arith, within)))
 
--- the cells of a set are in rising NUNIQ
-pub cells_rise : (a : NumberSet) → IsStrictlyIncreasing (map uniq_of (cells_of a))
-cells_rise a = increasing (cells_of a) (cells_of-rise a)
+-- the cells of a set are in ascending NUNIQ
+pub cells_ascend : (a : NumberSet) → IsStrictlyIncreasing (map uniq_of (cells_of a))
+cells_ascend a = increasing (cells_of a) (cells_of-rise a)

@@ -1,4 +1,4 @@
--- What is a member of a set: lemmas on the definitions, for proofs.
+-- Membership in sets: lemmas on the definitions, for proofs.
 use Rattle.std.specs.Prelude.{◌≡◌, ℕ, ◌+◌, ◌*◌, ◌/◌, true, not, ◌&&◌, nat_le, nat_lt, nat_eq}
 use Rattle.std.specs.FinSet as set
 use Rattle.std.specs.Ordering.{nat_cmp}
@@ -25,13 +25,13 @@ unfolding complement
 contains-complement a q =
     set.contains-difference nat_cmp_total pixels a q ∙ (λ i. contains-pixels q i && not (set.contains a q))
 
--- the members of a part
+-- the members of a set in a base pixel
 pub contains-part_of : (a : NumberSet) (b q : ℕ)
     → set.contains (part_of a b) q ≡ (set.contains a q && nat_eq (q / base_pixel_size) b)
 unfolding part_of
 contains-part_of a b q = contains-kept a (λ p. nat_eq (p / base_pixel_size) b) q
 
--- two sets meet where a number is in both
+-- two sets meet if a number is in both
 pub meets-some : (a b : NumberSet) (q : ℕ) → set.contains a q ≡ true → set.contains b q ≡ true → meets a b ≡ true
 unfolding meets
 meets-some a b q in_a in_b = elim (cases_lt 0 (set.len (set.intersection a b))) [
@@ -45,7 +45,7 @@ meets-some a b q in_a in_b = elim (cases_lt 0 (set.len (set.intersection a b))) 
       absurd (cc)
 ]
 
--- and do not where none is
+-- two sets do not meet if no number is in both
 pub meets-none : (a b : NumberSet) → ((q : ℕ) → (set.contains a q && set.contains b q) ≡ false) → meets a b ≡ false
 unfolding meets
 meets-none a b none =
@@ -58,7 +58,7 @@ is_same-refl : (a : NumberSet) → is_same a a ≡ true
 unfolding is_same
 is_same-refl a = let all = set.contains-is_subset nat_cmp_total a a (λ q has. has) in and_from _ _ all all
 
--- the test holds just of equal sets
+-- the test holds only for equal sets
 pub is_same-equal : (a b : NumberSet) → is_same a b ≡ true → a ≡ b
 unfolding is_same
 is_same-equal a b same =
@@ -67,7 +67,7 @@ is_same-equal a b same =
     same_truth _ _ (set.is_subset-contains nat_cmp_total a b parts.0 q)
     (set.is_subset-contains nat_cmp_total b a parts.1 q))
 
--- equal sets pass it
+-- the test holds for equal sets
 pub equal-is_same : (a b : NumberSet) → a ≡ b → is_same a b ≡ true
 equal-is_same a b same = ap (is_same a) (sym same) ∙ is_same-refl a
 
@@ -80,11 +80,11 @@ is_same-equivalence = record {
   congr = λ a b c same. ap (λ x. is_same x c) (is_same-equal a b same);
 }
 
--- the pixels of a cell, from the first up to, not including, the one after the last
+-- the pixels of a cell as a half-open range
 abbrev pub cell_range : CellNumber → ℕ × ℕ
 cell_range c = (c.index * cell_size c.order, (c.index + 1) * cell_size c.order)
 
--- the members of a span: the pixels whose cell it is
+-- the members of a cell's pixels: the pixels that have this cell
 pub contains-span : (order index q : ℕ)
     → set.contains (span order index) q ≡ (nat_lt q pixel_count && nat_eq (q / cell_size order) index)
 unfolding span
@@ -92,7 +92,7 @@ contains-span order index q =
     contains-kept pixels (λ p. nat_eq (p / cell_size order) index) q
     ∙ ap (λ b. b && nat_eq (q / cell_size order) index) (contains-pixels q)
 
--- the members of a degraded set: the pixels whose cell meets it
+-- the members of a degraded set: the pixels whose cell meets the set
 pub contains-degrade : (a : NumberSet) (order q : ℕ)
     → set.contains (degrade a order) q ≡ (nat_lt q pixel_count && meets a (span order (q / cell_size order)))
 unfolding degrade
@@ -100,7 +100,7 @@ contains-degrade a order q =
     contains-kept pixels (λ p. meets a (span order (p / cell_size order))) q
     ∙ ap (λ b. b && meets a (span order (q / cell_size order))) (contains-pixels q)
 
--- the members of a run of spans: the pixels whose cell is one of them
+-- the members of the pixels of a run of cells: the pixels that have one of these cells
 pub contains-spans : (order first last q : ℕ)
     → set.contains (spans order first last) q
     ≡ (nat_lt q pixel_count && (nat_le first (q / cell_size order) && nat_le (q / cell_size order) last))

@@ -1,4 +1,4 @@
--- What the numbers of pixels are numbers of.
+-- The numbers of pixels, as numbers of cells.
 use Rattle.std.specs.Prelude.{◌≡◌}
 use Rattle.std.proofs.Common.{refl}
 use Rattle.moc_sphere.specs.CellNumber.{cell_count, cell_size}

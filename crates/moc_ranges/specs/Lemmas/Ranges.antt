@@ -1,4 +1,4 @@
--- Laws of lists of ranges.
+-- Lemmas on lists of ranges.
 use Rattle.std.specs.Prelude.{◌≡◌, ℕ, ◌<◌, ◌≤◌, List, [], ◌∷◌}
 use Rattle.std.specs.FinSet as set
 use Rattle.std.proofs.lemmas.Bool.Decides.{nat_tests}
@@ -66,16 +66,16 @@ pub same_normal : (rs ss : List (ℕ × ℕ)) → IsNormal rs → IsNormal ss �
 same_normal rs ss n m same =
     same_ranges rs ss n m (λ q. sym (contains-set_of rs q) ∙ ap (λ a. set.contains a q) same ∙ contains-set_of ss q)
 
--- numbers one after the other lie in one range of the list
-abbrev pub LiesInOne : ℕ → ℕ → List (ℕ × ℕ) → Type 0
-LiesInOne low high [] = ⊥
-LiesInOne low high (range ∷ ranges) = ((range.0 ≤ low) × (high ≤ range.1)) ⊎ LiesInOne low high ranges
+-- consecutive numbers are inside one range of the list
+abbrev pub IsInsideOne : ℕ → ℕ → List (ℕ × ℕ) → Type 0
+IsInsideOne low high [] = ⊥
+IsInsideOne low high (range ∷ ranges) = ((range.0 ≤ low) × (high ≤ range.1)) ⊎ IsInsideOne low high ranges
 
--- numbers one after the other that are all in a normal list's set lie in one of its ranges
-pub lies_in_one : (low high : ℕ) (ranges : List (ℕ × ℕ)) → low < high → IsNormal ranges
-    → ((q : ℕ) → low ≤ q → q < high → in_ranges ranges q ≡ true) → LiesInOne low high ranges
-lies_in_one low high [] lt normal all = absurd (let here = all low (omega arith) lt in cc)
-lies_in_one low high (range ∷ ranges) lt normal all = elim (cases_lt low range.1) [
+-- consecutive numbers that are all in a normal list's set are inside one of its ranges
+pub inside_one : (low high : ℕ) (ranges : List (ℕ × ℕ)) → low < high → IsNormal ranges
+    → ((q : ℕ) → low ≤ q → q < high → in_ranges ranges q ≡ true) → IsInsideOne low high ranges
+inside_one low high [] lt normal all = absurd (let here = all low (omega arith) lt in cc)
+inside_one low high (range ∷ ranges) lt normal all = elim (cases_lt low range.1) [
   | inl before ↦
       let begun : (low < range.0) → ⊥ =
       λ early. let a = all low (omega arith) lt in let b = not_before range ranges normal low early in cc in
@@ -83,6 +83,6 @@ lies_in_one low high (range ∷ ranges) lt normal all = elim (cases_lt low range
       λ past. let a = all range.1 (omega arith) past in let b = at_end range ranges normal in cc in
       inl (omega arith, omega arith)
   | inr past ↦
-      inr (lies_in_one low high ranges lt normal.3 (λ q from to.
+      inr (inside_one low high ranges lt normal.3 (λ q from to.
       sym (without_first range ranges q (omega arith)) ∙ all q from to))
 ]

@@ -1,4 +1,4 @@
--- Laws of sets of pixels.
+-- Lemmas on sets of pixels.
 use Rattle.std.specs.Prelude.{◌≡◌, Bool, true, false, not, ◌&&◌, nat_lt}
 use Rattle.std.specs.FinSet as set
 use Rattle.std.proofs.Common.{◌∙◌, ap, sym, refl}

@@ -1,4 +1,4 @@
-//! Sets of pixels, base pixel by base pixel.
+//! Coverages by base pixel.
 ghost use Rattle.std.specs.Prelude.{◌≡◌, ℕ, true, ◌<◌, ◌≤◌, nat_lt, IfOk, IfSome, MatchOption};
 ghost use Rattle.std.specs.FinSet as set;
 ghost use Rattle.moc_ranges.specs.Operations.{part_of, IsWithin, pixels};
@@ -6,18 +6,23 @@ ghost use Rattle.moc_ranges.specs.Operations.{part_of, IsWithin, pixels};
 use crate::coverage::Coverage;
 use crate::errors::Memory;
 use moc_lists::Ranges;
-use moc_operations::intersect;
+use moc_operations::intersection;
 use std::alloc::Global;
 
-/// How many pixels a base pixel has: 4^29.
+/// The number of pixels in a base pixel: 4^29.
 const BASE_PIXEL_SIZE: u64 = 288230376151711744;
 
 impl Coverage {
-    /// The pixels of the set in one base pixel, 0 to 11: those p with `p / 4^29` equal to it. Above
-    /// 11 it is the empty set.
+    /// Returns the pixels of the set in one base pixel, 0 to 11: those p with `p / 4^29` equal to it. Above 11, returns
+    /// the empty set.
     ///
-    /// O(log n), and a copy of the ranges that it answers, of which whole blocks and nodes are shared;
-    /// refused where memory runs out.
+    /// # Errors
+    ///
+    /// Fails with `Memory` if an allocation fails.
+    ///
+    /// # Complexity
+    ///
+    /// O(log n), and a copy of the ranges of the result. Whole blocks and nodes are shared.
     pub fn part(&self, alloc: Global, base_pixel: u8) -> Result<Coverage, Memory>
         ensures part { IfOk result (λ c. c ≡ part_of self.now base_pixel) }
         ensures within { IsWithin self.now pixels }
@@ -27,12 +32,11 @@ impl Coverage {
         }
         let from = u64::from(base_pixel) * BASE_PIXEL_SIZE;
         let whole = [(from, from + BASE_PIXEL_SIZE)];
-        let list = intersect(alloc, self.ranges(), Ranges::of(&whole))?;
+        let list = intersection(alloc, self.ranges(), Ranges::of(&whole))?;
         Ok(Coverage { list })
     }
 
-    /// Whether the set has a pixel in this base pixel; it has none above 11. O(log n), takes no
-    /// memory.
+    /// Returns whether the set has a pixel in this base pixel; `false` above 11. O(log n), does not allocate.
     pub fn meets_base_pixel(&self, base_pixel: u8) -> bool
         ensures { result ≡ nat_lt 0 (set.len (part_of self.now base_pixel)) }
     {
@@ -43,8 +47,8 @@ impl Coverage {
         self.meets_range(from, from + BASE_PIXEL_SIZE)
     }
 
-    /// Whether the set has every pixel of this base pixel; above 11 there is none. O(log n), takes
-    /// no memory.
+    /// Returns whether the set contains every pixel of this base pixel; `true` above 11, because it has no pixels.
+    /// O(log n), does not allocate.
     pub fn covers_base_pixel(&self, base_pixel: u8) -> bool
         ensures { result ≡ set.is_subset (part_of pixels base_pixel) self.now }
     {
@@ -55,8 +59,8 @@ impl Coverage {
         self.covers_range(from, from + BASE_PIXEL_SIZE)
     }
 
-    /// The first base pixel from this one on that the set has a pixel in, if there is one; there is none above 11.
-    /// O(log n), takes no memory.
+    /// Returns the first base pixel at or after `from` in which the set has a pixel, if any. O(log n), does not
+    /// allocate.
     pub fn next_base_pixel(&self, from: u8) -> Option<u8>
         ensures found { IfSome result (λ b.
             (from ≤ b) × (b < 12) × (nat_lt 0 (set.len (part_of self.now b)) ≡ true)) }

@@ -1,4 +1,4 @@
-//! Sets of pixels that take in others in place.
+//! Insertion into coverages in place.
 ghost use Rattle.std.specs.Prelude.{◌≡◌, ◌≤◌, IfOk, OnErr, OnOk};
 ghost use Rattle.std.specs.FinSet as set;
 ghost use Rattle.moc_blocks.specs.RangeList.{numbers, pixel_count};
@@ -6,18 +6,24 @@ ghost use Rattle.moc_blocks.specs.RangeList.{numbers, pixel_count};
 use crate::coverage::Coverage;
 use crate::errors::Memory;
 use moc_lists::Ranges;
-use moc_operations::unite;
+use moc_operations::union;
 use std::alloc::Global;
 
 impl Coverage {
-    /// Adds the pixels from one up to, not including, another, and tells how many of them are new.
+    /// Inserts the pixels of a half-open range, and returns the number of new pixels. Inserts nothing if `to` is not
+    /// above `from`. Requires that `to` is at most `PIXEL_COUNT`.
     ///
-    /// Mostly O(log n), whatever shares the blocks: the range is put into its block where no other set has that, the
-    /// range touches no other and the block is not full. Else the block is made anew, and the pointers to the others of
-    /// its node are copied where another set shares the node, or the block is cut in two; where it is cut, also a step
-    /// for each node behind. As a union where the range touches more than one block, or no block can take it by the
-    /// rules of lengths. Refused where memory runs out; the set then is as it was. Wants `to` at or below
-    /// `PIXEL_COUNT`; where it is not above `from` nothing is added.
+    /// # Errors
+    ///
+    /// Fails with `Memory` if an allocation fails; the set is unchanged.
+    ///
+    /// # Complexity
+    ///
+    /// Usually O(log n), also if blocks are shared. The range is inserted into its block in place if no other set
+    /// shares the block, the range touches no other range, and the block is not full. Otherwise the block is rebuilt.
+    /// The pointers to the other blocks of its node are copied if another set shares the node or if the block is split;
+    /// a split also takes one step for each later node. If the range touches more than one block, or if no block can
+    /// take it by the fill rule, the cost is that of a union.
     pub fn insert_range(&mut self, alloc: Global, from: u64, to: u64) -> Result<u64, Memory>
         requires within { to ≤ pixel_count }
         ensures set { OnOk result (self.new ≡ set.union self.old (numbers from to)) }
@@ -37,20 +43,24 @@ impl Coverage {
             return Ok(added);
         }
         let range = [(from, to)];
-        let list = unite(alloc, self.list.ranges(), Ranges::of(&range))?;
-        let added = list.measure() - self.list.measure();
+        let list = union(alloc, self.list.ranges(), Ranges::of(&range))?;
+        let added = list.total_width() - self.list.total_width();
         self.list = list;
         Ok(added)
     }
 
-    /// Adds the pixels of another set, and tells how many of them are new. As `insert_range` where the other is one
-    /// range, and else as `union`. Refused where memory runs out; the set then is as it was.
+    /// Inserts the pixels of another set, and returns the number of new pixels. Has the cost of `insert_range` if the
+    /// other set is one range, and otherwise the cost of `union`.
+    ///
+    /// # Errors
+    ///
+    /// Fails with `Memory` if an allocation fails; the set is unchanged.
     pub fn insert_all(&mut self, alloc: Global, other: &Coverage) -> Result<u64, Memory>
         ensures set { OnOk result (self.new ≡ set.union self.old other.now) }
         ensures added { IfOk result (λ n. n ≡ set.len (set.difference other.now self.old)) }
         ensures unchanged { OnErr result (self.new ≡ self.old) }
     {
-        if let Some([range]) = other.ranges().few() {
+        if let Some([range]) = other.ranges().slice() {
             return self.insert_range(alloc, range.0, range.1);
         }
         let added = other.count() - self.count_common(other);

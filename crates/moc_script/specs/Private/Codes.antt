@@ -1,4 +1,4 @@
--- How the standing of a schedule is stored.
+-- The encoding of the state of a schedule.
 use Rattle.std.specs.Prelude.{ℕ, List, refl}
 use Rattle.std.specs.Coded.{Coded, code_by, coded×, coded_ℕ, coded_list}
 use Rattle.moc_parts.specs.declared.command.Command.{Command}
@@ -7,7 +7,7 @@ use Rattle.moc_steps.specs.Machine.{World}
 use Rattle.moc_steps.specs.contracts.world.World as world
 use Rattle.moc_script.specs.Schedules.{Schedule}
 
--- where a schedule stands
+-- the state of a schedule
 abbrev pub schedule_code : Coded Schedule
 schedule_code =
     code_by (World (List Command) (List Reply) × (ℕ × List ℕ))

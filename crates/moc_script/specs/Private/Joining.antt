@@ -2,19 +2,19 @@
 use Rattle.std.specs.Prelude.{◌≡◌, ◌<◌, ◌++◌, ℕ, List, [], length, slice_index_or, Result, OnOk}
 use Rattle.moc_devices.specs.Devices.{Reading, Writing, Accepts, Sends}
 use Rattle.std.specs.List.{concat}
-use Rattle.moc_script.specs.Crews.{in_lane, dealt, CrewEnds, IsCrewText, said_lines}
+use Rattle.moc_script.specs.Crews.{in_lane, dealt, CrewEnds, IsCrewText, nonblank_lines}
 use Rattle.moc_text.specs.Lines.{lines_of}
 use Rattle.moc_lines.specs.Runs.{ReadsAll}
 use Rattle.moc_script.specs.declared.crew_error.CrewError.{CrewError}
 
--- each lane has as many answers as it has lines, of so many lines
+-- each lane has as many answers as it has lines, of `count` lines
 abbrev pub AreForLines : ℕ → List (List (List ℕ)) → ℕ → Type 0
 AreForLines lanes answers count =
     (lines : List (List ℕ)) × (length lines ≡ count)
     × ((lane : ℕ) → lane < lanes → length (slice_index_or answers lane []) ≡ length (in_lane lane (dealt lanes lines)))
 
--- the text is made of the lanes' answers in turn, so many, behind which these are left
-pub record IsJoined (lanes : ℕ) (all left : List (List (List ℕ))) (count : ℕ) (text : List ℕ) : Type 0 where
+-- the text is `count` answers of the lanes in turn, and these are left
+pub record IsMerged (lanes : ℕ) (all left : List (List (List ℕ))) (count : ℕ) (text : List ℕ) : Type 0 where
   pub done : List (List ℕ)
   pub text_is : text ≡ concat done
   pub count_is : length done ≡ count
@@ -23,35 +23,37 @@ pub record IsJoined (lanes : ℕ) (all left : List (List (List ℕ))) (count : �
       → slice_index_or all lane [] ≡ in_lane lane (dealt lanes done) ++ slice_index_or left lane []
 
 -- the answers to all lines, in turn
-pub record AreJoined (all : List (List (List ℕ))) (count : ℕ) (text : List ℕ) : Type 0 where
+pub record AreMerged (all : List (List (List ℕ))) (count : ℕ) (text : List ℕ) : Type 0 where
   pub left : List (List (List ℕ))
-  pub joined : IsJoined (length all) all left count text
+  pub merge : IsMerged (length all) all left count text
 
--- the answers in turn are written but for what is pending, or a beginning of them where the writer failed
+-- the answers in turn are written except for what is pending, or a prefix of them if the writer failed
 pub record SendsTurns {E : Type 0} (all : List (List (List ℕ))) (written : Writing) (pending : List ℕ)
     (written' : Writing) (result : Result (Unit {0}) E) : Type 0 where
   pub sent : List ℕ
   pub appended : Accepts written written' sent
   pub whole : (count : ℕ) → AreForLines (length all) all count
-      → (rest : List ℕ) × AreJoined all count (sent ++ rest) × OnOk result (rest ≡ pending)
+      → (rest : List ℕ) × AreMerged all count (sent ++ rest) × OnOk result (rest ≡ pending)
 
--- the answers in turn and the text behind them are written, or a beginning of both where the writer failed
-abbrev pub JoinsTo : {E : Type 0} → List (List (List ℕ)) → List ℕ → Writing → Writing
+-- the answers in turn and the text after them are written, or a prefix of both if the writer failed
+abbrev pub MergesTo : {E : Type 0} → List (List (List ℕ)) → List ℕ → Writing → Writing
     → Result (Unit {0}) E → Type 0
-JoinsTo all behind written written' result =
+MergesTo all following written written' result =
     (count : ℕ) → AreForLines (length all) all count
-    → (text : List ℕ) × AreJoined all count text × Sends (text ++ behind) written [] written' result
+    → (text : List ℕ) × AreMerged all count text × Sends (text ++ following) written [] written' result
 
--- so many lanes have these answers, which in turn, with the text behind them, may answer the lines
-pub record AreTold (lanes : ℕ) (said : List (List ℕ)) (answers : List (List (List ℕ))) (behind : List ℕ) : Type 0 where
+-- these answers of the lanes, in turn and with the text after them, may answer the lines
+pub record AreCrewAnswers (lanes : ℕ) (nonblank : List (List ℕ)) (answers : List (List (List ℕ)))
+    (following : List ℕ) : Type 0 where
   pub wide : length answers ≡ lanes
-  pub for_lines : AreForLines lanes answers (length said)
-  pub text : (front : List ℕ) → AreJoined answers (length said) front → IsCrewText lanes said (front ++ behind)
+  pub for_lines : AreForLines lanes answers (length nonblank)
+  pub text : (front : List ℕ) → AreMerged answers (length nonblank) front
+      → IsCrewText lanes nonblank (front ++ following)
 
--- What so many lanes answered an input that was read whole is written, as far as the outcome says, as a crew ends.
-abbrev pub EndsTold : List ℕ → List (List (List ℕ)) → List ℕ → Writing → Writing
+-- The answers of the lanes to an input that was read whole are written, as far as the result states, as a crew ends.
+abbrev pub EndsWriting : List ℕ → List (List (List ℕ)) → List ℕ → Writing → Writing
     → Result (Unit {0}) CrewError → Type 0
-EndsTold input answers cover written written' result =
+EndsWriting input answers cover written written' result =
     (lanes : ℕ) (left left' : Reading)
-    → AreTold lanes (said_lines (lines_of input)) answers cover → ReadsAll left left' input
+    → AreCrewAnswers lanes (nonblank_lines (lines_of input)) answers cover → ReadsAll left left' input
     → CrewEnds lanes left left' written written' result

@@ -1,4 +1,4 @@
--- What a lane has done.
+-- The results of the lanes.
 use Rattle.std.specs.Prelude.{◌≡◌, ◌<◌, ◌≤◌, ℕ, List, [], ◌∷◌, ◌++◌, length, slice_index_or, Result, Ok, Err}
 use Rattle.moc_parts.specs.declared.command.Command.{Command}
 use Rattle.moc_parts.specs.declared.reply.Reply.{Reply}
@@ -8,59 +8,60 @@ use Rattle.moc_shared.specs.Clients.{number_of, record_of, IsClientOf}
 use Rattle.moc_shared.specs.History.{call_by}
 use Rattle.moc_text.specs.Lines.{lines_of}
 use Rattle.moc_lines.specs.Language.{replies_text}
-use Rattle.moc_script.specs.Crews.{IsSaidLine}
+use Rattle.moc_script.specs.Crews.{IsNonblankLine}
 use Rattle.moc_lines.specs.Runs.{script_rules}
 use Rattle.moc_script.specs.Private.Input.{lane_lines}
-use Rattle.moc_script.specs.Private.LaneWork.{MadeByLine, Does}
-use Rattle.moc_script.specs.declared.crews.lane.LaneEnd.{LaneEnd}
-use Rattle.moc_script.specs.declared.crews.lane.Unfinished.{Unfinished}
-use Rattle.moc_script.specs.declared.crews.lane.Unfinished.TheVariants.{Refused, Stopped}
+use Rattle.moc_script.specs.Private.LaneWork.{MadeByLine, Performs}
+use Rattle.moc_script.specs.declared.crews.lane.LaneOutput.{LaneOutput}
+use Rattle.moc_script.specs.declared.crews.lane.LaneFailure.{LaneFailure}
+use Rattle.moc_script.specs.declared.crews.lane.LaneFailure.TheVariants.{OutOfMemory, Stopped}
 
--- the record stands for this client alone, which made these calls
-abbrev pub Made : ℕ → List BatchCall → BatchRecord → Type 0
-Made client calls r = r.own ≡ record { client = client; made = calls } ∷ []
+-- the record has this client only, and exactly these calls of it
+abbrev pub HasMade : ℕ → List BatchCall → BatchRecord → Type 0
+HasMade client calls r = r.own ≡ record { client = client; made = calls } ∷ []
 
--- the line made these calls, behind the former ones, and has this answer
+-- the line made these calls, after the former ones, and has this answer
 abbrev pub IsLineAnswer : ℕ → List ℕ → BatchRecord → BatchRecord → List ℕ → Type 0
 IsLineAnswer client line old new text =
     (calls : List BatchCall) × MadeByLine object script_rules line calls text
-    × ((made : List BatchCall) → Made client made old → Made client (made ++ calls) new)
+    × ((made : List BatchCall) → HasMade client made old → HasMade client (made ++ calls) new)
 
--- the same, where the answer stands behind others
-abbrev pub AddsAnswer : ℕ → List ℕ → BatchRecord → BatchRecord → List ℕ → List ℕ → Type 0
-AddsAnswer client line old new before after =
+-- the line made its calls, and its answer is appended to others
+abbrev pub AppendsAnswer : ℕ → List ℕ → BatchRecord → BatchRecord → List ℕ → List ℕ → Type 0
+AppendsAnswer client line old new before after =
     (text : List ℕ) × (after ≡ before ++ text) × IsLineAnswer client line old new text
 
--- the commands made one call of the client, behind the former ones, and its answer stands behind others
-abbrev pub Answered : ℕ → List Command → BatchRecord → BatchRecord → List ℕ → List ℕ → Type 0
-Answered client commands old new before after =
+-- the commands made one call of the client, after the former ones, and its answer is appended to others
+abbrev pub AppendsReplies : ℕ → List Command → BatchRecord → BatchRecord → List ℕ → List ℕ → Type 0
+AppendsReplies client commands old new before after =
     (replies : List Reply) × (after ≡ before ++ (replies_text replies ++ 10 ∷ []))
-    × ((made : List BatchCall) → Made client made old → Made client (made ++ call_by client commands replies ∷ []) new)
+    × ((made : List BatchCall) → HasMade client made old
+    → HasMade client (made ++ call_by client commands replies ∷ []) new)
 
--- the line at which a lane was refused memory, or stopped
-abbrev pub line_at : Unfinished → ℕ
-line_at (Refused line) = line
-line_at (Stopped line) = line
+-- the line at which an allocation of a lane failed, or the lane stopped
+abbrev pub failure_line : LaneFailure → ℕ
+failure_line (OutOfMemory line) = line
+failure_line (Stopped line) = line
 
--- a lane that was refused goes before one that stopped, and of two alike that of the lesser line
-abbrev pub GoesBefore : Unfinished → Unfinished → Type 0
-GoesBefore (Refused line) (Refused other) = line ≤ other
-GoesBefore (Refused line) (Stopped other) = Unit {0}
-GoesBefore (Stopped line) (Refused other) = ⊥
-GoesBefore (Stopped line) (Stopped other) = line ≤ other
+-- an allocation failure takes precedence over a stop, and the lesser line among failures of one kind
+abbrev pub Precedes : LaneFailure → LaneFailure → Type 0
+Precedes (OutOfMemory line) (OutOfMemory other) = line ≤ other
+Precedes (OutOfMemory line) (Stopped other) = Unit {0}
+Precedes (Stopped line) (OutOfMemory other) = ⊥
+Precedes (Stopped line) (Stopped other) = line ≤ other
 
--- The lane of this number, of so many, has done its lines of a script, by calls of its client, and has their answers;
--- or it was refused memory, or stopped, at a line that is not blank.
-abbrev pub IsLaneEnd : SharedMap → ℕ → List ℕ → ℕ → Result LaneEnd Unfinished → Type 0
+-- The lane with this number has answered its lines of a script, by calls of its client, and has their answers; or an
+-- allocation failed, or the lane stopped, at a line that is not blank.
+abbrev pub IsLaneEnd : SharedMap → ℕ → List ℕ → ℕ → Result LaneOutput LaneFailure → Type 0
 IsLaneEnd map lanes input lane (Ok end) =
     IsClientOf map end.client × (number_of end.client ≡ lane)
-    × ((made : List BatchCall) × Made lane made (record_of end.client)
-    × Does object script_rules (lane_lines lanes input lane) made end.answers)
-IsLaneEnd map lanes input lane (Err e) = IsSaidLine (line_at e) (lines_of input)
+    × ((made : List BatchCall) × HasMade lane made (record_of end.client)
+    × Performs object script_rules (lane_lines lanes input lane) made end.answers)
+IsLaneEnd map lanes input lane (Err e) = IsNonblankLine (failure_line e) (lines_of input)
 
--- each of so many lanes has done its lines of a script, or was refused memory, or stopped, at one
-abbrev pub AreLaneEnds : SharedMap → ℕ → List ℕ → List (Result LaneEnd Unfinished) → Type 0
+-- each of the lanes has answered its lines of a script, or failed or stopped at one
+abbrev pub AreLaneEnds : SharedMap → ℕ → List ℕ → List (Result LaneOutput LaneFailure) → Type 0
 AreLaneEnds map lanes input ends =
     (length ends ≡ lanes)
-    × ((lane : ℕ) (d : Result LaneEnd Unfinished) → lane < lanes
+    × ((lane : ℕ) (d : Result LaneOutput LaneFailure) → lane < lanes
     → IsLaneEnd map lanes input lane (slice_index_or ends lane d))

@@ -1,9 +1,9 @@
--- What the handles of the lanes' threads promise.
+-- The promises of the handles of the lanes' threads.
 use Rattle.std.specs.Prelude.{◌≡◌, ◌<◌, ℕ, List, length, slice_index_or, Result}
 use Rattle.std.specs.declared.thread.PromisedHandle.{PromisedHandle}
 use Rattle.moc_shared.specs.declared.map.SharedMap.{SharedMap}
-use Rattle.moc_script.specs.declared.crews.lane.LaneEnd.{LaneEnd}
-use Rattle.moc_script.specs.declared.crews.lane.Unfinished.{Unfinished}
+use Rattle.moc_script.specs.declared.crews.lane.LaneOutput.{LaneOutput}
+use Rattle.moc_script.specs.declared.crews.lane.LaneFailure.{LaneFailure}
 use Rattle.moc_script.specs.declared.crews.threads.Work.{Work}
 
 -- the work is that of this lane
@@ -13,9 +13,9 @@ pub record IsWorkOf (map : SharedMap) (lanes : ℕ) (input : List ℕ) (lane : �
   pub lanes_are : work.job.lanes ≡ lanes
   pub lane_is : work.lane ≡ lane
 
--- each handle promises the end of its lane
-abbrev pub ArePromised : SharedMap → ℕ → List ℕ → List (PromisedHandle (Result LaneEnd Unfinished) Work) → Type 0
+-- each handle promises the result of its lane
+abbrev pub ArePromised : SharedMap → ℕ → List ℕ → List (PromisedHandle (Result LaneOutput LaneFailure) Work) → Type 0
 ArePromised map lanes input handles =
     (length handles ≡ lanes)
-    × ((lane : ℕ) (d : PromisedHandle (Result LaneEnd Unfinished) Work) → lane < lanes
+    × ((lane : ℕ) (d : PromisedHandle (Result LaneOutput LaneFailure) Work) → lane < lanes
     → IsWorkOf map lanes input lane (slice_index_or handles lane d).promise)

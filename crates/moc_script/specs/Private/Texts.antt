@@ -1,12 +1,12 @@
--- Texts that lie in one buffer.
+-- Texts in one buffer.
 use Rattle.std.specs.Prelude.{ℕ, ◌+◌, List, [], ◌∷◌, take, drop}
 
--- bytes cut into texts of these lengths
-abbrev pub cut : List ℕ → List ℕ → List (List ℕ)
-cut [] bytes = []
-cut (len ∷ lens) bytes = take len bytes ∷ cut lens (drop len bytes)
+-- bytes split into texts of these lengths
+abbrev pub split_by_len : List ℕ → List ℕ → List (List ℕ)
+split_by_len [] bytes = []
+split_by_len (len ∷ lens) bytes = take len bytes ∷ split_by_len lens (drop len bytes)
 
--- how many bytes these lengths are together
+-- the sum of the lengths
 abbrev pub total : List ℕ → ℕ
 total [] = 0
 total (len ∷ lens) = len + total lens

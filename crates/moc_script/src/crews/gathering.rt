@@ -1,28 +1,28 @@
-//! The lanes' ends, put together.
+//! Collection of the results of the lanes.
 ghost use Rattle.std.specs.Prelude.{◌≡◌, ◌<◌, ◌⊎◌, List, ℕ, IfErr, IfOk, IfSome, length};
 ghost use Rattle.moc_shared.specs.declared.map.SharedMap.{SharedMap};
 ghost use Rattle.moc_shared.specs.Clients.{IsClientOf};
-ghost use Rattle.moc_script.specs.Private.LaneEnds.{AreLaneEnds, GoesBefore};
-ghost use Rattle.moc_script.specs.Private.Gathering.{AreDone, HasBoth, HasLanes, IsFirstUnfinished, NamesFirst};
+ghost use Rattle.moc_script.specs.Private.LaneEnds.{AreLaneEnds, Precedes};
+ghost use Rattle.moc_script.specs.Private.Gathering.{AreLaneOutputs, HasBoth, HasLanes, IsFirstFailure, NamesFirst};
 
-use crate::crews::lane::{Ending, Job, LaneEnd, Unfinished};
+use crate::crews::lane::{Job, LaneFailure, LaneOutput, LaneResult};
 use crate::crews::texts::Texts;
 use crate::crews::threads::LanesError;
 use moc_ranges::Memory;
 use moc_shared::{Client, SharedMap};
 use std::alloc::Global;
 
-/// The one of two ends that goes before the other.
-fn first_of(one: Unfinished, other: Unfinished) -> Unfinished
+/// Returns the one of two failures that takes precedence.
+fn first_of(one: LaneFailure, other: LaneFailure) -> LaneFailure
     ensures either { (result ≡ one) ⊎ (result ≡ other) }
-    ensures first { GoesBefore result one × GoesBefore result other }
+    ensures first { Precedes result one × Precedes result other }
 {
-    if one.goes_before(other) { one } else { other }
+    if one.precedes(other) { one } else { other }
 }
 
-/// The first end of a lane that has not done its lines, if there is one.
-fn first_unfinished(ends: &[Ending]) -> Option<Unfinished>
-    ensures { IsFirstUnfinished ends.now result }
+/// Returns the failure that takes precedence over all others, if a lane failed.
+fn first_failure(ends: &[LaneResult]) -> Option<LaneFailure>
+    ensures { IsFirstFailure ends.now result }
 {
     let mut first = None;
     for end in ends {
@@ -36,28 +36,32 @@ fn first_unfinished(ends: &[Ending]) -> Option<Unfinished>
     first
 }
 
-/// The lanes' ends, if all went well; or the line at which the first lane was refused memory, or else stopped.
-pub(crate) fn all_done(alloc: Global, ends: Vec<Ending>) -> Result<Vec<LaneEnd>, LanesError>
+/// Returns the results of all lanes. If a lane failed, fails with the least line at which an allocation failed, or else
+/// the least at which a lane stopped.
+pub(crate) fn all_outputs(
+    alloc: Global,
+    ends: Vec<LaneResult>,
+) -> Result<Vec<LaneOutput>, LanesError>
     ensures done { IfOk result (λ done. (map : SharedMap) (lanes : ℕ) (input : List ℕ)
-        → AreLaneEnds map lanes input ends.items → AreDone map lanes input done.items) }
+        → AreLaneEnds map lanes input ends.items → AreLaneOutputs map lanes input done.items) }
     ensures first { IfErr result (λ e. NamesFirst ends.items e) }
 {
-    if let Some(unfinished) = first_unfinished(&ends) {
+    if let Some(unfinished) = first_failure(&ends) {
         let line = unfinished.line();
         return Err(LanesError::Memory { line });
     }
     let mut done = Vec::new(alloc);
     for end in ends {
-        // No lane is unfinished.
+        // No lane failed.
         let Ok(end) = end else { unreachable!() };
         let Ok(()) = done.push(end) else {
-            return Err(LanesError::MemoryBehind);
+            return Err(LanesError::MemoryAfterLast);
         };
     }
     Ok(done)
 }
 
-/// The client that has the records of both, where there are two.
+/// Merges two clients into one that has the records of both; returns the second if there is no first.
 fn both(map: &SharedMap, first: Option<Client>, second: Client) -> Client
     requires first { IfSome first (λ c. IsClientOf map.now c) }
     requires second { IsClientOf map.now second }
@@ -73,14 +77,14 @@ fn both(map: &SharedMap, first: Option<Client>, second: Client) -> Client
     }
 }
 
-/// One client with the records of all, and the answers of the lanes in order.
+/// Returns one client with the records of all, and the answers of the lanes in order.
 pub(crate) fn take_in_all(
     alloc: Global,
     job: Job<'_>,
-    done: Vec<LaneEnd>,
+    done: Vec<LaneOutput>,
 ) -> Result<(Client, Vec<Texts>), Memory>
     requires some { 0 < job.lanes }
-    requires done { AreDone job.map.now job.lanes job.input.now done.items }
+    requires done { AreLaneOutputs job.map.now job.lanes job.input.now done.items }
     ensures map { IfOk result (λ r. IsClientOf job.entry.map.now r.0) }
     ensures wide { IfOk result (λ r. length r.1.items ≡ job.entry.lanes) }
     ensures lanes { IfOk result (λ r. HasLanes job.entry.lanes job.entry.lanes job.entry.input.now r.1.items r.0) }
@@ -88,7 +92,7 @@ pub(crate) fn take_in_all(
     let mut all = None;
     let mut answers = Vec::new(alloc);
     for end in done {
-        let LaneEnd {
+        let LaneOutput {
             client,
             answers: texts,
         } = end;
@@ -99,7 +103,7 @@ pub(crate) fn take_in_all(
     }
     match all {
         Some(client) => Ok((client, answers)),
-        // There is a lane.
+        // There is at least one lane.
         None => unreachable!(),
     }
 }

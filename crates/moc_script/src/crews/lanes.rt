@@ -1,9 +1,9 @@
-//! How many threads a crew has.
+//! The number of threads of a crew.
 ghost use Rattle.std.specs.Prelude.{◌≡◌, ◌<◌, ◌≤◌, ◌↔◌, IfSome, IsSome};
 
-use moc_shared::MOST_CLIENTS;
+use moc_shared::MAX_CLIENTS;
 
-/// A number of lanes: 1 to 64.
+/// A number of lanes, from 1 to 64.
 #[derive(Clone, Copy, Debug, PartialEq, Eq)]
 pub struct Lanes {
     number: u8,
@@ -12,22 +12,22 @@ pub struct Lanes {
 }
 
 impl Lanes {
-    /// So many lanes, if they are 1 to 64. Takes no memory.
+    /// Returns this number of lanes, or `None` if it is 0 or above 64. Allocates nothing.
     pub fn new(number: u8) -> Option<Lanes>
         ensures number { IfSome result (λ lanes. lanes.number ≡ number) }
         ensures accepted { IsSome result ↔ ((0 < number) × (number ≤ 64)) }
     {
-        if number == 0 || number > MOST_CLIENTS {
+        if number == 0 || number > MAX_CLIENTS {
             return None;
         }
         Some(Lanes { number })
     }
 
-    /// How many. Takes no memory.
+    /// Returns the number. Allocates nothing.
     pub fn get(self) -> u8
         ensures number { result ≡ self.number }
         ensures some { 0 < result }
-        ensures few { result ≤ 64 }
+        ensures bounded { result ≤ 64 }
     {
         self.number
     }

@@ -1,16 +1,18 @@
-//! Batches on a map, at once or while all their parts are held.
+//! Executing batches on a map, either at once or in two steps with held parts.
 ghost use Rattle.std.specs.Prelude.{◌≡◌, false, IfOk, IfErr, OnOk, OnErr, MatchResult};
 ghost use Rattle.std.specs.List.{list_any};
 ghost use Rattle.moc_parts.specs.Commands.{is_update};
 ghost use Rattle.moc_shared.specs.Clients.{number_of, record_of, holder_of, held_batch, call_of};
-ghost use Rattle.moc_shared.specs.Clients.{IsClientOf, IsHoldingOf, Ends, Refuses, Undone, LacksMemoryHolding};
-ghost use Rattle.moc_shared.specs.Clients.{EndsWaiting, LacksMemoryWaiting, AfterTryApply, AfterLook, AfterSnapshot};
+ghost use Rattle.moc_shared.specs.Clients.{IsClientOf, IsHoldingOf, TakesEffect};
+ghost use Rattle.moc_shared.specs.Clients.{MissesPart, HasNoEffect, FailsOutOfMemoryHolding};
+ghost use Rattle.moc_shared.specs.Clients.{TakesEffectAfterWaiting, FailsOutOfMemoryWaiting};
+ghost use Rattle.moc_shared.specs.Clients.{AfterTryApply, AfterLook, AfterSnapshot};
 
+use crate::calls::execution::{execute_held, observe};
+use crate::calls::footprint::{give_all, take_all};
+use crate::calls::waiting::wait_for_all;
 use crate::client::{Client, Holding};
 use crate::errors::{Busy, LookError, SnapshotError, TryError};
-use crate::held::answers::{go_through, observe};
-use crate::held::footprint::{give_all, take_all};
-use crate::held::waiting::wait_all;
 use crate::map::SharedMap;
 use crate::snapshot::Snapshot;
 use crate::table::slots::no_slots;
@@ -19,29 +21,34 @@ use moc_ranges::Memory;
 use std::sync::Wait;
 
 impl SharedMap {
-    /// Takes the parts of the batch in rising order, once each, does it and gives them back; or gives back all that it
-    /// took.
+    /// Executes a batch without waiting. Takes the parts of its footprint in ascending order, executes the batch, and
+    /// gives the parts back.
     ///
-    /// Waits for nobody. `Busy` names a part that was not free and who holds it; nothing is held then. Refused
-    /// also where memory runs out. Costs what `Map::apply` does, and a compare-exchange for each part.
+    /// # Errors
+    /// Fails with `Busy` if another client holds a part of the footprint, and with `Memory` if an allocation fails. The
+    /// map is then unchanged, and the client holds no part. After `Memory`, a query may have taken effect without
+    /// returning its replies.
+    ///
+    /// # Complexity
+    /// As `Map::apply`, and one compare-exchange for each part of the footprint.
     pub fn try_apply(&self, client: &mut Client, batch: &Batch) -> Result<Replies, TryError>
         requires map { IsClientOf self.now client.old }
         ensures map { IsClientOf self.now client.new }
         ensures number { number_of client.new ≡ number_of client.old }
         ensures ok { IfOk result
-            (λ r. Ends self.now (call_of client.old batch.now r) (record_of client.old) (record_of client.new)) }
+            (λ r. TakesEffect self.now (call_of client.old batch.now r) (record_of client.old) (record_of client.new)) }
         ensures err { IfErr result
             (λ e. AfterTryApply self.now batch.now e (record_of client.old) (record_of client.new)) }
     {
         let mark = client.mark();
         let table = &self.table.shared;
         match take_all(table, self.alloc, &mut client.seat, mark, batch) {
-            Ok(mut found) => match go_through(
+            Ok(mut previous) => match execute_held(
                 table,
                 self.alloc,
                 &mut client.seat,
                 batch,
-                &mut found,
+                &mut previous,
             ) {
                 Ok(replies) => Ok(replies),
                 Err(Memory) => Err(TryError::Memory),
@@ -50,8 +57,15 @@ impl SharedMap {
         }
     }
 
-    /// As `try_apply`, waiting at each part that is held. It never gives back a part to wait for another. Refused with
-    /// `Memory` alone. May wait without a bound. Costs what `try_apply` does, besides the waiting.
+    /// Executes a batch like `try_apply`, but waits for each part that is held. A part that was taken is never given
+    /// back in order to wait for another. The waiting time is unbounded.
+    ///
+    /// # Errors
+    /// Fails with `Memory` if an allocation fails. The map is then unchanged, and the client holds no part; a query may
+    /// have taken effect without returning its replies.
+    ///
+    /// # Complexity
+    /// As `try_apply`, in addition to the waiting time: one compare-exchange for each try.
     pub fn apply<R: Wait>(
         &self,
         rt: &R,
@@ -62,28 +76,34 @@ impl SharedMap {
         ensures map { IsClientOf self.now client.new }
         ensures number { number_of client.new ≡ number_of client.old }
         ensures ok { IfOk result
-            (λ r. EndsWaiting self.now (call_of client.old batch.now r) (record_of client.old) (record_of client.new)) }
+            (λ r. TakesEffectAfterWaiting self.now (call_of client.old batch.now r)
+            (record_of client.old) (record_of client.new)) }
         ensures err { OnErr result
-            (LacksMemoryWaiting self.now batch.now (record_of client.old) (record_of client.new)) }
+            (FailsOutOfMemoryWaiting self.now batch.now (record_of client.old) (record_of client.new)) }
     {
         let mark = client.mark();
         let table = &self.table.shared;
-        let mut found = wait_all(rt, table, self.alloc, &mut client.seat, mark, batch);
-        go_through(table, self.alloc, &mut client.seat, batch, &mut found)
+        let mut previous = wait_for_all(rt, table, self.alloc, &mut client.seat, mark, batch);
+        execute_held(table, self.alloc, &mut client.seat, batch, &mut previous)
     }
 
-    /// What a query sees: as `try_apply`, but its replies are made when they are asked for.
+    /// Executes a query like `try_apply`, but returns a snapshot from which its replies can be computed later. Does not
+    /// wait.
     ///
-    /// Waits for nobody. A batch that may change the map is refused, and nothing is then done. Refused also where a
-    /// part is held by another client, and where memory runs out; the client's calls are then as they were. The batch
-    /// is copied; besides, a step for each part.
+    /// # Errors
+    /// Fails with `NotQuery` if the batch has an update, with `Busy` if another client holds a part of the footprint,
+    /// and with `Memory` if an allocation fails. The query then has no effect.
+    ///
+    /// # Complexity
+    /// One copy of the batch, and one compare-exchange for each part of the footprint.
     pub fn look(&self, client: &mut Client, batch: &Batch) -> Result<Snapshot, LookError>
         requires map { IsClientOf self.now client.old }
         ensures map { IsClientOf self.now client.new }
         ensures number { number_of client.new ≡ number_of client.old }
         ensures query { OnOk result (list_any is_update batch.now ≡ false) }
         ensures ok { IfOk result
-            (λ seen. Ends self.now (call_of client.old batch.now seen) (record_of client.old) (record_of client.new)) }
+            (λ seen. TakesEffect self.now (call_of client.old batch.now seen)
+            (record_of client.old) (record_of client.new)) }
         ensures err { IfErr result
             (λ e. AfterLook self.now batch.now e (record_of client.old) (record_of client.new)) }
     {
@@ -95,30 +115,34 @@ impl SharedMap {
         };
         let mark = client.mark();
         let table = &self.table.shared;
-        let mut found = match take_all(table, self.alloc, &mut client.seat, mark, &batch) {
-            Ok(found) => found,
+        let mut previous = match take_all(table, self.alloc, &mut client.seat, mark, &batch) {
+            Ok(previous) => previous,
             Err(busy) => return Err(LookError::Busy(busy)),
         };
         let mut copies = no_slots();
-        match observe(table, &mut client.seat, &batch, &mut found, &mut copies) {
+        match observe(table, &mut client.seat, &batch, &mut previous, &mut copies) {
             Ok(()) => Ok(Snapshot {
                 batch,
-                found: copies,
+                previous: copies,
             }),
             Err(_) => Err(LookError::Memory),
         }
     }
 
-    /// Takes all parts of the batch. Refused where one is held by another client, with the client, the batch and `Busy`
-    /// as in `try_apply`; nothing is held then. Waits for nobody, takes no memory. A step for each part.
+    /// Takes all parts in the footprint of a batch without waiting, so that `finish`, `let_go` or `snapshot` can be
+    /// called later. Linear in the number of parts; allocates nothing.
+    ///
+    /// # Errors
+    /// Fails with the client, the batch and `Busy` if another client holds a part of the footprint. The client then
+    /// holds no part.
     pub fn hold(&self, client: Client, batch: Batch) -> Result<Holding, (Client, Batch, Busy)>
         requires map { IsClientOf self.now client }
         ensures held { IfOk result (λ h. IsHoldingOf self.now h) }
         ensures same { IfOk result (λ h. (held_batch h ≡ batch) × (number_of (holder_of h) ≡ number_of client)) }
-        ensures ok { IfOk result (λ h. Undone batch (record_of client) (record_of (holder_of h))) }
+        ensures ok { IfOk result (λ h. HasNoEffect batch (record_of client) (record_of (holder_of h))) }
         ensures map { IfErr result (λ e. IsClientOf self.now e.0) }
         ensures back { IfErr result (λ e. (e.1 ≡ batch) × (number_of e.0 ≡ number_of client)) }
-        ensures busy { IfErr result (λ e. Refuses self.now batch e.2 (record_of client) (record_of e.0)) }
+        ensures busy { IfErr result (λ e. MissesPart self.now batch e.2 (record_of client) (record_of e.0)) }
     {
         let mut client = client;
         let mark = client.mark();
@@ -129,44 +153,51 @@ impl SharedMap {
             mark,
             &batch,
         ) {
-            Ok(found) => Ok(Holding {
+            Ok(previous) => Ok(Holding {
                 client,
                 batch,
-                found,
+                previous,
             }),
             Err(busy) => Err((client, batch, busy)),
         }
     }
 
-    /// Does the batch, and gives all parts back. Refused where memory runs out. A step for each part, besides the
-    /// batch's own work.
+    /// Executes the batch of a holding, and gives all parts back.
+    ///
+    /// # Errors
+    /// Fails with `Memory` if an allocation fails. The parts are then given back unchanged; a query may have taken
+    /// effect without returning its replies.
+    ///
+    /// # Complexity
+    /// Linear in the number of parts, in addition to the work of the batch.
     pub fn finish(&self, holding: Holding) -> (Client, Result<Replies, Memory>)
         requires map { IsHoldingOf self.now holding }
         ensures map { IsClientOf self.now result.0 }
         ensures number { number_of result.0 ≡ number_of (holder_of holding) }
         ensures done { MatchResult result.1
-            (λ r. Ends self.now (call_of (holder_of holding) (held_batch holding) r)
+            (λ r. TakesEffect self.now (call_of (holder_of holding) (held_batch holding) r)
             (record_of (holder_of holding)) (record_of result.0))
-            (λ _. LacksMemoryHolding self.now (held_batch holding)
+            (λ _. FailsOutOfMemoryHolding self.now (held_batch holding)
             (record_of (holder_of holding)) (record_of result.0)) }
         ensures marks { (record_of result.0).marks ≡ (record_of (holder_of holding)).marks }
     {
         let Holding {
             mut client,
             batch,
-            mut found,
+            mut previous,
         } = holding;
-        let done = go_through(
+        let done = execute_held(
             &self.table.shared,
             self.alloc,
             &mut client.seat,
             &batch,
-            &mut found,
+            &mut previous,
         );
         (client, done)
     }
 
-    /// Gives all parts back unchanged. Takes no memory. A step for each part.
+    /// Releases a holding: gives all parts back unchanged, without executing the batch. Linear in the number of parts;
+    /// allocates nothing.
     pub fn let_go(&self, holding: Holding) -> Client
         requires map { IsHoldingOf self.now holding }
         ensures map { IsClientOf self.now result }
@@ -176,23 +207,25 @@ impl SharedMap {
         let Holding {
             mut client,
             batch: _,
-            mut found,
+            mut previous,
         } = holding;
-        give_all(&self.table.shared, &mut client.seat, &mut found);
+        give_all(&self.table.shared, &mut client.seat, &mut previous);
         client
     }
 
-    /// Gives all parts of a query back, with what it saw.
+    /// Executes the query of a holding: gives all parts back, and returns a snapshot from which the replies can be
+    /// computed later. Linear in the number of parts.
     ///
-    /// A batch that may change the map is refused, with its holding. Refused with `Memory` where a pointer could not be
-    /// copied; all parts were given back then. A step for each part.
+    /// # Errors
+    /// Fails with `NotQuery` and the unchanged holding if the batch has an update. Fails with `Memory` and the client
+    /// if a pointer cannot be copied; all parts are then given back.
     pub fn snapshot(&self, holding: Holding) -> Result<(Client, Snapshot), SnapshotError>
         requires map { IsHoldingOf self.now holding }
         ensures map { IfOk result (λ r. IsClientOf self.now r.0) }
         ensures number { IfOk result (λ r. number_of r.0 ≡ number_of (holder_of holding)) }
         ensures query { IfOk result (λ _. list_any is_update (held_batch holding) ≡ false) }
         ensures ok { IfOk result
-            (λ r. Ends self.now (call_of (holder_of holding) (held_batch holding) r.1)
+            (λ r. TakesEffect self.now (call_of (holder_of holding) (held_batch holding) r.1)
             (record_of (holder_of holding)) (record_of r.0)) }
         ensures marks { IfOk result (λ r. (record_of r.0).marks ≡ (record_of (holder_of holding)).marks) }
         ensures err { IfErr result (λ e. AfterSnapshot self.now holding e) }
@@ -203,21 +236,21 @@ impl SharedMap {
         let Holding {
             mut client,
             batch,
-            mut found,
+            mut previous,
         } = holding;
         let mut copies = no_slots();
         match observe(
             &self.table.shared,
             &mut client.seat,
             &batch,
-            &mut found,
+            &mut previous,
             &mut copies,
         ) {
             Ok(()) => Ok((
                 client,
                 Snapshot {
                     batch,
-                    found: copies,
+                    previous: copies,
                 },
             )),
             Err(_) => Err(SnapshotError::Memory(client)),

@@ -1,30 +1,30 @@
-//! How a map is made, with its clients.
+//! Creating a map and its clients.
 ghost use Rattle.std.specs.Prelude.{◌≡◌, ◌⊎◌, ◌<◌, ◌↔◌, [], All, IfOk, IsErrOf};
 ghost use Rattle.moc_shared.specs.Clients.{start_of, clients_of, IsClientOf, AreNewClients};
-ghost use Rattle.moc_shared.specs.Private.Opening.{first_view};
-ghost use Rattle.moc_shared.specs.Seats.{table_place};
-ghost use Rattle.moc_shared.specs.Private.Starts.{StandFor};
+ghost use Rattle.moc_shared.specs.Private.InitialViews.{first_view};
+ghost use Rattle.moc_shared.specs.Seats.{table_index};
+ghost use Rattle.moc_shared.specs.Private.InitialSlots.{ArePartsOf};
 
 use crate::client::Client;
 use crate::errors::NewError;
 use crate::map::SharedMap;
-use crate::table::layout::{PLACES, part_at};
-use crate::table::locks::{About, Pointer, Token};
+use crate::table::layout::{TABLE_SIZE, part_at};
+use crate::table::locks::{MapParameters, Pointer, SeatToken};
 use crate::table::seats::split;
 use crate::table::slots::share;
 use atomic_table::Table;
 use moc_ranges::{Coverage, Memory};
 use std::alloc::Global;
 
-/// The most clients of a map.
-pub const MOST_CLIENTS: u8 = 64;
+/// The maximum number of clients of a map.
+pub const MAX_CLIENTS: u8 = 64;
 
-/// The slots of a map that begins with a set: those of parts have its parts, the others are empty.
-fn fill(alloc: Global, start: &Coverage) -> Result<Vec<Option<Pointer>>, Memory>
-    ensures { IfOk result (λ v. StandFor start.now v.items (table_place 12)) }
+/// Creates the slots of a map: those of parts have the parts of the set, and all others are empty.
+fn create_slots(alloc: Global, start: &Coverage) -> Result<Vec<Option<Pointer>>, Memory>
+    ensures { IfOk result (λ v. ArePartsOf start.now v.items (table_index 12)) }
 {
     let mut slots = Vec::new(alloc);
-    for k in 0..PLACES {
+    for k in 0..TABLE_SIZE {
         let slot = match part_at(k) {
             Some(part) => Some(share(alloc, start.part(alloc, part.get())?)?),
             None => None,
@@ -34,8 +34,8 @@ fn fill(alloc: Global, start: &Coverage) -> Result<Vec<Option<Pointer>>, Memory>
     Ok(slots)
 }
 
-/// A seat for each client, cut from the first.
-fn deal(map: &SharedMap, first: Token, clients: u8) -> Result<Vec<Client>, Memory>
+/// Splits the first seat into a seat for each client.
+fn split_seats(map: &SharedMap, first: SeatToken, clients: u8) -> Result<Vec<Client>, Memory>
     requires place { first.table_id ≡ map.now.table.shared.table_id }
     requires first { (first.me.0 ≡ first_view (start_of map.now) clients) × (first.me.1 ≡ []) }
     requires count { clients ≡ clients_of map.now }
@@ -54,9 +54,10 @@ fn deal(map: &SharedMap, first: Token, clients: u8) -> Result<Vec<Client>, Memor
 }
 
 impl SharedMap {
-    /// A map that begins with a set, and its clients, numbered from 0.
+    /// Creates a map with a set, and its clients, numbered from 0. O(n) for n ranges.
     ///
-    /// Refused with `BadCount` where there is no client or more than 64, and where memory runs out. O(n) for n ranges.
+    /// # Errors
+    /// Fails with `BadCount` if the number of clients is 0 or above 64, and with `Memory` if an allocation fails.
     pub fn new(
         alloc: Global,
         start: Coverage,
@@ -67,21 +68,21 @@ impl SharedMap {
         ensures of_map { IfOk result (λ r. All (λ c. IsClientOf r.0 c) r.1.items) }
         ensures bad_count { IsErrOf result NewError.BadCount ↔ ((clients ≡ 0) ⊎ (64 < clients)) }
     {
-        if clients == 0 || clients > MOST_CLIENTS {
+        if clients == 0 || clients > MAX_CLIENTS {
             return Err(NewError::BadCount);
         }
-        // A coverage lies in the sky, as `is_empty` tells.
+        // The contract of `is_empty` states that a coverage is within the sky.
         start.is_empty();
-        let slots = fill(alloc, &start)?;
-        let about = About {
+        let slots = create_slots(alloc, &start)?;
+        let parameters = MapParameters {
             start,
             clients: u64::from(clients),
         };
-        let made = Table::new(alloc, &[0; PLACES], slots, &about);
+        let made = Table::new(alloc, &[0; TABLE_SIZE], slots, &parameters);
         match made {
             Ok((table, seat)) => {
                 let map = SharedMap { table, alloc };
-                let all = deal(&map, seat, clients)?;
+                let all = split_seats(&map, seat, clients)?;
                 Ok((map, all))
             }
             Err(_) => Err(NewError::Memory),

@@ -1,23 +1,23 @@
-//! What clients of a map tell one another, and the end of a map.
+//! Meetings of clients, which order their calls, and the end of a map.
 ghost use Rattle.std.specs.Prelude.{◌≡◌};
-ghost use Rattle.moc_shared.specs.Clients.{number_of, record_of, IsClientOf, SeeTheSame, TakesIn, AfterClose};
+ghost use Rattle.moc_shared.specs.Clients.{number_of, record_of, IsClientOf, SeeSameHistory, TakesIn, AfterClose};
 
 use crate::client::Client;
 use crate::errors::CloseError;
 use crate::map::SharedMap;
-use crate::map::closed::{first_held, read_all, union_all};
-use crate::table::seats::{gather, join, look, split};
+use crate::map::contents::{first_held, read_all, union_all};
+use crate::table::seats::{join, look, merge_records, split};
 use moc_ranges::Coverage;
 
 impl SharedMap {
-    /// Afterwards both have seen one history, so that the calls of either stand before what both do next. A fixed
-    /// number of steps. Takes no memory.
+    /// Lets two clients synchronize. Afterwards both have seen the same history, so that all earlier calls of either
+    /// come before all later calls of both. Takes a constant number of steps; allocates nothing.
     pub fn meet(&self, a: &mut Client, b: &mut Client)
         requires first { IsClientOf self.now a.old }
         requires second { IsClientOf self.now b.old }
         ensures first { IsClientOf self.now a.new × (number_of a.new ≡ number_of a.old) }
         ensures second { IsClientOf self.now b.new × (number_of b.new ≡ number_of b.old) }
-        ensures met { SeeTheSame self.now (record_of a.old) (record_of a.new) (record_of b.old) (record_of b.new) }
+        ensures met { SeeSameHistory self.now (record_of a.old) (record_of a.new) (record_of b.old) (record_of b.new) }
     {
         let table = &self.table.shared;
         let idle = split(table, &mut b.seat);
@@ -27,8 +27,8 @@ impl SharedMap {
         a.seat = split(table, &mut b.seat);
     }
 
-    /// Afterwards the first has the record of both, so that the calls of either stand before what it does next. A fixed
-    /// number of steps. Takes no memory.
+    /// Merges the second client into the first. Afterwards the first has the record of both, so that all earlier calls
+    /// of either come before its later calls. Takes a constant number of steps; allocates nothing.
     pub fn take_in(&self, a: &mut Client, b: Client)
         requires first { IsClientOf self.now a.old }
         requires second { IsClientOf self.now b }
@@ -37,13 +37,15 @@ impl SharedMap {
     {
         let Client { number: _, seat } = b;
         join(&self.table.shared, &mut a.seat, seat);
-        gather(&self.table.shared, &mut a.seat);
+        merge_records(&self.table.shared, &mut a.seat);
     }
 
-    /// The map's set after a history that the client's record fits.
+    /// Closes the map and returns its set after a history that is consistent with the client's record. Computes one
+    /// union for each part.
     ///
-    /// Refused where a part is held, and where memory runs out; the map is then given up. `Midway` names the first part
-    /// that is held. A union for each part.
+    /// # Errors
+    /// Fails with `Midway` and the first held part if a part is still held, and with `Memory` if an allocation fails.
+    /// The map is dropped in any case.
     pub fn close(self, client: Client) -> Result<Coverage, CloseError>
         requires { IsClientOf self client }
         ensures { AfterClose self (record_of client) result }

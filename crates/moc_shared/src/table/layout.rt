@@ -1,31 +1,31 @@
-//! Where the word and the slot of a part stand in the table.
+//! The positions of the lock words and slots of parts in the table.
 ghost use Rattle.std.specs.Prelude.{◌≡◌, ◌≢◌, ◌<◌, ℕ, IfSome, IfNone};
-ghost use Rattle.moc_shared.specs.Seats.{table_place};
+ghost use Rattle.moc_shared.specs.Seats.{table_index};
 
 use moc_parts::Part;
 
-/// From one part to the next: eight words, 64 bytes, so that no line of a processor's cache has two parts in it.
-const APART: usize = 8;
+/// The distance between two parts: eight words, that is 64 bytes, so that no two parts share a cache line of 64 bytes.
+const STRIDE: usize = 8;
 
-/// How many places there are.
-pub(crate) const PLACES: usize = 12 * APART;
+/// The number of words and of slots.
+pub(crate) const TABLE_SIZE: usize = 12 * STRIDE;
 
-/// Where the word and the slot of a part stand.
+/// Returns the index of the lock word and of the slot of a part.
 pub(crate) fn index(part: Part) -> usize
-    ensures place { result ≡ table_place part }
+    ensures place { result ≡ table_index part }
     ensures in_range { part < 12 }
 {
-    APART * part.index()
+    STRIDE * part.index()
 }
 
-/// The part whose word and slot stand at a place, if there is one.
+/// Returns the part whose lock word and slot are at an index, if any.
 pub(crate) fn part_at(k: usize) -> Option<Part>
-    requires { k < table_place 12 }
-    ensures some { IfSome result (λ b. table_place b ≡ k) }
-    ensures none { IfNone result ((b : ℕ) → table_place b ≢ k) }
+    requires { k < table_index 12 }
+    ensures some { IfSome result (λ b. table_index b ≡ k) }
+    ensures none { IfNone result ((b : ℕ) → table_index b ≢ k) }
 {
-    if k % APART == 0 {
-        Some(Part::of((k / APART) as u8))
+    if k % STRIDE == 0 {
+        Some(Part::of((k / STRIDE) as u8))
     } else {
         None
     }

@@ -1,4 +1,4 @@
-//! The table of locks, its rule, and what each step tells.
+//! The table of locks, its invariant, and the effect of each atomic step.
 use crate::record::{Call, Note, View};
 use atomic_table::{Join, Play, Seat, Shared, Split, TableRule};
 use moc_parts::{Batch, Replies};
@@ -7,62 +7,63 @@ use std::alloc::Global;
 use std::marker::{Brand, PhantomData};
 use std::sync::Arc;
 
-/// What a map is told once, when it is made.
+/// The parameters of a map, set once at its creation.
 #[derive(Drop)]
-pub struct About {
-    /// The set that it begins with.
+pub struct MapParameters {
+    /// The set with which the map is created.
     pub start: Coverage,
-    /// How many clients it has.
+    /// The number of its clients.
     pub clients: u64,
 }
 
-/// What a part's slot holds: the part's set. `None` takes its place while a client has it in its hands.
+/// The content of a part's slot: a shared pointer to the set of the part. The slot is `None` while a client holds the
+/// part.
 pub type Pointer = Arc<Coverage, Global>;
 
-/// What a client's seat knows.
-pub type Sight = View<Coverage, Batch, Replies, Option<Coverage>>;
+/// The view of a client's seat: the facts that the client knows.
+pub type ClientView = View<Coverage, Batch, Replies, Option<Coverage>>;
 
-/// A client's seat.
-pub type Token = Seat<Option<Pointer>, Sight>;
+/// The seat of a client in the table.
+pub type SeatToken = Seat<Option<Pointer>, ClientView>;
 
-/// The words and slots of the twelve parts, as threads see them.
-pub type Words = Shared<Option<Pointer>, Sight, About, Locks>;
+/// The lock words and slots of the twelve parts, shared between threads.
+pub type LockTable = Shared<Option<Pointer>, ClientView, MapParameters, LockRule>;
 
-/// The rule of the table.
-pub struct Locks;
+/// The invariant of the table.
+pub struct LockRule;
 
-impl TableRule<Option<Pointer>, Sight, About> for Locks {
+impl TableRule<Option<Pointer>, ClientView, MapParameters> for LockRule {
     ghost use Rattle.moc_shared.specs.Batches.{batch_answer};
-    ghost use Rattle.moc_shared.specs.Private.Seats.{content, part, IsProper};
-    ghost use Rattle.moc_shared.specs.Private.Rule.{Kept};
-    ghost use Rattle.moc_shared.specs.Private.Opening.{first_view};
+    ghost use Rattle.moc_shared.specs.Private.Seats.{content, part, IsInSky};
+    ghost use Rattle.moc_shared.specs.Private.Invariant.{TableInvariant};
+    ghost use Rattle.moc_shared.specs.Private.InitialViews.{first_view};
 
-    ghost holds = { λ about s. Kept 12 content part batch_answer IsProper about.start about.clients s };
+    ghost holds = { λ p s. TableInvariant 12 content part batch_answer IsInSky p.start p.clients s };
 
-    ghost first = { λ about. first_view about.start about.clients };
+    ghost first = { λ parameters. first_view parameters.start parameters.clients };
 }
 
-/// Sets the client's mark.
+/// A step that takes a part: sets the client's mark in its lock word.
 pub(crate) struct Take;
 
-impl Play<Option<Pointer>, Sight> for Take {
+impl Play<Option<Pointer>, ClientView> for Take {
     ghost use Rattle.moc_shared.specs.Private.Seats.{content, part};
-    ghost use Rattle.moc_shared.specs.Private.Plays.{Took};
+    ghost use Rattle.moc_shared.specs.Private.StepEffects.{TakesPart};
 
-    ghost then = { Took content part };
+    ghost then = { TakesPart content part };
 }
 
-/// Gives a part back.
+/// A step that gives a part back.
 pub(crate) struct Give;
 
-impl Play<Option<Pointer>, Sight> for Give {
-    ghost use Rattle.moc_shared.specs.Private.Plays.{Gave};
+impl Play<Option<Pointer>, ClientView> for Give {
+    ghost use Rattle.moc_shared.specs.Private.StepEffects.{GivesPart};
 
-    ghost then = { Gave };
+    ghost then = { GivesPart };
 }
 
-/// The call that a first give-back ends, and what is noted of the parts that are still held.
-pub trait Closing {
+/// The call that takes effect with the first part given back, and the notes of the parts that are still held.
+pub trait EndingCall {
     ghost use Rattle.std.specs.Prelude.{List};
     ghost use Rattle.moc_shared.specs.Batches.{BatchCall};
     ghost use Rattle.moc_shared.specs.Private.Seats.{PartNote};
@@ -72,68 +73,68 @@ pub trait Closing {
     ghost notes: { List PartNote };
 }
 
-impl Closing for Brand {
+impl EndingCall for Brand {
     ghost use Rattle.std.specs.Prelude.{[]};
-    ghost use Rattle.moc_shared.specs.Private.Slots.{no_call};
+    ghost use Rattle.moc_shared.specs.Private.Slots.{placeholder_call};
 
-    ghost call = { no_call };
+    ghost call = { placeholder_call };
 
     ghost notes = { [] };
 }
 
-/// Gives the first part back, with which a call goes through.
+/// A step that gives the first part back, with which a call takes effect.
 pub(crate) struct End<C> {
     of: PhantomData<C>,
 }
 
-impl<C: Closing> Play<Option<Pointer>, Sight> for End<C> {
+impl<C: EndingCall> Play<Option<Pointer>, ClientView> for End<C> {
     ghost use Rattle.moc_shared.specs.Batches.{batch_answer};
-    ghost use Rattle.moc_shared.specs.Private.Plays.{Ended};
+    ghost use Rattle.moc_shared.specs.Private.StepEffects.{EndsWithCall};
 
-    ghost then = { Ended batch_answer C.call C.notes };
+    ghost then = { EndsWithCall batch_answer C.call C.notes };
 }
 
-/// Looks at the whole history.
-pub(crate) struct Look;
+/// A step that reads the whole history.
+pub(crate) struct ReadHistory;
 
-impl Play<Option<Pointer>, Sight> for Look {
+impl Play<Option<Pointer>, ClientView> for ReadHistory {
     ghost use Rattle.moc_shared.specs.Batches.{batch_answer};
-    ghost use Rattle.moc_shared.specs.Private.Plays.{Looked};
+    ghost use Rattle.moc_shared.specs.Private.StepEffects.{ReadsHistory};
 
-    ghost then = { Looked batch_answer };
+    ghost then = { ReadsHistory batch_answer };
 }
 
-/// Makes one record of two.
-pub(crate) struct Gather;
+/// A step that merges two records.
+pub(crate) struct MergeRecords;
 
-impl Play<Option<Pointer>, Sight> for Gather {
+impl Play<Option<Pointer>, ClientView> for MergeRecords {
     ghost use Rattle.moc_shared.specs.Batches.{batch_answer};
-    ghost use Rattle.moc_shared.specs.Private.Plays.{Gathered};
+    ghost use Rattle.moc_shared.specs.Private.StepEffects.{MergesRecords};
 
-    ghost then = { Gathered batch_answer };
+    ghost then = { MergesRecords batch_answer };
 }
 
-/// Cuts off all records but the first.
-pub(crate) struct Cut;
+/// A split of a seat after its first record.
+pub(crate) struct SplitSeat;
 
-impl Split<Sight> for Cut {
-    ghost use Rattle.moc_shared.specs.Private.Plays.{first_alone};
-    ghost use Rattle.moc_shared.specs.Private.Opening.{rest_view};
+impl Split<ClientView> for SplitSeat {
+    ghost use Rattle.moc_shared.specs.Private.StepEffects.{first_record};
+    ghost use Rattle.moc_shared.specs.Private.InitialViews.{rest_view};
 
-    ghost left = { first_alone };
+    ghost left = { first_record };
 
     ghost right = { rest_view };
 }
 
-/// Puts the records of two views into one.
-pub(crate) struct Glue;
+/// A join of two seats: puts the records of both into one view.
+pub(crate) struct JoinSeats;
 
-impl Join<Sight> for Glue {
+impl Join<ClientView> for JoinSeats {
     ghost use Rattle.std.specs.FinSet as set;
-    ghost use Rattle.moc_shared.specs.Private.Plays.{both_views};
-    ghost use Rattle.moc_shared.specs.Private.Opening.{idle_view};
+    ghost use Rattle.moc_shared.specs.Private.StepEffects.{joined_views};
+    ghost use Rattle.moc_shared.specs.Private.InitialViews.{idle_view};
 
-    ghost both = { both_views };
+    ghost both = { joined_views };
 
     ghost spent = { idle_view set.empty 0 };
 }

@@ -1,106 +1,108 @@
-//! The steps on a part's word, each over plain data.
+//! The atomic steps on the lock word and the slot of a part. `atomic_table` makes every access to a word sequentially
+//! consistent (`SeqCst`). A slot is accessed only by the client that holds the part.
 ghost use Rattle.std.specs.Prelude.{◌≡◌, suc, ◌<◌, ◌≤◌, List, [], ◌∷◌, Contains, IfOk, IfErr, Option, Some};
 ghost use Rattle.moc_lists.specs.RangeList.{NumberSet};
 ghost use Rattle.moc_shared.specs.History.{call_by, StandsFor};
-ghost use Rattle.moc_shared.specs.Seats.{table_place, note};
-ghost use Rattle.moc_shared.specs.Private.Rule.{noted_parts, IsOne};
-ghost use Rattle.moc_shared.specs.Private.Seats.{IsCarried, content, shared, IsProper, IsOwn, IsOfTable};
+ghost use Rattle.moc_shared.specs.Seats.{table_index, note};
+ghost use Rattle.moc_shared.specs.Private.Invariant.{parts_of_notes, IsSingleClient};
+ghost use Rattle.moc_shared.specs.Private.Seats.{IsCarried, content, shared, IsInSky, IsWithinPart, IsOfTable};
 ghost use Rattle.moc_shared.specs.Private.Seats.{PartNote, notes_below};
 ghost use Rattle.moc_shared.specs.Private.Seats as seats;
-ghost use Rattle.moc_shared.specs.Private.Answering.{AnswersRightly};
-ghost use Rattle.moc_shared.specs.Private.Plays.{TookPart, with_part, with_miss, with_holds, behind_first};
-ghost use Rattle.moc_shared.specs.Private.Slots.{EndsBatch, replies_to};
+ghost use Rattle.moc_shared.specs.Private.OperationEffects.{HasEffect};
+ghost use Rattle.moc_shared.specs.Private.StepEffects.{TakesOrMisses, with_part, with_miss, with_holds, tail};
+ghost use Rattle.moc_shared.specs.Private.Slots.{BatchTakesEffect, replies_to};
 ghost use Rattle.moc_shared.specs.Batches.{batch_answer};
 
 use crate::table::layout::index;
-use crate::table::locks::{Closing, End, Give, Pointer, Take, Token, Words};
+use crate::table::locks::{End, EndingCall, Give, LockTable, Pointer, SeatToken, Take};
 use crate::table::slots::Slots;
 use moc_parts::{Batch, Command, Part, Reply};
 
-/// Sets the client's mark on a part that is free, and holds it; or finds the holder's mark.
-fn take_part(table: &Words, seat: &mut Token, part: Part, mark: u64) -> u64
+/// Tries to set the client's mark in the lock word of a part. Returns 0 if the part was free and is now held, and the
+/// mark of its holder otherwise.
+fn take_part(table: &LockTable, seat: &mut SeatToken, part: Part, mark: u64) -> u64
     requires place { IsOfTable seat.old.table_id table.now.table_id }
-    requires client { IsOne seat.old.me.0 × (mark ≡ suc seat.old.me.0.mine.number) }
+    requires client { IsSingleClient seat.old.me.0 × (mark ≡ suc seat.old.me.0.mine.number) }
     requires other { (y : Option NumberSet) → ¬ Contains seat.old.me.0.holds (note part y) }
     ensures same { (seat.new.table_id ≡ seat.old.table_id) × (seat.new.id ≡ seat.old.id) }
-    ensures took { TookPart content seats.part part seat.old.me result seat.new.me }
+    ensures taken_or_missed { TakesOrMisses content seats.part part seat.old.me result seat.new.me }
 {
     table.compare_exchange::<Take>(seat, index(part), 0, mark)
 }
 
-/// Takes the part with what is in it, or tells whose mark it found.
+/// Takes a part with its content, or fails with the number of its holder.
 pub(crate) fn take_slot(
-    table: &Words,
-    seat: &mut Token,
+    table: &LockTable,
+    seat: &mut SeatToken,
     part: Part,
     mark: u64,
 ) -> Result<Pointer, u8>
     requires place { IsOfTable seat.old.table_id table.now.table_id }
-    requires client { IsOne seat.old.me.0 × (mark ≡ suc seat.old.me.0.mine.number) }
-    requires few { seat.old.me.0.clients ≤ 64 }
+    requires client { IsSingleClient seat.old.me.0 × (mark ≡ suc seat.old.me.0.mine.number) }
+    requires bounded { seat.old.me.0.clients ≤ 64 }
     requires carried { IsCarried seat.old.me }
     requires other { (y : Option NumberSet) → ¬ Contains seat.old.me.0.holds (note part y) }
     ensures same { (seat.new.table_id ≡ seat.old.table_id) × (seat.new.id ≡ seat.old.id) }
     ensures carried { IsCarried seat.new.me }
     ensures ok { IfOk result
-        (λ p. (seat.new.me.0 ≡ with_part seat.old.me.0 part (shared p)) × IsOwn part (Some p)) }
+        (λ p. (seat.new.me.0 ≡ with_part seat.old.me.0 part (shared p)) × IsWithinPart part (Some p)) }
     ensures err { IfErr result
         (λ h. (seat.new.me.0 ≡ with_miss seat.old.me.0 h part) × (h < seat.old.me.0.clients)
         × ¬ StandsFor seat.old.me.0.mine h) }
 {
-    let found = take_part(table, seat, part, mark);
-    if found == 0 {
-        // The slot of a part that is free has its pointer.
+    let previous = take_part(table, seat, part, mark);
+    if previous == 0 {
+        // The slot of a free part has a pointer.
         let Some(pointer) = table.exchange(seat, index(part), None) else {
             unreachable!()
         };
         Ok(pointer)
     } else {
-        Err((found - 1) as u8)
+        Err((previous - 1) as u8)
     }
 }
 
-/// Puts the pointer into the part that was taken last, and gives it back.
-pub(crate) fn give_part(table: &Words, seat: &mut Token, part: Part, new: Pointer)
+/// Puts a pointer into the part that was taken last, and gives the part back.
+pub(crate) fn give_part(table: &LockTable, seat: &mut SeatToken, part: Part, new: Pointer)
     requires place { IsOfTable seat.old.table_id table.now.table_id }
-    requires client { IsOne seat.old.me.0 }
+    requires client { IsSingleClient seat.old.me.0 }
     requires carried { IsCarried seat.old.me }
     requires held { (notes : List PartNote) × (seat.old.me.0.holds ≡ note part (shared new) ∷ notes)
         × ((y : Option NumberSet) → ¬ Contains notes (note part y)) }
     ensures same { (seat.new.table_id ≡ seat.old.table_id) × (seat.new.id ≡ seat.old.id) }
     ensures carried { IsCarried seat.new.me }
-    ensures gave { seat.new.me.0 ≡ with_holds seat.old.me.0 (behind_first seat.old.me.0.holds) }
+    ensures given_back { seat.new.me.0 ≡ with_holds seat.old.me.0 (tail seat.old.me.0.holds) }
 {
     let index = index(part);
     drop(table.exchange(seat, index, Some(new)));
     table.store::<Give>(seat, index, 0);
 }
 
-/// Puts the pointer into the part that was taken last, and gives it back. With that the call goes through.
+/// Puts a pointer into the part that was taken last, and gives the part back. With this step, the call takes effect.
 ///
-/// Its replies are those to what was found. What is to be given back next is in `rest`. These and the batch are handed
-/// over for the contract alone, which speaks of them.
-pub(crate) fn end_call<C: Closing>(
-    table: &Words,
-    seat: &mut Token,
+/// The replies are those to the contents that were taken. The pointers in `rest` are given back next. The batch,
+/// `previous` and `rest` are parameters only because the contract refers to them.
+pub(crate) fn end_call<C: EndingCall>(
+    table: &LockTable,
+    seat: &mut SeatToken,
     part: Part,
     new: Pointer,
     batch: &Batch,
-    found: &Slots,
+    previous: &Slots,
     rest: &Slots,
 )
     requires place { IsOfTable seat.old.table_id table.now.table_id }
-    requires client { IsOne seat.old.me.0 }
+    requires client { IsSingleClient seat.old.me.0 }
     requires carried { IsCarried seat.old.me }
-    requires call { (C.call ≡ call_by seat.old.me.0.mine.number batch.now (replies_to found.now batch.now))
+    requires call { (C.call ≡ call_by seat.old.me.0.mine.number batch.now (replies_to previous.now batch.now))
         × (C.notes ≡ notes_below rest.now 12) }
-    requires held { (noted_parts seat.old.me.0.holds ≡ part ∷ noted_parts (notes_below rest.now 12))
-        × ¬ Contains (noted_parts (notes_below rest.now 12)) part }
-    requires answered { AnswersRightly seats.part batch_answer IsProper batch.now (replies_to found.now batch.now)
+    requires held { (parts_of_notes seat.old.me.0.holds ≡ part ∷ parts_of_notes (notes_below rest.now 12))
+        × ¬ Contains (parts_of_notes (notes_below rest.now 12)) part }
+    requires answered { HasEffect seats.part batch_answer IsInSky batch.now (replies_to previous.now batch.now)
         seat.old.me.0.holds (note part (shared new) ∷ notes_below rest.now 12) }
     ensures same { (seat.new.table_id ≡ seat.old.table_id) × (seat.new.id ≡ seat.old.id) }
     ensures carried { IsCarried seat.new.me }
-    ensures ended { EndsBatch batch.now (replies_to found.now batch.now) (notes_below rest.now 12)
+    ensures ended { BatchTakesEffect batch.now (replies_to previous.now batch.now) (notes_below rest.now 12)
         seat.old.me.0 seat.new.me.0 }
 {
     let index = index(part);
@@ -108,27 +110,28 @@ pub(crate) fn end_call<C: Closing>(
     table.store::<End<C>>(seat, index, 0);
 }
 
-/// Puts the pointer into the only part that is held, and gives it back. With that the call of one command goes through.
+/// Puts a pointer into the only held part, and gives the part back. With this step, the call of one command takes
+/// effect.
 ///
-/// The command and its reply are handed over for the contract alone, which speaks of them.
-pub(crate) fn end_single<C: Closing>(
-    table: &Words,
-    seat: &mut Token,
+/// The command and its reply are parameters only because the contract refers to them.
+pub(crate) fn end_single<C: EndingCall>(
+    table: &LockTable,
+    seat: &mut SeatToken,
     part: Part,
     new: Pointer,
     command: &Command,
     reply: &Reply,
 )
     requires place { IsOfTable seat.old.table_id table.now.table_id }
-    requires client { IsOne seat.old.me.0 }
+    requires client { IsSingleClient seat.old.me.0 }
     requires carried { IsCarried seat.old.me }
     requires call { (C.call ≡ call_by seat.old.me.0.mine.number (command.now ∷ []) (reply.now ∷ [])) × (C.notes ≡ []) }
-    requires held { noted_parts seat.old.me.0.holds ≡ part ∷ [] }
-    requires answered { AnswersRightly seats.part batch_answer IsProper (command.now ∷ []) (reply.now ∷ [])
+    requires held { parts_of_notes seat.old.me.0.holds ≡ part ∷ [] }
+    requires answered { HasEffect seats.part batch_answer IsInSky (command.now ∷ []) (reply.now ∷ [])
         seat.old.me.0.holds (note part (shared new) ∷ []) }
     ensures same { (seat.new.table_id ≡ seat.old.table_id) × (seat.new.id ≡ seat.old.id) }
     ensures idle { seat.new.me.1 ≡ [] }
-    ensures ended { EndsBatch (command.now ∷ []) (reply.now ∷ []) [] seat.old.me.0 seat.new.me.0 }
+    ensures ended { BatchTakesEffect (command.now ∷ []) (reply.now ∷ []) [] seat.old.me.0 seat.new.me.0 }
 {
     let index = index(part);
     drop(table.exchange(seat, index, Some(new)));

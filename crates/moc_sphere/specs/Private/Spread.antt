@@ -1,4 +1,4 @@
--- Bits that are spread to digits.
+-- Bits that are spread to digits in base 4.
 use Rattle.std.specs.Prelude.{ℕ, zero, suc, ◌+◌, ◌*◌, ◌/◌, ◌%◌}
 
 -- the number whose base-4 digits are the last k bits of x

@@ -1,4 +1,4 @@
--- How worlds, and the values of private types, are stored.
+-- Encodings of worlds and of the values of private types.
 use Rattle.std.specs.Prelude.{ℕ, Bool, List, Option, refl}
 use Rattle.std.specs.Ordering.{nat_cmp}
 use Rattle.std.specs.FinSet as set
@@ -10,7 +10,7 @@ use Rattle.moc_parts.specs.contracts.reply.Replies as replies
 use Rattle.moc_parts.specs.declared.command.Command.{Command}
 use Rattle.moc_parts.specs.declared.reply.Reply.{Reply}
 use Rattle.moc_steps.specs.Machine.{Running, Locks, Clients, World, Entry}
-use Rattle.moc_steps.specs.Private.Standing.{Standing, Making}
+use Rattle.moc_steps.specs.Private.ClientState.{ClientState, UpdateResult}
 
 -- a set of numbers
 abbrev pub numbers_code : Coded NumberSet
@@ -33,7 +33,7 @@ module _ {Op : Type 0} (op_code : Coded Op) where
       })
       (λ _. refl)
 
-  -- the lock machine
+  -- the locks
   abbrev pub locks_code : Coded (Locks Op)
   locks_code =
       code_by (ℕ × Clients Op) (coded× coded_ℕ (map.code coded_ℕ running_code))
@@ -51,27 +51,29 @@ machine_code {Op} {Reply} op_code reply_code =
     code_by (Locks Op × (List NumberSet × (map.FinMap nat_cmp NumberSet × List (Entry Reply))))
     (coded× (locks_code op_code) (coded× (coded_list numbers_code)
     (coded× (map.code coded_ℕ numbers_code) (coded_list (entry_code reply_code)))))
-    (λ w. (w.locks, (w.parts, (w.found, w.order))))
-    (λ p. record { locks = p.0; parts = p.1.0; found = p.1.1.0; order = p.1.1.1 }) (λ _. refl)
+    (λ w. (w.locks, (w.parts, (w.previous, w.order))))
+    (λ p. record { locks = p.0; parts = p.1.0; previous = p.1.1.0; order = p.1.1.1 }) (λ _. refl)
 
 -- a world of batches
 abbrev pub world_code : Coded (World (List Command) (List Reply))
 world_code = machine_code batch.the_row.coded replies.the_row.coded
 
--- how far a client has come
-abbrev pub standing_code : Coded Standing
-standing_code =
+-- the state of a client
+abbrev pub client_state_code : Coded ClientState
+client_state_code =
     code_by (Running (List Command) × (NumberSet × Option ℕ))
     (coded× (running_code batch.the_row.coded) (coded× numbers_code (coded_option coded_ℕ)))
-    (λ s. (s.running, (s.found, s.place))) (λ p. record { running = p.0; found = p.1.0; place = p.1.1 }) (λ _. refl)
+    (λ s. (s.running, (s.previous, s.entry_index)))
+    (λ p. record { running = p.0; previous = p.1.0; entry_index = p.1.1 }) (λ _. refl)
 
--- what a first Edit makes
-abbrev pub making_code : Coded Making
-making_code =
+-- the result of an operation
+abbrev pub update_result_code : Coded UpdateResult
+update_result_code =
     code_by (ℕ × (List (Option NumberSet) × List Reply))
     (coded× coded_ℕ (coded× (coded_list (coded_option numbers_code)) replies.the_row.coded))
-    (λ m. (m.place, (m.lists, m.replies))) (λ p. record { place = p.0; lists = p.1.0; replies = p.1.1 }) (λ _. refl)
+    (λ m. (m.entry_index, (m.lists, m.replies)))
+    (λ p. record { entry_index = p.0; lists = p.1.0; replies = p.1.1 }) (λ _. refl)
 
 -- a table of clients
-abbrev pub table_code : Coded (map.FinMap nat_cmp Standing)
-table_code = map.code coded_ℕ standing_code
+abbrev pub table_code : Coded (map.FinMap nat_cmp ClientState)
+table_code = map.code coded_ℕ client_state_code

@@ -1,5 +1,5 @@
--- Laws of depths, for the proofs of callers: a set that is made of whole cells of an order has no deeper cell. Such a
--- set is what a text says, by the deepest order that it names, and what is made of such sets.
+-- Lemmas about depths, for the proofs of callers: a union of whole cells of an order has no deeper cell. The set that a
+-- text represents is such a union for the deepest order that the text names, and so are the results of set operations.
 use Rattle.std.proofs.Common.{◌≡◌, ℕ, zero, suc, ◌+◌, ◌-◌, ◌*◌, ◌/◌, ◌<◌, ◌≤◌, Bool, true, false, cond, not, ◌&&◌, ◌||◌}
 use Rattle.std.proofs.Common.{List, [], ◌∷◌, Option, None, Some, refl, sym, ap, ap₂, subst, ◌∙◌, inl, inr, arith}
 use Rattle.std.specs.Prelude.{nat_eq, nat_le, nat_lt, ⊤, slice_index_or, length, min, option_map, ◌^◌}
@@ -23,24 +23,24 @@ use Rattle.moc_ranges.specs.Lemmas.Cells.{cells_are, parent_of_pixel, in_cell_ra
 use Rattle.moc_text.specs.declared.ascii.number.Item.{Item}
 use Rattle.moc_text.specs.declared.ascii.number.Numeral.{Numeral}
 use Rattle.moc_text.specs.declared.ascii.number.WordNumbers.{WordNumbers}
-use Rattle.moc_text.specs.Ascii.{order_in_force, item_pixels, pixels_said, deepest_of, deeper, last_cell, Says}
+use Rattle.moc_text.specs.Ascii.{current_order, item_pixels, pixels_of_words, deepest_of, deeper, last_cell, Represents}
 use Rattle.moc_text.specs.AsciiText.{IsTooCoarse}
-use Rattle.moc_text.specs.JsonForm.{order_of_name, whole_number, cell_pixels, items_pixels, array_pixels}
-use Rattle.moc_text.specs.JsonForm.{members_pixels, deepest_name, SaysJson}
+use Rattle.moc_text.specs.JsonFormat.{order_of_name, whole_number, cell_pixels, items_pixels, array_pixels}
+use Rattle.moc_text.specs.JsonFormat.{members_pixels, deepest_name, RepresentsJson}
 
--- two pixels of one cell of the order are both in the set, or neither
-pub record IsMadeOf (k : ℕ) (a : NumberSet) : Type 0 where
+-- two pixels in the same cell of the order are both in the set, or neither is
+pub record IsUnionOfCells (k : ℕ) (a : NumberSet) : Type 0 where
   pub each : (p q : ℕ) → p < pixel_count → q < pixel_count → p / cell_size k ≡ q / cell_size k
       → set.contains a p ≡ set.contains a q
 
--- an order that there may be is at most k
+-- an optional order is at most k
 abbrev pub IsAtMost : Option ℕ → ℕ → Type 0
 IsAtMost None k = ⊤
 IsAtMost (Some j) k = j ≤ k
 
--- the set is made of whole cells of each order that is as deep as this one; where there is none, of any order
-abbrev pub HasDepth : NumberSet → Option ℕ → Type 0
-HasDepth a deepest = (k : ℕ) → IsAtMost deepest k → IsMadeOf k a
+-- the set is a union of whole cells of each order at least as deep as this optional order, or of every order without it
+abbrev pub HasMaxOrder : NumberSet → Option ℕ → Type 0
+HasMaxOrder a deepest = (k : ℕ) → IsAtMost deepest k → IsUnionOfCells k a
 
 -- ---- cells and deeper cells
 
@@ -68,15 +68,15 @@ coarser (suc d) j k p q is same =
 coarser_than : (j k p q : ℕ) → k ≤ j → p / cell_size j ≡ q / cell_size j → p / cell_size k ≡ q / cell_size k
 coarser_than j k p q le same = coarser (j - k) j k p q (omega arith) same
 
--- what is made of cells is made of deeper cells
-pub deeper_made : (j k : ℕ) (a : NumberSet) → j ≤ k → IsMadeOf j a → IsMadeOf k a
+-- a union of cells is a union of deeper cells
+pub deeper_made : (j k : ℕ) (a : NumberSet) → j ≤ k → IsUnionOfCells j a → IsUnionOfCells k a
 deeper_made j k a le made = record {
   each = λ p q p_in q_in same. made.each p q p_in q_in (coarser_than k j p q le same);
 }
 
--- ---- a set that is made of cells of an order has no deeper cell
+-- ---- a union of cells of an order has no deeper cell
 
-shallow : (a : NumberSet) (k : ℕ) (c : CellNumber) → IsMadeOf k a → IsCell c → is_cell_of a c ≡ true → c.order ≤ k
+shallow : (a : NumberSet) (k : ℕ) (c : CellNumber) → IsUnionOfCells k a → IsCell c → is_cell_of a c ≡ true → c.order ≤ k
 unfolding is_cell_of
 shallow a k c made is of_a = elim (cases_lt k c.order) [
   | inr le ↦ omega arith
@@ -111,7 +111,7 @@ shallow a k c made is of_a = elim (cases_lt k c.order) [
       | inr not_b ↦ absurd (false≢true (ap (λ c. not c) (sym is) ∙ not_b))
     ]
 
-all_shallow : (a : NumberSet) (k : ℕ) (cells : List CellNumber) → IsMadeOf k a
+all_shallow : (a : NumberSet) (k : ℕ) (cells : List CellNumber) → IsUnionOfCells k a
     → AllByRecursion IsCell (filter (is_cell_of a) cells)
     → AllByRecursion (λ c. c.order ≤ k) (filter (is_cell_of a) cells)
 all_shallow a k [] made are = tt
@@ -128,8 +128,8 @@ all_shallow a k (c ∷ cells) made are =
           (all_shallow a k cells made at)
     ]
 
--- each of the cells of a set that is made of cells of an order is of that order or of a lower one
-cells_shallow : (a : NumberSet) (k : ℕ) → IsMadeOf k a → AllByRecursion (λ c. c.order ≤ k) (cells_of a)
+-- each cell of a union of cells of an order is of that order or of a coarser one
+cells_shallow : (a : NumberSet) (k : ℕ) → IsUnionOfCells k a → AllByRecursion (λ c. c.order ≤ k) (cells_of a)
 unfolding cells_of
 cells_shallow a k made = all_shallow a k (cells_below 30) made (cells_are a)
 
@@ -141,23 +141,23 @@ none_deeper k (d ∷ cells) zero c all lt is deep =
     omega (arith, all.0)
 none_deeper k (d ∷ cells) (suc i) c all lt is deep = none_deeper k cells i c all.1 (omega arith) is deep
 
--- with the depth that it has as its stated order, a set is written
-pub not_too_coarse : (a : NumberSet) (stated : Option ℕ) → HasDepth a stated → IsTooCoarse a stated → ⊥
+-- a set can be written with its depth as the stated order
+pub not_too_coarse : (a : NumberSet) (stated : Option ℕ) → HasMaxOrder a stated → IsTooCoarse a stated → ⊥
 not_too_coarse a None has coarse = coarse
 not_too_coarse a (Some k) has coarse =
     none_deeper k (cells_of a) coarse.0 coarse.1 (cells_shallow a k (has k (omega arith))) coarse.2 coarse.3 coarse.4
 
--- ---- what is made of sets
+-- ---- results of set operations
 
 both_ways : (p q : ℕ) → p < pixel_count → q < pixel_count → nat_lt p pixel_count ≡ nat_lt q pixel_count
 both_ways p q p_in q_in = lt-ltb p pixel_count p_in ∙ sym (lt-ltb q pixel_count q_in)
 
-empty_made : (k : ℕ) → IsMadeOf k set.empty
+empty_made : (k : ℕ) → IsUnionOfCells k set.empty
 empty_made k = record {
   each = λ p q p_in q_in same. set.contains-empty nat_cmp p ∙ sym (set.contains-empty nat_cmp q);
 }
 
-union_made : (k : ℕ) (a b : NumberSet) → IsMadeOf k a → IsMadeOf k b → IsMadeOf k (set.union a b)
+union_made : (k : ℕ) (a b : NumberSet) → IsUnionOfCells k a → IsUnionOfCells k b → IsUnionOfCells k (set.union a b)
 union_made k a b of_a of_b = record {
   each = λ p q p_in q_in same.
       set.contains-union nat_cmp_total a b p
@@ -165,7 +165,8 @@ union_made k a b of_a of_b = record {
       ∙ sym (set.contains-union nat_cmp_total a b q);
 }
 
-intersection_made : (k : ℕ) (a b : NumberSet) → IsMadeOf k a → IsMadeOf k b → IsMadeOf k (set.intersection a b)
+intersection_made : (k : ℕ) (a b : NumberSet) → IsUnionOfCells k a → IsUnionOfCells k b
+    → IsUnionOfCells k (set.intersection a b)
 intersection_made k a b of_a of_b = record {
   each = λ p q p_in q_in same.
       set.contains-intersection nat_cmp_total a b p
@@ -173,7 +174,8 @@ intersection_made k a b of_a of_b = record {
       ∙ sym (set.contains-intersection nat_cmp_total a b q);
 }
 
-difference_made : (k : ℕ) (a b : NumberSet) → IsMadeOf k a → IsMadeOf k b → IsMadeOf k (set.difference a b)
+difference_made : (k : ℕ) (a b : NumberSet) → IsUnionOfCells k a → IsUnionOfCells k b
+    → IsUnionOfCells k (set.difference a b)
 difference_made k a b of_a of_b = record {
   each = λ p q p_in q_in same.
       set.contains-difference nat_cmp_total a b p
@@ -181,7 +183,7 @@ difference_made k a b of_a of_b = record {
       ∙ sym (set.contains-difference nat_cmp_total a b q);
 }
 
-symmetric_made : (k : ℕ) (a b : NumberSet) → IsMadeOf k a → IsMadeOf k b → IsMadeOf k (symmetric a b)
+symmetric_made : (k : ℕ) (a b : NumberSet) → IsUnionOfCells k a → IsUnionOfCells k b → IsUnionOfCells k (symmetric a b)
 symmetric_made k a b of_a of_b = record {
   each = λ p q p_in q_in same.
       contains-symmetric a b p
@@ -189,7 +191,7 @@ symmetric_made k a b of_a of_b = record {
       ∙ sym (contains-symmetric a b q);
 }
 
-complement_made : (k : ℕ) (a : NumberSet) → IsMadeOf k a → IsMadeOf k (complement a)
+complement_made : (k : ℕ) (a : NumberSet) → IsUnionOfCells k a → IsUnionOfCells k (complement a)
 complement_made k a of_a = record {
   each = λ p q p_in q_in same.
       contains-complement a p
@@ -197,7 +199,7 @@ complement_made k a of_a = record {
       ∙ sym (contains-complement a q);
 }
 
-degrade_made : (k : ℕ) (a : NumberSet) → IsMadeOf k (degrade a k)
+degrade_made : (k : ℕ) (a : NumberSet) → IsUnionOfCells k (degrade a k)
 degrade_made k a = record {
   each = λ p q p_in q_in same.
       contains-degrade a k p
@@ -211,7 +213,7 @@ and_false : (b : Bool) → (b && false) ≡ false
 and_false true = refl
 and_false false = refl
 
-none_beside : (o : ℕ) (a : NumberSet) (p : ℕ) → IsMadeOf o a → p < pixel_count → set.contains a p ≡ false
+none_beside : (o : ℕ) (a : NumberSet) (p : ℕ) → IsUnionOfCells o a → p < pixel_count → set.contains a p ≡ false
     → (q : ℕ) → (set.contains a q && set.contains (span o (p / cell_size o)) q) ≡ false
 none_beside o a p made p_in out q = elim (cases_Bool (set.contains (span o (p / cell_size o)) q)) [
   | inl in_it ↦
@@ -220,7 +222,7 @@ none_beside o a p made p_in out q = elim (cases_Bool (set.contains (span o (p / 
   | inr other ↦ ap (λ y. set.contains a q && y) other ∙ and_false (set.contains a q)
 ]
 
-degrade_same : (o : ℕ) (a : NumberSet) (p : ℕ) → IsMadeOf o a → p < pixel_count
+degrade_same : (o : ℕ) (a : NumberSet) (p : ℕ) → IsUnionOfCells o a → p < pixel_count
     → set.contains (degrade a o) p ≡ set.contains a p
 degrade_same o a p made p_in = elim (cases_Bool (set.contains a p)) [
   | inl has ↦
@@ -234,8 +236,8 @@ degrade_same o a p made p_in = elim (cases_Bool (set.contains a p)) [
       ∙ and_false (nat_lt p pixel_count) ∙ sym out
 ]
 
--- a set that is made of cells of an order is so when it is degraded to a deeper one, too
-degrade_kept : (n o : ℕ) (a : NumberSet) → n ≤ o → IsMadeOf n a → IsMadeOf n (degrade a o)
+-- a union of cells of an order remains one after degrading to a deeper order
+degrade_kept : (n o : ℕ) (a : NumberSet) → n ≤ o → IsUnionOfCells n a → IsUnionOfCells n (degrade a o)
 degrade_kept n o a le made = record {
   each = λ p q p_in q_in same.
       degrade_same o a p (deeper_made n o a le made) p_in ∙ made.each p q p_in q_in same
@@ -254,49 +256,49 @@ at_most_second None y k le = le
 at_most_second (Some j) None k le = tt
 at_most_second (Some j) (Some m) k le = omega arith
 
-pub union_depth : (a b : NumberSet) (x y : Option ℕ) → HasDepth a x → HasDepth b y
-    → HasDepth (set.union a b) (deeper x y)
+pub union_depth : (a b : NumberSet) (x y : Option ℕ) → HasMaxOrder a x → HasMaxOrder b y
+    → HasMaxOrder (set.union a b) (deeper x y)
 union_depth a b x y of_a of_b k le =
     union_made k a b (of_a k (at_most_first x y k le)) (of_b k (at_most_second x y k le))
 
-pub intersection_depth : (a b : NumberSet) (x y : Option ℕ) → HasDepth a x → HasDepth b y
-    → HasDepth (set.intersection a b) (deeper x y)
+pub intersection_depth : (a b : NumberSet) (x y : Option ℕ) → HasMaxOrder a x → HasMaxOrder b y
+    → HasMaxOrder (set.intersection a b) (deeper x y)
 intersection_depth a b x y of_a of_b k le =
     intersection_made k a b (of_a k (at_most_first x y k le)) (of_b k (at_most_second x y k le))
 
-pub difference_depth : (a b : NumberSet) (x y : Option ℕ) → HasDepth a x → HasDepth b y
-    → HasDepth (set.difference a b) (deeper x y)
+pub difference_depth : (a b : NumberSet) (x y : Option ℕ) → HasMaxOrder a x → HasMaxOrder b y
+    → HasMaxOrder (set.difference a b) (deeper x y)
 difference_depth a b x y of_a of_b k le =
     difference_made k a b (of_a k (at_most_first x y k le)) (of_b k (at_most_second x y k le))
 
-pub symmetric_depth : (a b : NumberSet) (x y : Option ℕ) → HasDepth a x → HasDepth b y
-    → HasDepth (symmetric a b) (deeper x y)
+pub symmetric_depth : (a b : NumberSet) (x y : Option ℕ) → HasMaxOrder a x → HasMaxOrder b y
+    → HasMaxOrder (symmetric a b) (deeper x y)
 symmetric_depth a b x y of_a of_b k le =
     symmetric_made k a b (of_a k (at_most_first x y k le)) (of_b k (at_most_second x y k le))
 
-pub complement_depth : (a : NumberSet) (x : Option ℕ) → HasDepth a x → HasDepth (complement a) x
+pub complement_depth : (a : NumberSet) (x : Option ℕ) → HasMaxOrder a x → HasMaxOrder (complement a) x
 complement_depth a x of_a k le = complement_made k a (of_a k le)
 
 coarser_of : (x : Option ℕ) (o k : ℕ) → k < o → IsAtMost (option_map (λ j. min j o) x) k → IsAtMost x k
 coarser_of None o k lt le = tt
 coarser_of (Some j) o k lt le = omega arith
 
-pub degrade_depth : (a : NumberSet) (x : Option ℕ) (o : ℕ) → HasDepth a x
-    → HasDepth (degrade a o) (option_map (λ j. min j o) x)
+pub degrade_depth : (a : NumberSet) (x : Option ℕ) (o : ℕ) → HasMaxOrder a x
+    → HasMaxOrder (degrade a o) (option_map (λ j. min j o) x)
 degrade_depth a x o of_a k le = elim (cases_lt k o) [
   | inl lt ↦ degrade_kept k o a (omega arith) (of_a k (coarser_of x o k lt le))
   | inr deep ↦ deeper_made o k (degrade a o) (omega arith) (degrade_made o a)
 ]
 
--- ---- what a text says
+-- ---- sets that texts represent
 
-span_made : (j i : ℕ) → IsMadeOf j (span j i)
+span_made : (j i : ℕ) → IsUnionOfCells j (span j i)
 span_made j i = record {
   each = λ p q p_in q_in same.
       contains-span j i p ∙ ap₂ (λ x n. x && nat_eq n i) (both_ways p q p_in q_in) same ∙ sym (contains-span j i q);
 }
 
-spans_made : (j first last : ℕ) → IsMadeOf j (spans j first last)
+spans_made : (j first last : ℕ) → IsUnionOfCells j (spans j first last)
 spans_made j first last = record {
   each = λ p q p_in q_in same.
       contains-spans j first last p
@@ -304,53 +306,55 @@ spans_made j first last = record {
       ∙ sym (contains-spans j first last q);
 }
 
-item_made : (k : ℕ) (j : Option ℕ) (i : Option Item) → IsAtMost j k → IsMadeOf k (item_pixels j i)
+item_made : (k : ℕ) (j : Option ℕ) (i : Option Item) → IsAtMost j k → IsUnionOfCells k (item_pixels j i)
 item_made k j None le = empty_made k
 item_made k None (Some i) le = empty_made k
 item_made k (Some j) (Some i) le = deeper_made j k _ le (spans_made j i.first.value (last_cell i).value)
 
 in_force : (before : Option ℕ) (mark : Option Numeral) (k : ℕ) → IsAtMost before k
-    → IsAtMost (order_in_force None mark) k → IsAtMost (order_in_force before mark) k
+    → IsAtMost (current_order None mark) k → IsAtMost (current_order before mark) k
 in_force before None k le own = le
 in_force before (Some n) k le own = own
 
-said_made : (k : ℕ) (before : Option ℕ) (ns : List WordNumbers) → IsAtMost before k → IsAtMost (deepest_of ns) k
-    → IsMadeOf k (pixels_said before ns)
-said_made k before [] le most = empty_made k
-said_made k before (n ∷ ns) le most =
-    let here = in_force before n.mark k le (at_most_first (order_in_force None n.mark) (deepest_of ns) k most) in
-    let rest = at_most_second (order_in_force None n.mark) (deepest_of ns) k most in
-    union_made k _ _ (item_made k (order_in_force before n.mark) n.item here)
-    (said_made k (order_in_force before n.mark) ns here rest)
+words_made : (k : ℕ) (before : Option ℕ) (ns : List WordNumbers) → IsAtMost before k → IsAtMost (deepest_of ns) k
+    → IsUnionOfCells k (pixels_of_words before ns)
+words_made k before [] le most = empty_made k
+words_made k before (n ∷ ns) le most =
+    let here = in_force before n.mark k le (at_most_first (current_order None n.mark) (deepest_of ns) k most) in
+    let rest = at_most_second (current_order None n.mark) (deepest_of ns) k most in
+    union_made k _ _ (item_made k (current_order before n.mark) n.item here)
+    (words_made k (current_order before n.mark) ns here rest)
 
--- an ASCII text
-pub said_depth : (text : List ℕ) (a : NumberSet) (deepest : Option ℕ) → Says text a deepest → HasDepth a deepest
-said_depth text a deepest says k le =
-    subst (λ (b : NumberSet). IsMadeOf k b) (sym says.set_is)
-    (said_made k None says.numbers tt (subst (λ (x : Option ℕ). IsAtMost x k) says.deepest_is le))
+-- a text in the ASCII format
+pub ascii_depth : (text : List ℕ) (a : NumberSet) (deepest : Option ℕ) → Represents text a deepest
+    → HasMaxOrder a deepest
+ascii_depth text a deepest represents k le =
+    subst (λ (b : NumberSet). IsUnionOfCells k b) (sym represents.set_is)
+    (words_made k None represents.numbers tt (subst (λ (x : Option ℕ). IsAtMost x k) represents.deepest_is le))
 
-cell_made : (k j : ℕ) (i : Option ℕ) → j ≤ k → IsMadeOf k (cell_pixels j i)
+cell_made : (k j : ℕ) (i : Option ℕ) → j ≤ k → IsUnionOfCells k (cell_pixels j i)
 cell_made k j None le = empty_made k
 cell_made k j (Some i) le = deeper_made j k (span j i) le (span_made j i)
 
-items_made : (k j : ℕ) (ds : Items) → j ≤ k → IsMadeOf k (items_pixels j ds)
+items_made : (k j : ℕ) (ds : Items) → j ≤ k → IsUnionOfCells k (items_pixels j ds)
 items_made k j no_items le = empty_made k
 items_made k j (item d ds) le = union_made k _ _ (cell_made k j (whole_number d) le) (items_made k j ds le)
 
-array_made : (k : ℕ) (j : Option ℕ) (ds : Option Items) → IsAtMost j k → IsMadeOf k (array_pixels j ds)
+array_made : (k : ℕ) (j : Option ℕ) (ds : Option Items) → IsAtMost j k → IsUnionOfCells k (array_pixels j ds)
 array_made k (Some j) (Some ds) le = items_made k j ds le
 array_made k None ds le = empty_made k
 array_made k (Some j) None le = empty_made k
 
-members_made : (k : ℕ) (ms : Members) → IsAtMost (deepest_name ms) k → IsMadeOf k (members_pixels ms)
+members_made : (k : ℕ) (ms : Members) → IsAtMost (deepest_name ms) k → IsUnionOfCells k (members_pixels ms)
 members_made k no_members most = empty_made k
 members_made k (member name d ms) most =
     union_made k _ _
     (array_made k (order_of_name name) (as_array d) (at_most_first (order_of_name name) (deepest_name ms) k most))
     (members_made k ms (at_most_second (order_of_name name) (deepest_name ms) k most))
 
--- a JSON text
-pub json_depth : (text : List ℕ) (a : NumberSet) (deepest : Option ℕ) → SaysJson text a deepest → HasDepth a deepest
-json_depth text a deepest says k le =
-    subst (λ (b : NumberSet). IsMadeOf k b) (sym says.set_is)
-    (members_made k says.members (subst (λ (x : Option ℕ). IsAtMost x k) says.deepest_is le))
+-- a text in the JSON format
+pub json_depth : (text : List ℕ) (a : NumberSet) (deepest : Option ℕ) → RepresentsJson text a deepest
+    → HasMaxOrder a deepest
+json_depth text a deepest represents k le =
+    subst (λ (b : NumberSet). IsUnionOfCells k b) (sym represents.set_is)
+    (members_made k represents.members (subst (λ (x : Option ℕ). IsAtMost x k) represents.deepest_is le))

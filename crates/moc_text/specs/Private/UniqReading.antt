@@ -1,4 +1,4 @@
--- How far the reading of a NUNIQ list has come.
+-- The progress of parsing a NUNIQ list.
 use Rattle.std.specs.Prelude.{◌≡◌, ℕ, ◌+◌, ◌<◌, ◌≤◌, List, [], ◌∷◌, ◌++◌, length, map, Option, Some, None}
 use Rattle.std.specs.Prelude.{if◌then◌else◌}
 use Rattle.std.specs.List.{AllByRecursion}
@@ -7,15 +7,15 @@ use Rattle.moc_sphere.specs.CellNumber.{CellNumber, IsCell, uniq_of}
 use Rattle.moc_lists.specs.RangeList.{NumberSet}
 use Rattle.moc_ranges.specs.Cells.{pixels_of}
 use Rattle.moc_text.specs.Lines.{is_line_feed, lines_of}
-use Rattle.moc_ranges.specs.Faults.{first_fault_of}
-use Rattle.moc_text.specs.UniqList.{uniq_line_fault, numbers_on, uniq_fault}
+use Rattle.moc_ranges.specs.Faults.{first_error_of}
+use Rattle.moc_text.specs.UniqList.{uniq_line_error, numbers_on, uniq_error}
 
--- what comes after a line that ends where the bytes begin
-abbrev pub behind_line_feed : List ℕ → Option (List ℕ)
-behind_line_feed [] = Some []
-behind_line_feed (b ∷ bytes) = if is_line_feed b then Some bytes else None
+-- the bytes after the end of the line, if the line ends here
+abbrev pub after_line_feed : List ℕ → Option (List ℕ)
+after_line_feed [] = Some []
+after_line_feed (b ∷ bytes) = if is_line_feed b then Some bytes else None
 
--- These cells were added, whose numbers are those of the lines before the rest.
+-- Cells were added whose numbers are those on the lines before the rest.
 pub record IsPart (bytes : List ℕ) (old : NumberSet) (rest : List ℕ) (new : NumberSet)
     : Type 0 where
   pub cells : List CellNumber
@@ -23,16 +23,16 @@ pub record IsPart (bytes : List ℕ) (old : NumberSet) (rest : List ℕ) (new : 
   pub numbers : numbers_on (lines_of bytes) ≡ map uniq_of cells ++ numbers_on (lines_of rest)
   pub set_is : new ≡ set.union old (pixels_of cells)
 
--- The line at the front, of this number, is read.
+-- The line at the front, which has this number, is parsed.
 pub record IsLineRead (line : ℕ) (bytes : List ℕ) (old : NumberSet) (rest : List ℕ)
     (new : NumberSet) : Type 0 where
   pub shorter : length rest < length bytes
   pub part : IsPart bytes old rest new
   pub fault :
-      first_fault_of uniq_line_fault line (lines_of bytes) ≡ first_fault_of uniq_line_fault (line + 1) (lines_of rest)
+      first_error_of uniq_line_error line (lines_of bytes) ≡ first_error_of uniq_line_error (line + 1) (lines_of rest)
 
--- The lines before the rest are read, and the next one has this number.
+-- The lines before the rest are parsed, and the next line has this number.
 pub record LinesSoFar (text rest : List ℕ) (line : ℕ) (a : NumberSet) : Type 0 where
   pub part : IsPart text set.empty rest a
-  pub fault : uniq_fault text ≡ first_fault_of uniq_line_fault line (lines_of rest)
+  pub fault : uniq_error text ≡ first_error_of uniq_line_error line (lines_of rest)
   pub within : line + length rest ≤ length text + 1

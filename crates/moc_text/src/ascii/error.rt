@@ -1,59 +1,59 @@
-//! Why an ASCII text could not be read.
+//! The errors of parsing the ASCII format.
 
 ghost use Rattle.std.specs.Prelude.{◌≡◌};
 ghost use Rattle.moc_text.specs.Names.{name_of_text};
-ghost use Rattle.moc_text.specs.Places.{fault_byte};
+ghost use Rattle.moc_text.specs.Places.{error_byte};
 ghost use Rattle.moc_text.specs.declared.ascii.error.TextError.TheVariants.{Memory};
 
-use moc_ranges::Memory as MemoryRefused;
+use moc_ranges::Memory as OutOfMemory;
 use thiserror::Error;
 
-/// A fault of an ASCII text, with the place of a byte, counted from 0.
+/// The reason why a text is not valid in the ASCII format. Positions are byte offsets, counted from 0.
 #[derive(Debug, Clone, Copy, PartialEq, Eq, Error)]
 pub enum TextError {
-    /// A byte at which a word goes on as none does.
+    /// A byte that cannot follow the preceding bytes of its word.
     #[error("a byte that no word has there, at {at}")]
     BadByte {
-        /// The place of that byte.
+        /// The offset of the byte.
         at: usize,
     },
     /// An item before any order.
     #[error("an item before any order, at {at}")]
     NoOrder {
-        /// The place at which its word begins.
+        /// The offset of the first byte of its word.
         at: usize,
     },
     /// An order above 29.
     #[error("an order above 29, at {at}")]
     OrderTooLarge {
-        /// The place of its first digit.
+        /// The offset of its first digit.
         at: usize,
     },
-    /// A number that no cell of the order in force has.
+    /// A number that is not the index of a cell of the current order.
     #[error("no cell of the order in force, at {at}")]
     CellTooLarge {
-        /// The place of its first digit.
+        /// The offset of its first digit.
         at: usize,
     },
-    /// A range whose last cell is before its first.
+    /// A range whose last cell is before its first cell.
     #[error("a range that goes backwards, at {at}")]
     Backwards {
-        /// The place of the first digit of its first cell.
+        /// The offset of the first digit of its first cell.
         at: usize,
     },
-    /// A word that ends before it is whole.
+    /// A word that is incomplete.
     #[error("a word that is not finished, at {at}")]
     Unfinished {
-        /// The place behind its last byte.
+        /// The offset after its last byte.
         at: usize,
     },
-    /// Memory was refused.
+    /// An allocation failed.
     #[error("out of memory")]
     Memory,
 }
 
 impl TextError {
-    /// The name of the fault, as it is printed.
+    /// Returns the printed name of the error.
     pub fn name(self) -> &'static str
         ensures { result.now ≡ name_of_text self }
     {
@@ -68,9 +68,9 @@ impl TextError {
         }
     }
 
-    /// The place of the byte at which the text is at fault, counted from 0; `None` for `Memory`.
+    /// Returns the byte offset of the error, counted from 0, or `None` for `Memory`.
     pub fn place(self) -> Option<usize>
-        ensures { result ≡ fault_byte self }
+        ensures { result ≡ error_byte self }
     {
         match self {
             TextError::BadByte { at }
@@ -84,10 +84,10 @@ impl TextError {
     }
 }
 
-impl From<MemoryRefused> for TextError {
+impl From<OutOfMemory> for TextError {
     ghost from_gives = { λ _ e. e ≡ Memory };
 
-    fn from(_e: MemoryRefused) -> TextError {
+    fn from(_e: OutOfMemory) -> TextError {
         TextError::Memory
     }
 }

@@ -1,12 +1,12 @@
-//! Reading the ASCII form.
+//! Parsing the ASCII format.
 ghost use Rattle.std.specs.Prelude.{◌≡◌, ℕ, [], IfOk, IfErr, MatchResult, None, Option, Some, ◌⊎◌};
 ghost use Rattle.std.specs.FinSet as set;
 ghost use Rattle.moc_lists.specs.RangeList.{NumberSet};
-ghost use Rattle.moc_text.specs.Ascii.{mark_fault, item_fault, item_pixels, order_in_force, deeper as deeper_of};
-ghost use Rattle.moc_text.specs.Ascii.{Says, IsFirstFault};
+ghost use Rattle.moc_text.specs.Ascii.{mark_error, item_error, item_pixels, current_order, deeper as deeper_of};
+ghost use Rattle.moc_text.specs.Ascii.{Represents, IsFirstError};
 ghost use Rattle.moc_text.specs.Faults.{Fails};
 ghost use Rattle.moc_text.specs.Private.AsciiReading.{Progress};
-ghost use Rattle.moc_text.specs.Reading.{IsReadingOf, ReadingsAreTold};
+ghost use Rattle.moc_text.specs.Reading.{IsReadingOf, ReadingsAreUnique};
 
 use crate::ascii::error::TextError;
 use crate::ascii::number::{Item, Numeral};
@@ -16,7 +16,7 @@ use moc_ranges::{Coverage, CoverageBuilder};
 use moc_sphere::Order;
 use std::alloc::Global;
 
-/// What the words so far say.
+/// The state of the parser: the cells, the current order, and the deepest order of the words so far.
 #[derive(Drop)]
 struct Reading {
     cells: CoverageBuilder,
@@ -25,14 +25,14 @@ struct Reading {
 }
 
 impl Reading {
-    /// Goes on to the order of a mark, where there is one.
-    fn enter(&mut self, mark: Option<Numeral>) -> Result<(), TextError>
+    /// Sets the current order to that of the mark, if there is one.
+    fn set_order(&mut self, mark: Option<Numeral>) -> Result<(), TextError>
         ensures { MatchResult result
-            (λ _. (mark_fault mark ≡ None)
-            × (self.new.order ≡ order_in_force self.old.order mark)
-            × (self.new.deepest ≡ deeper_of self.old.deepest (order_in_force None mark))
+            (λ _. (mark_error mark ≡ None)
+            × (self.new.order ≡ current_order self.old.order mark)
+            × (self.new.deepest ≡ deeper_of self.old.deepest (current_order None mark))
             × (self.new.cells ≡ self.old.cells))
-            (λ e. mark_fault mark ≡ Some e) }
+            (λ e. mark_error mark ≡ Some e) }
     {
         let Some(mark) = mark else {
             return Ok(());
@@ -45,14 +45,14 @@ impl Reading {
         Ok(())
     }
 
-    /// Adds the cells of an item, where there is one, of a word that begins at `at`.
+    /// Adds the cells of the item, if there is one. The word begins at offset `at`.
     fn add(&mut self, at: usize, item: Option<Item>) -> Result<(), TextError>
         ensures { MatchResult result
-            (λ _. (item_fault self.old.order at item ≡ None)
+            (λ _. (item_error self.old.order at item ≡ None)
             × (self.new.order ≡ self.old.order)
             × (self.new.deepest ≡ self.old.deepest)
             × (self.new.cells ≡ set.union self.old.cells (item_pixels self.old.order item)))
-            (λ e. Fails TextError.Memory (item_fault self.old.order at item) e) }
+            (λ e. Fails TextError.Memory (item_error self.old.order at item) e) }
     {
         let Some(item) = item else {
             return Ok(());
@@ -77,10 +77,10 @@ impl Reading {
     }
 }
 
-/// Reads word by word.
+/// Parses all words.
 fn read_words(alloc: Global, text: &[u8]) -> Result<Reading, TextError>
-    ensures says { IfOk result (λ r. Progress text.now [] r.cells r.order r.deepest) }
-    ensures fault { IfErr result (λ e. (e ≡ TextError.Memory) ⊎ IsFirstFault text.now e) }
+    ensures represents { IfOk result (λ r. Progress text.now [] r.cells r.order r.deepest) }
+    ensures error { IfErr result (λ e. (e ≡ TextError.Memory) ⊎ IsFirstError text.now e) }
 {
     let len = text.len();
     let mut reading = Reading {
@@ -96,43 +96,50 @@ fn read_words(alloc: Global, text: &[u8]) -> Result<Reading, TextError>
         }
         let at = place(len, rest);
         let (numbers, after) = word(len, rest)?;
-        reading.enter(numbers.mark)?;
+        reading.set_order(numbers.mark)?;
         reading.add(at, numbers.item)?;
         rest = after;
     }
     Ok(reading)
 }
 
-/// Reads the ASCII form (MOC 2.0): the set, and the deepest order that the text names.
+/// Parses the ASCII format, and returns the set and the deepest order that the text names.
 ///
-/// Refused for the first faulty word, with a place counted in bytes from 0: `BadByte` or `Unfinished` where the
-/// word goes on or ends as no word does, `OrderTooLarge` for an order above 29, `NoOrder` for an item before any
-/// order, `CellTooLarge` for a number that the order in force lacks, `Backwards` for a range that ends before it
-/// begins. `Memory` where memory was refused.
+/// # Errors
+/// Reports the first invalid word, with a byte offset counted from 0. Fails with `BadByte` if the word has an invalid
+/// byte, and with `Unfinished` if it is incomplete. Fails with `OrderTooLarge` if an order is above 29, and with
+/// `NoOrder` if an item precedes every order. Fails with `CellTooLarge` if a number is not a cell of the current order,
+/// and with `Backwards` if a range ends before it begins. Fails with `Memory` if an allocation fails.
 ///
-/// One pass over the bytes; the cells as `CoverageBuilder` takes them, in O(n log n), or O(n) where they rise. The
-/// memory follows the set and not the text.
+/// # Complexity
+/// One pass over the text. The cells are added to a `CoverageBuilder`, in O(n log n), or in O(n) if they are sorted.
+///
+/// # Memory
+/// Proportional to the set, not to the text.
+///
+/// # Source
+/// MOC 2.0, ASCII serialization.
 pub fn read_ascii(alloc: Global, text: &[u8]) -> Result<(Coverage, Option<Order>), TextError>
-    // What is read is what the text says.
-    ensures set { IfOk result (λ r. Says text.now r.0 r.1) }
+    // On success, the result is the set and the order that the text represents.
+    ensures set { IfOk result (λ r. Represents text.now r.0 r.1) }
 
-    // What is refused has its first fault, unless memory ran out.
-    ensures fault { IfErr result (λ e. (e ≡ TextError.Memory) ⊎ IsFirstFault text.now e) }
+    // On failure, the error is the first one in the text, unless an allocation failed.
+    ensures error { IfErr result (λ e. (e ≡ TextError.Memory) ⊎ IsFirstError text.now e) }
 
-    // So a text that says a set is read as that set.
-    ensures reading { (a : NumberSet) (k : Option ℕ) → Says text.now a k
+    // Therefore a text that represents a set is parsed as this set.
+    ensures reading { (a : NumberSet) (k : Option ℕ) → Represents text.now a k
         → MatchResult result (λ r. (r.0 ≡ a) × (r.1 ≡ k)) (λ e. e ≡ TextError.Memory) }
 
-    // As a function of the text: the answer is its reading.
-    ensures told { IsReadingOf text.now result }
+    // The result as a function of the text, unless an allocation failed.
+    ensures reported { IsReadingOf text.now result }
 {
     let reading = read_words(alloc, text)?;
     let set = reading.cells.build()?;
     Ok((set, reading.deepest))
 }
 
-/// The law of reading: each text has one reading, which is the set and the deepest order that it says, or its
-/// first fault.
-pub fn readings_are_told()
-    ensures { ReadingsAreTold }
+/// Theorem: every text has exactly one reading, namely the set and the deepest order that it represents, or its first
+/// error.
+pub fn readings_are_unique()
+    ensures { ReadingsAreUnique }
 {}

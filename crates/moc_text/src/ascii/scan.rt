@@ -1,24 +1,25 @@
-//! The scanner of a word. Each function is given the length of the whole text, and the bytes from some
-//! place of it to its end, so that their length says which place it is.
+//! The scanner for words. Each function takes the length of the whole text and the remaining bytes; their length
+//! determines the current offset.
 
 ghost use Rattle.std.specs.Prelude.{◌≡◌, ◌-◌, length};
 ghost use Rattle.std.specs.Option.{option_copied};
 ghost use Rattle.moc_text.specs.Ascii.{is_separator as is_separator_byte};
-ghost use Rattle.moc_text.specs.Private.Scan.{IsScanned, is_end as is_end_of, after_byte, front_digits, past_digits};
-ghost use Rattle.moc_text.specs.Private.Scan.{held_after, unexpected as unexpected_at, scan_number, scan_item};
+ghost use Rattle.moc_text.specs.Private.Scan.{IsScanned, is_end as is_end_of, after_byte, leading_digits, after_digits};
+ghost use Rattle.moc_text.specs.Private.Scan.{saturated_value, unexpected_byte as unexpected_at};
+ghost use Rattle.moc_text.specs.Private.Scan.{scan_number, scan_item};
 ghost use Rattle.moc_text.specs.Private.Scan.{scan_marked, scan_word};
 
 use crate::ascii::error::TextError;
 use crate::ascii::number::{Item, Numeral, WordNumbers};
 
-/// Whether a byte parts the words of an ASCII text (MOC 2.0): a space, a comma, a tab, CR or LF.
+/// Returns whether a byte separates words in the ASCII format (MOC 2.0): space, comma, tab, CR or LF.
 pub fn is_separator(byte: u8) -> bool
     ensures { result ≡ is_separator_byte byte }
 {
     matches!(byte, b' ' | b',' | b'\t' | b'\r' | b'\n')
 }
 
-/// Whether a word ends before these bytes.
+/// Returns whether a word ends before these bytes.
 fn is_end(bytes: &[u8]) -> bool
     ensures { result ≡ is_end_of bytes.now }
 {
@@ -28,7 +29,7 @@ fn is_end(bytes: &[u8]) -> bool
     }
 }
 
-/// What comes after this byte, where the bytes begin with it.
+/// Returns the bytes after the given byte, if they begin with it.
 fn after(byte: u8, bytes: &[u8]) -> Option<&[u8]>
     ensures { option_copied result ≡ after_byte byte bytes.now }
 {
@@ -38,16 +39,16 @@ fn after(byte: u8, bytes: &[u8]) -> Option<&[u8]>
     }
 }
 
-/// Where the bytes begin.
+/// Returns the offset of the first of the remaining bytes.
 pub fn place(len: usize, bytes: &[u8]) -> usize
     ensures { result ≡ len - length bytes.now }
 {
     len.saturating_sub(bytes.len())
 }
 
-/// The fault of a word that goes on with these bytes as no lawful word does.
-#[tactic(auto, unfolding(crate::specs::Private::Scan::unexpected))]
-fn unexpected(len: usize, bytes: &[u8]) -> TextError
+/// Returns the error of a word that cannot be continued with these bytes.
+#[tactic(auto, unfolding(crate::specs::Private::Scan::unexpected_byte))]
+fn unexpected_byte(len: usize, bytes: &[u8]) -> TextError
     ensures { result ≡ unexpected_at len bytes.now }
 {
     let at = place(len, bytes);
@@ -58,10 +59,10 @@ fn unexpected(len: usize, bytes: &[u8]) -> TextError
     }
 }
 
-/// The value of the digits at the front, or `u64::MAX` where it is larger, and what comes after them.
+/// Returns the value of the leading digits, or `u64::MAX` if the value is larger, and the bytes after the digits.
 pub fn digits(bytes: &[u8]) -> (u64, &[u8])
-    ensures value { result.0 ≡ held_after 0 (front_digits bytes.now) }
-    ensures rest { result.1.now ≡ past_digits bytes.now }
+    ensures value { result.0 ≡ saturated_value 0 (leading_digits bytes.now) }
+    ensures rest { result.1.now ≡ after_digits bytes.now }
 {
     let mut value = 0u64;
     let mut rest = bytes;
@@ -74,7 +75,7 @@ pub fn digits(bytes: &[u8]) -> (u64, &[u8])
     (value, rest)
 }
 
-/// The number at the front, and what comes after it.
+/// Scans a number, and returns the bytes after it.
 #[tactic(auto, unfolding(crate::specs::Private::Scan::scan_number))]
 fn number(len: usize, bytes: &[u8]) -> Result<(Numeral, &[u8]), TextError>
     ensures { IsScanned (λ x. (x.0, x.1.now)) result (scan_number len bytes.now) }
@@ -85,11 +86,11 @@ fn number(len: usize, bytes: &[u8]) -> Result<(Numeral, &[u8]), TextError>
             let (value, rest) = digits(bytes);
             Ok((Numeral { at, value }, rest))
         }
-        _ => Err(unexpected(len, bytes)),
+        _ => Err(unexpected_byte(len, bytes)),
     }
 }
 
-/// The item whose first number is read, and what comes after it.
+/// Scans an item whose first number was already scanned, and returns the bytes after it.
 #[tactic(auto, unfolding(crate::specs::Private::Scan::scan_item, crate::specs::Private::Scan::finish_item))]
 fn item(len: usize, first: Numeral, bytes: &[u8]) -> Result<(Item, &[u8]), TextError>
     ensures { IsScanned (λ x. (x.0, x.1.now)) result (scan_item len first bytes.now) }
@@ -102,14 +103,18 @@ fn item(len: usize, first: Numeral, bytes: &[u8]) -> Result<(Item, &[u8]), TextE
         None => (None, bytes),
     };
     if !is_end(rest) {
-        return Err(unexpected(len, rest));
+        return Err(unexpected_byte(len, rest));
     }
     Ok((Item { first, last }, rest))
 }
 
-/// The word whose mark is read, and what comes after it.
+/// Scans the rest of a word whose mark was already scanned, and returns the bytes after it.
 #[tactic(auto, unfolding(crate::specs::Private::Scan::scan_marked))]
-fn marked(len: usize, mark: Numeral, bytes: &[u8]) -> Result<(WordNumbers, &[u8]), TextError>
+fn scan_after_mark(
+    len: usize,
+    mark: Numeral,
+    bytes: &[u8],
+) -> Result<(WordNumbers, &[u8]), TextError>
     ensures { IsScanned (λ x. (x.0, x.1.now)) result (scan_marked len mark bytes.now) }
 {
     let mark = Some(mark);
@@ -127,7 +132,7 @@ fn marked(len: usize, mark: Numeral, bytes: &[u8]) -> Result<(WordNumbers, &[u8]
     ))
 }
 
-/// The word at the front, and what comes after it.
+/// Scans a word, and returns the bytes after it.
 #[tactic(auto, unfolding(crate::specs::Private::Scan::scan_word))]
 pub fn word(len: usize, bytes: &[u8]) -> Result<(WordNumbers, &[u8]), TextError>
     ensures { IsScanned (λ x. (x.0, x.1.now)) result (scan_word len bytes.now) }
@@ -135,13 +140,13 @@ pub fn word(len: usize, bytes: &[u8]) -> Result<(WordNumbers, &[u8]), TextError>
     if let Some(rest) = after(b's', bytes) {
         let (mark, rest) = number(len, rest)?;
         return match after(b'/', rest) {
-            Some(rest) => marked(len, mark, rest),
-            None => Err(unexpected(len, rest)),
+            Some(rest) => scan_after_mark(len, mark, rest),
+            None => Err(unexpected_byte(len, rest)),
         };
     }
     let (first, rest) = number(len, bytes)?;
     if let Some(rest) = after(b'/', rest) {
-        return marked(len, first, rest);
+        return scan_after_mark(len, first, rest);
     }
     let (item, rest) = item(len, first, rest)?;
     Ok((

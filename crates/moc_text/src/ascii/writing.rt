@@ -1,15 +1,15 @@
-//! Writing the ASCII form.
+//! Writing the ASCII format.
 ghost use Rattle.std.specs.Prelude.{◌≡◌, ◌++◌, ◌∷◌, ◌<◌, ◌≤◌, decimal, IfErr, IfOk, IsTrue, OnOk, ◌↔◌, ◌⊎◌};
 ghost use Rattle.std.specs.Prelude.{List, None, Option, ℕ};
 ghost use Rattle.std.specs.Option.{ForSome};
 ghost use Rattle.std.specs.String.{string_bytes};
 ghost use Rattle.std.specs.List.{join_with_byte};
-ghost use Rattle.moc_ranges.specs.Cells.{AreOfOrders, cells_of};
+ghost use Rattle.moc_ranges.specs.Cells.{HaveOrders, cells_of};
 ghost use Rattle.moc_lists.specs.RangeList.{IsNormal, NumberSet};
-ghost use Rattle.moc_text.specs.Ascii.{Says};
+ghost use Rattle.moc_text.specs.Ascii.{Represents};
 ghost use Rattle.moc_text.specs.AsciiText.{ascii_text, deepest_cell, deepest_written, IsTooCoarse, run_text};
-ghost use Rattle.moc_text.specs.AsciiText.{runs_of, stated_beyond, words_of};
-ghost use Rattle.moc_text.specs.Private.AsciiWriting.{gap, onward, run_part, runs_in, stated_part};
+ghost use Rattle.moc_text.specs.AsciiText.{runs_of, stated_if_deeper, words_of};
+ghost use Rattle.moc_text.specs.Private.AsciiWriting.{leading_space, remaining_text, run_part, runs_in, stated_part};
 ghost use Rattle.moc_text.specs.declared.ascii.writing.Run.{Run as CellRun};
 
 use crate::text_writer::TextWriter;
@@ -19,10 +19,10 @@ use moc_ranges::{CellRanges, Coverage};
 use moc_sphere::Order;
 use std::alloc::{AllocError, Global};
 
-/// How many bytes of room a text has at first for each range of the set: about what the cells of most ranges take.
-pub const RANGE_ROOM: usize = 20;
+/// The initial capacity of a text in bytes for each range of the set: an estimate of the length of its cells.
+pub const RANGE_CAPACITY: usize = 20;
 
-/// Consecutive cells of one order, the last included.
+/// A run of consecutive cells of one order, from the first to the last, inclusive.
 #[derive(Clone, Copy)]
 struct Run {
     order: u8,
@@ -30,9 +30,9 @@ struct Run {
     last: u64,
 }
 
-/// The order; behind a space, where something was written before.
+/// Writes an order, after a space if the text is not empty.
 fn push_order(text: &mut TextWriter, before: Option<u8>, order: u8) -> Result<(), AllocError>
-    ensures { OnOk result (text.new ≡ text.old ++ gap before ++ decimal order) }
+    ensures { OnOk result (text.new ≡ text.old ++ leading_space before ++ decimal order) }
 {
     if before.is_some() {
         return text.push_number(b' ', u64::from(order));
@@ -40,7 +40,7 @@ fn push_order(text: &mut TextWriter, before: Option<u8>, order: u8) -> Result<()
     text.push_str(Buffer::new().format(order))
 }
 
-/// The cells of a run behind an ASCII byte.
+/// Writes the cells of a run after an ASCII byte.
 #[inline]
 fn push_cells(text: &mut TextWriter, before: u8, run: Run) -> Result<(), AllocError>
     requires { before < 128 }
@@ -53,7 +53,7 @@ fn push_cells(text: &mut TextWriter, before: u8, run: Run) -> Result<(), AllocEr
     text.push_number(b'-', run.last)
 }
 
-/// A run with its order, unless it was written last.
+/// Writes a run, with its order unless this order was written last.
 #[inline]
 fn push_run(text: &mut TextWriter, before: Option<u8>, run: Run) -> Result<(), AllocError>
     ensures { OnOk result (text.new ≡ text.old ++ run_part before run) }
@@ -67,9 +67,9 @@ fn push_run(text: &mut TextWriter, before: Option<u8>, run: Run) -> Result<(), A
     push_cells(text, b'/', run)
 }
 
-/// The stated order, where it is deeper than the one written last or none was.
-pub fn beyond(before: Option<u8>, stated: Option<u8>) -> Option<u8>
-    ensures { result ≡ stated_beyond before stated }
+/// Returns the stated order if it is deeper than the order that was written last, or if no order was written.
+pub fn if_deeper(before: Option<u8>, stated: Option<u8>) -> Option<u8>
+    ensures { result ≡ stated_if_deeper before stated }
 {
     match (before, stated) {
         (Some(last), Some(stated)) if stated <= last => None,
@@ -77,7 +77,7 @@ pub fn beyond(before: Option<u8>, stated: Option<u8>) -> Option<u8>
     }
 }
 
-/// The stated order, where it is deeper than the one written last.
+/// Writes the stated order if it is deeper than the order that was written last, or if no order was written.
 fn push_stated(
     text: &mut TextWriter,
     before: Option<u8>,
@@ -85,14 +85,14 @@ fn push_stated(
 ) -> Result<(), AllocError>
     ensures { OnOk result (text.new ≡ text.old ++ stated_part before stated) }
 {
-    let Some(order) = beyond(before, stated) else {
+    let Some(order) = if_deeper(before, stated) else {
         return Ok(());
     };
     push_order(text, before, order)?;
     text.push_str("/")
 }
 
-/// The depth of an order, where there is one.
+/// Returns an order as a number.
 pub fn depth_of(order: Option<Order>) -> Option<u8>
     ensures same { result ≡ order }
     ensures small { ForSome result (λ k. k ≤ 29) }
@@ -100,9 +100,9 @@ pub fn depth_of(order: Option<Order>) -> Option<u8>
     Some(order?.get())
 }
 
-/// The deepest order of a cell of the set, of the orders that its cells can have.
+/// Returns the order of the deepest cells of the set. The cells must have orders in the given range.
 pub fn deepest_of(set: &Coverage, orders: (u8, u8)) -> Option<u8>
-    requires each { AreOfOrders orders.0 orders.1 (cells_of set.now) }
+    requires each { HaveOrders orders.0 orders.1 (cells_of set.now) }
     requires in_range { orders.1 ≤ 30 }
     ensures { result ≡ deepest_cell (cells_of set.now) }
 {
@@ -116,7 +116,7 @@ pub fn deepest_of(set: &Coverage, orders: (u8, u8)) -> Option<u8>
     None
 }
 
-/// Whether the deepest order of cells is deeper than the stated one.
+/// Returns whether the deepest order of cells is deeper than the stated order.
 pub fn is_too_coarse(deepest: Option<u8>, stated: Option<u8>) -> bool
     ensures { (set : NumberSet) → deepest ≡ deepest_cell (cells_of set) → (IsTrue result ↔ IsTooCoarse set stated) }
 {
@@ -126,7 +126,7 @@ pub fn is_too_coarse(deepest: Option<u8>, stated: Option<u8>) -> bool
     }
 }
 
-/// Writes the runs of an order, and gives the order that was written last.
+/// Writes the runs of one order, and returns the order that was written last.
 fn push_runs(
     text: &mut TextWriter,
     before: Option<u8>,
@@ -135,8 +135,8 @@ fn push_runs(
 ) -> Result<Option<u8>, AllocError>
     requires { IsNormal ranges }
     ensures { IfOk result (λ last. (stated : Option ℕ) (rest : List CellRun) →
-        text.new ++ onward stated last rest
-        ≡ text.old ++ onward stated before (runs_in order ranges.entry ++ rest)) }
+        text.new ++ remaining_text stated last rest
+        ≡ text.old ++ remaining_text stated before (runs_in order ranges.entry ++ rest)) }
 {
     let mut before = before;
     for (first, end) in ranges {
@@ -147,14 +147,15 @@ fn push_runs(
     Ok(before)
 }
 
-/// Writes the cells of the set run by run, of the orders that they can have.
+/// Writes the cells of the set as runs, order by order, and the stated order. The cells must have orders in the given
+/// range.
 fn push_all(
     text: &mut TextWriter,
     set: &Coverage,
     orders: (u8, u8),
     stated: Option<u8>,
 ) -> Result<(), AllocError>
-    requires each { AreOfOrders orders.0 orders.1 (cells_of set.now) }
+    requires each { HaveOrders orders.0 orders.1 (cells_of set.now) }
     requires in_range { orders.1 ≤ 30 }
     ensures { OnOk result (text.new
         ≡ text.old ++ join_with_byte 32 (words_of stated None (runs_of (cells_of set.now)))) }
@@ -166,11 +167,19 @@ fn push_all(
     push_stated(text, before, stated)
 }
 
-/// Writes the ASCII form (MOC 2.0) of the set: its cells by rising order and within an order by rising number,
-/// runs of consecutive cells joined, and then the stated order, if it is deeper than these. Refused with
-/// `TooCoarse` where the set has a cell of a deeper order than the stated one. One pass over the ranges of the set
-/// for each order that can have cells and up to two before, and linear in the length of the text; no list of cells
-/// is made. `Memory` where memory was refused.
+/// Writes a set in the ASCII format. Cells are sorted by order and then by index, and consecutive cells are written as
+/// ranges. The stated order is appended if it is deeper than the orders of all cells.
+///
+/// # Errors
+/// Fails with `TooCoarse` if the set has a cell that is deeper than the stated order, and with `Memory` if an
+/// allocation fails.
+///
+/// # Complexity
+/// One pass over the ranges of the set for each order that its cells can have and for up to two coarser orders; linear
+/// in the length of the text. No list of cells is allocated.
+///
+/// # Source
+/// MOC 2.0, ASCII serialization.
 #[tactic(auto, unfolding(crate::specs::AsciiText::ascii_text))]
 pub fn write_ascii(
     alloc: Global,
@@ -179,19 +188,19 @@ pub fn write_ascii(
 ) -> Result<String, WriteError>
     ensures text { IfOk result (λ t. string_bytes t ≡ ascii_text set.now stated) }
     ensures fits { OnOk result (¬ IsTooCoarse set.now stated) }
-    ensures fault { IfErr result (λ e. (e ≡ WriteError.Memory)
+    ensures error { IfErr result (λ e. (e ≡ WriteError.Memory)
         ⊎ ((e ≡ WriteError.TooCoarse) × IsTooCoarse set.now stated)) }
 
-    // A written text says the set that was written, and the stated order, or else the deepest order written.
-    ensures reads_back { IfOk result (λ t. Says (string_bytes t) set.now (deepest_written set.now stated)) }
+    // The written text represents the set with the stated order, or otherwise with the deepest order of its cells.
+    ensures reads_back { IfOk result (λ t. Represents (string_bytes t) set.now (deepest_written set.now stated)) }
 {
     let stated = depth_of(stated);
     let orders = set.cell_orders();
     if is_too_coarse(deepest_of(set, orders), stated) {
         return Err(WriteError::TooCoarse);
     }
-    let room = set.range_count().saturating_mul(RANGE_ROOM);
-    let mut text = TextWriter::with_capacity(alloc, room)?;
+    let capacity = set.range_count().saturating_mul(RANGE_CAPACITY);
+    let mut text = TextWriter::with_capacity(alloc, capacity)?;
     push_all(&mut text, set, orders, stated)?;
     Ok(text.finish()?)
 }

@@ -1,4 +1,4 @@
--- The steps that led to the world have one order, and where nobody is midway the parts are what it makes.
+-- The steps that led to the world have one order, and if no client is active, the parts are what it makes.
 use Rattle.std.proofs.Common.{◌≡◌, Result, Ok, Err, IfOk, OnOk, sym, subst, ◌∙◌}
 use Rattle.std.specs.FinMap as map
 use Rattle.moc_lists.specs.RangeList.{NumberSet}
@@ -16,7 +16,7 @@ where_ok Q R (Err e) q p f = tt
 pub returns : goal.returns
 returns c =
     let w : BatchWorld = c.args.world.now in
-    let r = c.is_reached.ensures.reached in
+    let r = c.prove_reachable.ensures.reached in
     let one = c.steps_have_one_order.ensures r.start r.steps r.played in
     let counted = subst (λ (v : BatchWorld). map.len v.locks.clients ≡ midway r.steps) r.leads one.counted in
     let together = subst (λ (v : BatchWorld). midway r.steps ≡ 0 → whole batches v ≡ set_by_order batches v.order r.steps r.start) r.leads one.together in

@@ -1,6 +1,6 @@
 use Rattle.std.proofs.Common.{◌≡◌, take, length}
-use Rattle.moc_blocks.specs.Blocks.{joining}
+use Rattle.moc_blocks.specs.Blocks.{concat}
 use Rattle.moc_blocks.proofs.node.count_in_nodes.Given as goal
 
 abbrev pub invariant-loop-node : goal.invariant-loop-node
-invariant-loop-node l = l.total ≡ length (joining (joining (take l.node-index l.nodes)))
+invariant-loop-node l = l.total ≡ length (concat (concat (take l.node-index l.nodes)))

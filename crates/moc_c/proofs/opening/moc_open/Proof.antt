@@ -1,4 +1,4 @@
--- `moc_open` begins a desk at the room that it is given, or leaves the room.
+-- `moc_open` creates a store in the memory that it is given, or leaves the memory unused.
 use Rattle.std.proofs.Common.{◌≡◌, ℕ, List, [], ◌∷◌, ◌++◌, refl, sym, ap, ◌∙◌, subst, true, false, IfOk, lit<, T}
 use seplogic.Ra.Ura.{Ura}
 use base.Fraction.{full_share}
@@ -38,18 +38,18 @@ use Rattle.std_heap.specs.contracts.Global as Heap
 use Rattle.std.specs.declared.result.Result.TheVariants.{Ok, Err}
 use Rattle.std.specs.contracts.result.Result as RS
 use Rattle.std.specs.contracts.alloc.AllocError as AE
-use Rattle.moc_c.specs.Contents.{Contents, empty_desk as bare_contents}
+use Rattle.moc_c.specs.Contents.{Contents, empty_store as bare_contents}
 use Rattle.moc_c.proofs.AsBox.{E}
-use Rattle.moc_c.specs.contracts.desk.Desk as Desk
+use Rattle.moc_c.specs.contracts.store.Store as Store
 use Rattle.moc_c.specs.contracts.opening.moc_open as f
 use Rattle.moc_c.specs.contracts.opening.moc_open.Key.{name as #self}
 use Rattle.moc_c.proofs.opening.moc_open.Statement.{statement}
 use Rattle.moc_c.proofs.opening.moc_open.Code as code
-use Rattle.moc_c.specs.contracts.desk.Desk.bare as g
-use Rattle.moc_c.proofs.desk.Desk.bare.Met.{met}
+use Rattle.moc_c.specs.contracts.store.Store.create as g
+use Rattle.moc_c.proofs.store.Store.create.Met.{met}
 
 abbrev B : RattleType
-B = Desk.the_row
+B = Store.the_row
 
 abbrev boxed : B.Denot → box.D E
 boxed d = record { ptr = d.ptr; alloc = d.alloc; value = d.contents }
@@ -57,7 +57,7 @@ boxed d = record { ptr = d.ptr; alloc = d.alloc; value = d.contents }
 abbrev Res : RattleType
 Res = RS.the_row B AE.the_row
 
--- what is owned of a result that was answered: a desk, or nothing
+-- the ownership of a result: a store, or nothing
 module _ {M : Type 1} {𝓤 : Ura M} {𝓛 : Logic 𝓤} {K : Type 0} {Γ : List (Item 𝓤)} {G : Goal 𝓤 𝓛.H} where
   bare_tells : K → (r : Res.Denot) (u : Val)
       → ((d : B.Denot) (hv : Val) (b o : ℕ) → r ≡ Ok d → u ≡ live 0 (of_list (box.word E hv b o ∷ [])) → Fits E.al hv → Seq K 𝓛 (‵ (B.own_val d (box.word E hv b o ∷ [])) ∷ Γ) G)
@@ -96,11 +96,11 @@ moc_open_spec 𝓤 𝓛 𝓜 𝓡 wired =
     suffices ! (Run (hv ∷ vptr b o ∷ [])) (subst (λ (us : List Val). ent 𝓤 (Run (hv ∷ vptr b o ∷ [])) (Run us)) (sym args) (id⊢ 𝓤 (Run (hv ∷ vptr b o ∷ [])))) $
     enter ! 𝓣.C 𝓣.Λ fn (hv ∷ vptr b o ∷ []) Post $ alloc_all ! (λ l. pass_all ! refl (fa, ((tt, tt), tt)) $
     let En = env fn.locals l in
-    -- [the room; the handle; the locals]
+    -- [the memory; the box; the locals]
     move ! (1 ∷ []) $ nothing ! $ move ! (1 ∷ 0 ∷ []) $ fjoin ! $ nothing ! $ join ! $ nothing ! $ move ! (1 ∷ 0 ∷ []) $
     let k = triple_of 𝓛 g.signature (g.spec 𝓛 𝓜.mem 𝓡.returns) in let y : k.Ghost = ((tt, tt, tt, (a, tt), (hv ∷ [], tt)), tt) in
     use2 𝓛 (raw (k.pre y)) (id⊢ 𝓤 _) $
-    calls_at ! (framed 𝓤 H 𝓜 𝓣) k (met 𝓤 𝓛 𝓜 𝓡 (code.calls-moc_c::desk::Desk::bare 𝓡.env wired)) y (and_then ! (get ! refl) (no_more !)) (λ u.
+    calls_at ! (framed 𝓤 H 𝓜 𝓣) k (met 𝓤 𝓛 𝓜 𝓡 (code.calls-moc_c::store::Store::create 𝓡.env wired)) y (and_then ! (get ! refl) (no_more !)) (λ u.
     use1 𝓛 (later (some (λ (r : Res.Denot). (‵ ftrue ⊛ ‵ (Res.own_val r (u ∷ []))) ⊛ some (λ (ws : Unit {0} × Unit {0}). ‵ (lasts g.ended tt (a, tt) ws) ⊛ raw (fact 𝓤 (IfOk r (λ d. d.contents ≡ bare_contents))))))) (id⊢ 𝓤 _) $
     await ! tt $ pick ! (λ r. split ! $ move ! (1 ∷ []) $ pick ! (λ ws. split ! $ drop ! $ heard ! (IfOk r (λ d. d.contents ≡ bare_contents)) (λ told. split ! $ drop ! $
     let both : Body = head (after 1 fn.body) in
@@ -108,7 +108,7 @@ moc_open_spec 𝓤 𝓛 𝓜 𝓡 wired =
     bare_tells ! r u
     (λ d hv' b' o' is eu fd.
     let w : Val = box.word E hv' b' o' in let typed = box.box_typed E hv' b' o' fd in let told_bare = subst (λ (x : Res.Denot). IfOk x (λ d'. d'.contents ≡ bare_contents)) is told in
-    -- [the desk; the room; the locals]
+    -- [the store; the memory; the locals]
     lands_as ! eu refl (some_typed w typed) $ first ! $ switches_on ! (get_tag ! (vrt ! refl (fld ! refl (stop !))) (whole !)) $ exec ! 𝓣.C 𝓣.Λ En (arm_body 0 both) Then $
     sets ! (of_opd ! (get_in ! (vrt ! refl (fld ! refl (stop !))) (in_variant ! 0 0 refl refl (whole !)))) refl typed $
     sets ! (of_opd ! (get ! refl)) refl typed $
@@ -121,7 +121,7 @@ moc_open_spec 𝓤 𝓛 𝓜 𝓡 wired =
     suffices ! _ (ends_at 𝓛 f.ended stayed c z (vbool true) true (tt, (tt, tt)) (tt, (tt, tt))) $
     feq_i ! (List Val) (vbool true ∷ []) (vbool true ∷ []) refl $ nothing ! $ nothing ! $ join ! $ nothing ! $ join ! $ nothing ! $ group ! 3 $ done !)
     (λ eu.
-    -- [the room; the locals]
+    -- [the memory; the locals]
     lands_as ! eu refl none_typed $ first ! $ switches_on ! (get_tag ! (vrt ! refl (fld ! refl (stop !))) (whole !)) $ exec ! 𝓣.C 𝓣.Λ En (arm_body 1 both) Then $
     sets_last ! (of_opd ! (false_lit !)) refl (tt, tt) $
     exec ! 𝓣.C 𝓣.Λ En (after 2 fn.body) (at_ret En Post) $ sets ! (of_opd ! (get ! refl)) refl (tt, tt) $ returns ! (look_at ! 0 refl) $ free_all ! refl $

@@ -1,8 +1,8 @@
 use Rattle.std.proofs.Common.{subst}
-use Rattle.moc_forms.specs.declared.form.Form.TheVariants.{Ascii}
+use Rattle.moc_forms.specs.declared.format.Format.TheVariants.{Ascii}
 use Rattle.moc_c.specs.Contents.{Contents}
 use Rattle.moc_c.specs.Texts.{Reads}
 use Rattle.moc_c.proofs.texts.moc_read_ascii.Goals as goal
 
 pub returns : goal.returns
-returns c = subst (λ (d : Contents). Reads Ascii c.args.text.now d c.read.new.self c.read.result) c.shelf.ensures.value c.read.ensures
+returns c = subst (λ (d : Contents). Reads Ascii c.args.text.now d c.read.new.self c.read.result) c.table.ensures.value c.read.ensures

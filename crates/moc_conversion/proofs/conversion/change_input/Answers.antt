@@ -1,7 +1,7 @@
 use Rattle.std.proofs.Common.{◌∙◌, ℕ, Option, ap₂, subst₂}
 use Rattle.moc_lists.specs.RangeList.{NumberSet}
 use Rattle.moc_text.specs.AsciiText.{IsTooCoarse}
-use Rattle.moc_forms.specs.Forms.{form_text}
+use Rattle.moc_forms.specs.Formats.{format_text}
 use Rattle.moc_conversion.proofs.Checks.{no_memory}
 use Rattle.moc_conversion.proofs.Depths.{change_written}
 use Rattle.moc_conversion.proofs.conversion.change_input.Goals as goal
@@ -9,19 +9,19 @@ use Rattle.moc_conversion.proofs.conversion.change_input.Goals as goal
 pub text_of-requires : goal.text_of-requires
 text_of-requires g c = record {
   fits = λ coarse.
-      change_written c.args.change c.args.choice _ _ c.in_ok-said.said
-      c.in_ok-said.ensures.says
-      (subst₂ (λ (a : NumberSet) (k : Option ℕ). IsTooCoarse a k) c.in_ok-after.ensures.set c.stated.ensures.order coarse);
+      change_written c.args.change c.args.choice _ _ c.in_ok-parsed.parsed
+      c.in_ok-parsed.ensures.represents
+      (subst₂ (λ (a : NumberSet) (k : Option ℕ). IsTooCoarse a k) c.in_ok-after.ensures.set c.order_to_state.ensures.order coarse);
 }
 
 pub returns-clause-changes : goal.returns-clause-changes
 returns-clause-changes g c = (
-  c.in_ok-said.said,
-  c.in_ok-said.ensures.says,
-  c.in_ok-text_of.ensures.text ∙ ap₂ (form_text c.in_ok-said.said.form) c.in_ok-after.ensures.set c.stated.ensures.order,
+  c.in_ok-parsed.parsed,
+  c.in_ok-parsed.ensures.represents,
+  c.in_ok-text_of.ensures.text ∙ ap₂ (format_text c.in_ok-parsed.parsed.format) c.in_ok-after.ensures.set c.order_to_state.ensures.order,
 )
 
-pub returns-in_err-text_of-clause-fault : goal.returns-in_err-text_of-clause-fault
-returns-in_err-text_of-clause-fault g c =
+pub returns-in_err-text_of-clause-error : goal.returns-in_err-text_of-clause-error
+returns-in_err-text_of-clause-error g c =
     no_memory c.from_residual-in_err-text_of.result c.in_err-text_of.field-0.0 c.args.choice _ _
     c.from_residual-in_err-text_of.ensures.1 c.in_err-text_of.ensures.memory

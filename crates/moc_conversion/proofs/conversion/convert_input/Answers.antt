@@ -1,30 +1,30 @@
 use Rattle.std.proofs.Common.{ℕ, List, inl, inr, refl, subst}
-use Rattle.moc_forms.specs.Forms.{FormFails, FormSays}
-use Rattle.moc_conversion.specs.declared.fault.InputFault.TheVariants as fault
-use Rattle.moc_conversion.proofs.Checks.{not_read, told_alone}
+use Rattle.moc_forms.specs.Formats.{FormatFails, FormatRepresents}
+use Rattle.moc_conversion.specs.declared.fault.InputError.TheVariants as fault
+use Rattle.moc_conversion.proofs.Checks.{not_read, reported_alone}
 use Rattle.moc_conversion.proofs.Depths.{text_written}
 use Rattle.moc_conversion.proofs.conversion.convert_input.Goals as goal
 
-pub returns-in_err-set-clause-fault : goal.returns-in_err-set-clause-fault
-returns-in_err-set-clause-fault g c =
+pub returns-in_err-set-clause-error : goal.returns-in_err-set-clause-error
+returns-in_err-set-clause-error g c =
     let error = c.in_err-set.field-0.0 in
-    told_alone c.from_residual-in_err-set.result (fault.Form error) c.args.from _ _ c.from_residual-in_err-set.ensures.1
+    reported_alone c.from_residual-in_err-set.result (fault.Format error) c.args.from _ _ c.from_residual-in_err-set.ensures.1
     (not_read c.args.from _ _ c.in_ok-text.text.items error c.in_ok-text.ensures.whole
-    (subst (λ (bytes : List ℕ). FormFails c.args.from bytes error) c.deref.ensures.value c.in_err-set.ensures.fault))
+    (subst (λ (bytes : List ℕ). FormatFails c.args.from bytes error) c.deref.ensures.value c.in_err-set.ensures.error))
 
 pub text_of-requires : goal.text_of-requires
 text_of-requires g c = record {
-  fits = text_written c.args.from _ c.in_ok-set.set c.in_ok-set.deepest c.in_ok-set.ensures.says;
+  fits = text_written c.args.from _ c.in_ok-set.set c.in_ok-set.deepest c.in_ok-set.ensures.represents;
 }
 
-pub returns-in_err-text_of-clause-fault : goal.returns-in_err-text_of-clause-fault
-returns-in_err-text_of-clause-fault g c =
-    told_alone c.from_residual-in_err-text_of.result c.in_err-text_of.field-0.0 c.args.from _ _
+pub returns-in_err-text_of-clause-error : goal.returns-in_err-text_of-clause-error
+returns-in_err-text_of-clause-error g c =
+    reported_alone c.from_residual-in_err-text_of.result c.in_err-text_of.field-0.0 c.args.from _ _
     c.from_residual-in_err-text_of.ensures.1 (inl (inr (inr c.in_err-text_of.ensures.memory)))
 
 pub returns-clause-converts : goal.returns-clause-converts
 returns-clause-converts g c = (
-  record { set = c.in_ok-set.set; deepest = c.in_ok-set.deepest; form = c.args.from },
+  record { set = c.in_ok-set.set; deepest = c.in_ok-set.deepest; format = c.args.from },
   (
     c.in_ok-text.text.items,
     c.in_ok-text.ensures.whole.0,
@@ -32,7 +32,7 @@ returns-clause-converts g c = (
       c.in_ok-text.ensures.whole.1,
       c.in_ok-text.ensures.whole.2,
       (
-        subst (λ (bytes : List ℕ). FormSays c.args.from bytes c.in_ok-set.set c.in_ok-set.deepest) c.deref.ensures.value c.in_ok-set.ensures.says,
+        subst (λ (bytes : List ℕ). FormatRepresents c.args.from bytes c.in_ok-set.set c.in_ok-set.deepest) c.deref.ensures.value c.in_ok-set.ensures.represents,
         refl,
       ),
     ),

@@ -6,7 +6,7 @@ use Rattle.moc_conversion.proofs.reading.read_whole.Given as goal
 abbrev pub invariant-loop-input : goal.invariant-loop-input
 invariant-loop-input g l = record {
   unmarked : g.R.Source.mark l.input ≡ false;
-  room : 0 < length l.room.items;
+  buffer : 0 < length l.buffer.items;
   consumed : Delivers (g.R.Source.reading l.fn.input) (g.R.Source.reading l.input) l.text.items;
 }
 

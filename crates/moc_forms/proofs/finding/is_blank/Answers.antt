@@ -1,13 +1,13 @@
 use Rattle.std.proofs.Common.{◌≡◌, ◌∙◌, ℕ, Bool, true, false, cond, List, [], ◌∷◌, Some, ap, not, ◌&&◌, refl, sym}
 use Rattle.std.specs.Option.{is_some}
 use Rattle.moc_forms.specs.Combining.{are_blanks}
-use Rattle.moc_forms.specs.Finding.{first_byte, is_blank_byte}
+use Rattle.moc_forms.specs.Finding.{first_nonblank_byte, is_blank_byte}
 use Rattle.moc_forms.proofs.finding.is_blank.Goals as goal
 
--- what has no byte but blanks is blanks alone
-blanks_alone : (text : List ℕ) → not (is_some (first_byte text)) ≡ are_blanks text
+-- a text without a byte that is not a blank consists of blanks
+blanks_alone : (text : List ℕ) → not (is_some (first_nonblank_byte text)) ≡ are_blanks text
 blanks_alone [] = refl
-blanks_alone (b ∷ text) = elim (is_blank_byte b) as (λ v. not (is_some (cond (not v) (Some b) (first_byte text))) ≡ (v && are_blanks text)) [
+blanks_alone (b ∷ text) = elim (is_blank_byte b) as (λ v. not (is_some (cond (not v) (Some b) (first_nonblank_byte text))) ≡ (v && are_blanks text)) [
   | true ↦ blanks_alone text
   | false ↦ refl
 ]
@@ -18,4 +18,4 @@ not_not x false e = sym (ap not e)
 
 pub returns : goal.returns
 returns c =
-    not_not _ _ (ap is_some (sym c.first_byte.ensures) ∙ c.is_none.ensures) ∙ blanks_alone c.args.text.now
+    not_not _ _ (ap is_some (sym c.first_nonblank_byte.ensures) ∙ c.is_none.ensures) ∙ blanks_alone c.args.text.now

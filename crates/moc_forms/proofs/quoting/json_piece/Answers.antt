@@ -1,7 +1,7 @@
 use Rattle.std.proofs.Common.{◌∙◌, ap, sym}
 use Rattle.std.specs.Prelude.{option_map}
-use Rattle.moc_text.specs.declared.json_form.error.JsonPlace.{JsonPlace}
-use Rattle.moc_forms.proofs.Pieces.{stands_at, stands_nowhere}
+use Rattle.moc_text.specs.declared.json_format.error.JsonPlace.{JsonPlace}
+use Rattle.moc_forms.proofs.Pieces.{text_at_error, stands_nowhere}
 use Rattle.moc_forms.proofs.quoting.json_piece.Goals as goal
 
 pub returns-in_default : goal.returns-in_default
@@ -11,5 +11,5 @@ returns-in_default c =
 
 pub returns : goal.returns
 returns c =
-    stands_at c.args.text.now c.args.fault c.in-Some.place.name c.in-Some.place.item _
+    text_at_error c.args.text.now c.args.fault c.in-Some.place.name c.in-Some.place.item _
     (sym (ap (option_map (λ (p : JsonPlace). (p.name, p.item))) c.in-Some.is) ∙ c.place.ensures) c.in_ok-site.ensures.text

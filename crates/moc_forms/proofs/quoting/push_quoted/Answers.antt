@@ -4,8 +4,8 @@ use Rattle.std.proofs.lemmas.List.{take_all}
 use Rattle.moc_forms.specs.Quotes.{bytes_quoted}
 use Rattle.moc_forms.proofs.quoting.push_quoted.Goals as goal
 
-pub returns-else-piece-gt-QUOTED : goal.returns-else-piece-gt-QUOTED
-returns-else-piece-gt-QUOTED c =
+pub returns-else-piece-gt-MAX_QUOTE_BYTES : goal.returns-else-piece-gt-MAX_QUOTE_BYTES
+returns-else-piece-gt-MAX_QUOTE_BYTES c =
     let p = c.args.piece.now in
     let len : c.min.result ≡ length p = omega arith in
     let many : take c.min.result p ≡ take 40 p =

@@ -1,15 +1,15 @@
--- A piece is read.
+-- A piece is parsed.
 use Rattle.std.proofs.Common.{◌≡◌, ◌∙◌, length, sym, ap, Ok, arith, Vec, Global}
 use Rattle.moc_parts.specs.declared.command.Command.{Command}
 use Rattle.moc_lines.specs.Language.{command_of, commands_of}
 use Rattle.moc_text.specs.Lines.{pieces_of}
-use Rattle.moc_lines.proofs.Batching.{behind-fault, behind-last, behind-next, behind-nothing, first-within, pushed_is}
+use Rattle.moc_lines.proofs.Batching.{following-fault, following-last, following-next, following-nothing, first-within, pushed_is}
 use Rattle.moc_lines.proofs.Batching.{pieces-last, pieces-next, some-pieces}
 use Rattle.moc_lines.proofs.batch.read_pieces.Goals as goal
 
 pub loop-piece-init : goal.loop-piece-init
 loop-piece-init c = record {
-  said = behind-nothing c.new-commands.result.items (commands_of command_of (pieces_of c.args.line.now)) c.new-commands.ensures.items;
+  parsed = following-nothing c.new-commands.result.items (commands_of command_of (pieces_of c.args.line.now)) c.new-commands.ensures.items;
   pieces = omega arith;
   first = c.requires;
   within = first-within c.args.line.now c.args.first c.requires;
@@ -20,25 +20,25 @@ returns-clause-reads c = λ few. absurd (omega (arith, some-pieces c.loop-piece.
 
 pub returns-in-Err-clause-reads : goal.returns-in-Err-clause-reads
 returns-in-Err-clause-reads c =
-    λ _. behind-fault command_of {V = Vec Command Global} (λ v. v.items) _ _ _ _ _ c.in-Err.error c.loop-piece.invariant.first c.split_at.ensures.front c.loop-piece.invariant.said c.in-Err.ensures
+    λ _. following-fault command_of {V = Vec Command Global} (λ v. v.items) _ _ _ _ _ c.in-Err.error c.loop-piece.invariant.first c.split_at.ensures.front c.loop-piece.invariant.parsed c.in-Err.ensures
 
-pub returns-then-at-rest-clause-few : goal.returns-then-at-rest-clause-few
-returns-then-at-rest-clause-few c =
+pub returns-then-at-rest-clause-bounded : goal.returns-then-at-rest-clause-bounded
+returns-then-at-rest-clause-bounded c =
     let one : length (pieces_of c.loop-piece.rest.now) ≡ 1 = pieces-last _ _ c.loop-piece.invariant.first c.if-at-rest.true in
     omega arith
 
 pub returns-then-at-rest-clause-reads : goal.returns-then-at-rest-clause-reads
 returns-then-at-rest-clause-reads c =
-    λ _. c.loop-piece.invariant.said ∙ behind-last command_of _ c.in-Ok.command _ _ _ c.loop-piece.invariant.first c.if-at-rest.true c.split_at.ensures.front c.in-Ok.ensures
+    λ _. c.loop-piece.invariant.parsed ∙ following-last command_of _ c.in-Ok.command _ _ _ c.loop-piece.invariant.first c.if-at-rest.true c.split_at.ensures.front c.in-Ok.ensures
     ∙ ap (λ l. Ok l) (sym (pushed_is c.push.result _ _ _ (sym c.is_err.ensures.value ∙ c.if-is_err.false) c.push.ensures.items))
 
 pub loop-piece-preserved : goal.loop-piece-preserved
 loop-piece-preserved c =
     let next = pieces-next _ _ _ _ c.loop-piece.invariant.first (omega arith) c.split_at.ensures.back c.split_at-in-loop-piece.ensures.back in
     record {
-      said = behind-next command_of _ _ c.in-Ok.command _ _ _ _ _ _ c.loop-piece.invariant.first (omega arith) c.split_at.ensures.front c.split_at.ensures.back c.split_at-in-loop-piece.ensures.back
+      parsed = following-next command_of _ _ c.in-Ok.command _ _ _ _ _ _ c.loop-piece.invariant.first (omega arith) c.split_at.ensures.front c.split_at.ensures.back c.split_at-in-loop-piece.ensures.back
           (pushed_is c.push.result _ _ _ (sym c.is_err.ensures.value ∙ c.if-is_err.false) c.push.ensures.items)
-          c.loop-piece.invariant.said c.in-Ok.ensures;
+          c.loop-piece.invariant.parsed c.in-Ok.ensures;
       pieces = omega arith;
       first = c.first_semicolon-at.ensures.at;
       within = c.first_semicolon-at.ensures.within;

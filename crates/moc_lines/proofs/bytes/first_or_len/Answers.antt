@@ -1,4 +1,4 @@
--- The first place that memchr finds, and the length where it finds none, is the byte's.
+-- The first position that memchr returns, or the length if it returns none, is that of the byte.
 use Rattle.std.proofs.Common.{sym, arith, eqb}
 use Rattle.std.proofs.lemmas.List.Sums.{position_or_len_is}
 use Rattle.moc_lines.proofs.LineLemmas.{not_true}

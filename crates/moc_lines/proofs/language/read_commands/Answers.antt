@@ -2,16 +2,16 @@
 use Rattle.std.proofs.Common.{◌≡◌, List, Result, Ok, Err, sym, subst, arith}
 use Rattle.std.specs.Prelude.{IsErrAnd}
 use Rattle.moc_parts.specs.declared.command.Command.{Command}
-use Rattle.moc_lines.specs.Language.{command_of, batch_of, commands_in, ReadsText}
-use Rattle.moc_lines.specs.declared.fault.LineFault.{LineFault}
+use Rattle.moc_lines.specs.Language.{command_of, batch_of, commands_in, ParsesAs}
+use Rattle.moc_lines.specs.declared.fault.LineError.{LineError}
 use Rattle.moc_lines.specs.declared.fault.ReadError.{ReadError}
 use Rattle.moc_lines.specs.declared.language.Commands.{Commands}
 use Rattle.moc_lines.proofs.Batching.{reads-alone}
 use Rattle.moc_lines.proofs.language.read_commands.Goals as goal
 
-handed_on : (r : Result Commands ReadError) (e : ReadError) (says : Result (List Command) LineFault) → IsErrAnd r (λ f. f ≡ e) → ReadsText {X = Commands} commands_in (Err e) says → ReadsText commands_in r says
-handed_on (Ok x) e says same reads = absurd same
-handed_on (Err f) e says same reads = subst (λ (f : ReadError). ReadsText {X = Commands} commands_in (Err f) says) (sym same) reads
+handed_on : (r : Result Commands ReadError) (e : ReadError) (denotes : Result (List Command) LineError) → IsErrAnd r (λ f. f ≡ e) → ParsesAs {X = Commands} commands_in (Err e) denotes → ParsesAs commands_in r denotes
+handed_on (Ok x) e denotes same reads = absurd same
+handed_on (Err f) e denotes same reads = subst (λ (f : ReadError). ParsesAs {X = Commands} commands_in (Err f) denotes) (sym same) reads
 
 pub returns-in_ok-read_piece : goal.returns-in_ok-read_piece
 returns-in_ok-read_piece c = reads-alone command_of c.args.line.now (Ok c.in_ok-read_piece.field-0) (omega (arith, c.first_semicolon-first.ensures.at)) c.in_ok-read_piece.ensures

@@ -1,4 +1,4 @@
--- What is found by a NUNIQ number, and what is not.
+-- The result for a NUNIQ number, and for any other number.
 use Rattle.std.proofs.Common.{sym, refl, ◌∙◌, arith, ◌≤◌}
 use mathlib.Core.Bool.{true≢false}
 use Rattle.moc_lines.proofs.NumberingLemmas.{no_uniq, uniq, other_uniq}

@@ -1,22 +1,22 @@
--- Each read brings more, until there is none.
+-- Each read appends bytes, until there are none.
 use Rattle.std.proofs.Common.{◌≡◌, ◌∙◌, ◌≤◌, ◌||◌, Bool, true, false, ℕ, List, ◌++◌, length, take, drop, Ok, Err, refl, sym, ap, subst, arith, length-take, length-append, length-drop, append-nil}
 use Rattle.std.specs.Result.{IsErrOf}
 use Rattle.moc_devices.specs.Devices.{Delivers}
 use Rattle.moc_devices.specs.Lemmas.{Delivers-nil}
 use Rattle.std.proofs.lemmas.List.{take-append-le, take-take}
 use Rattle.std.proofs.lemmas.Bool.{false≢true}
-use Rattle.moc_lines.specs.declared.reading.InputError.{InputError}
-use Rattle.moc_lines.proofs.WholeReading.{held_new, held_all, given_more, given_all}
+use Rattle.moc_lines.specs.declared.reading.ScriptInputError.{ScriptInputError}
+use Rattle.moc_lines.proofs.WholeReading.{script_new, script_short, given_more, given_all}
 use Rattle.moc_lines.proofs.reading.read_all.Goals as goal
 
 unmarked : (new old : Bool) → new ≡ old || false → new ≡ old
 unmarked new true e = e
 unmarked new false e = e
 
-same_fault : {T : Type 0} (a b : InputError) → IsErrOf {T = T} (Err a) b → a ≡ b
+same_fault : {T : Type 0} (a b : ScriptInputError) → IsErrOf {T = T} (Err a) b → a ≡ b
 same_fault a b is = cc
 
-not_both : {T : Type 0} (value : T) (e : InputError) → IsErrOf (Ok value) e → ⊥
+not_both : {T : Type 0} (value : T) (e : ScriptInputError) → IsErrOf (Ok value) e → ⊥
 not_both value e is = cc
 
 failed : (new old : Bool) → new ≡ old || true → new ≡ true
@@ -30,7 +30,7 @@ front len count buffer items few within =
 
 pub loop-script-init : goal.loop-script-init
 loop-script-init g c = record {
-  held = held_new c.new-script.result.bytes.items c.new-script.result.start c.new-script.ensures.0 c.new-script.ensures.1;
+  held = script_new c.new-script.result.bytes.items c.new-script.result.start c.new-script.ensures.0 c.new-script.ensures.1;
   given = subst (Delivers (g.R.Source.reading c.args.reader.now) (g.R.Source.reading c.args.reader.now)) (sym c.new-script.ensures.0) (Delivers-nil (g.R.Source.reading c.args.reader.now));
   reader = c.requires.reader;
   long = omega (arith, c.in-Ok.ensures.len, c.in-Ok.chunk.ok);
@@ -44,7 +44,7 @@ returns-in-Ok-eq0 g c =
       all = (
         given_all _ _ _ c.loop-script.script.bytes.items c.read.new.buffer c.in-Ok-eq0.field-0 was.given c.in-Ok-eq0.ensures.bytes.0 c.in-Ok-eq0.field-0-test,
         c.in-Ok-eq0.ensures.bytes.1 c.in-Ok-eq0.field-0-test (omega (arith, was.long, c.deref_mut.ensures.len, c.read.auto.buffer, c.loop-script.chunk.ok)),
-        held_all c.loop-script.script.bytes.items c.loop-script.script.start was.held,
+        script_short c.loop-script.script.bytes.items c.loop-script.script.start was.held,
       );
       fails = tt;
       read = (λ e. absurd (not_both _ _ e), λ is. absurd (false≢true (sym none ∙ is)));

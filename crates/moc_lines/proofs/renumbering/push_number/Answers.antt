@@ -1,4 +1,4 @@
--- A number of 64 bits has 20 digits at most.
+-- A number of 64 bits has at most 20 digits.
 use Rattle.std.proofs.Common.{arith}
 use Rattle.std.proofs.lemmas.Fmt.{length-decimal-le}
 use Rattle.moc_lines.proofs.renumbering.push_number.Goals as goal

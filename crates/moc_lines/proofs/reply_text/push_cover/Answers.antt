@@ -1,4 +1,4 @@
--- `cover` stands alone for the empty set.
+-- The text of the empty set is `cover` alone.
 use Rattle.std.proofs.Common.{◌++◌, sym, ap, ◌∙◌, append_assoc, codes}
 use Rattle.std.proofs.lemmas.Bool.{false≢true}
 use Rattle.moc_lines.proofs.CoverLemmas.{cover_text-empty, cover_text-some}

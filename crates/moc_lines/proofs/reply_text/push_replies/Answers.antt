@@ -1,4 +1,4 @@
--- One more text stands behind those before it.
+-- One more text follows those before it.
 use Rattle.std.proofs.Common.{arith}
 use Rattle.std.proofs.lemmas.Grind.{common_steps}
 use Rattle.moc_lines.proofs.reply_text.push_replies.Goals as goal

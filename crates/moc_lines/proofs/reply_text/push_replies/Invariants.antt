@@ -1,4 +1,4 @@
--- What is told and the texts of what is left are the texts of all.
+-- The text so far and the texts of the other replies are the texts of all.
 use Rattle.std.proofs.Common.{◌≡◌, ◌++◌, codes, drop}
 use Rattle.std.specs.List.{flat_map}
 use Rattle.moc_lines.specs.Language.{reply_text, replies_text}

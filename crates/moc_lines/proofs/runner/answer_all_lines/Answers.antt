@@ -1,4 +1,4 @@
--- What a run that succeeds has answered.
+-- The input of a run that succeeds is answered whole.
 use Rattle.moc_lines.proofs.Endings.{AnswersAll-ok}
 use Rattle.moc_lines.proofs.runner.answer_all_lines.Goals as goal
 

@@ -1,4 +1,4 @@
--- The set starts empty.
+-- The set is empty at first.
 use Rattle.moc_lines.proofs.script.run.Goals as goal
 
 pub returns : goal.returns

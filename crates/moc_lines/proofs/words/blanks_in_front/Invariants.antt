@@ -1,4 +1,4 @@
--- Behind the blanks that were counted stand the others of the front.
+-- After the counted blanks come the other leading blanks.
 use Rattle.std.proofs.Common.{◌≡◌, ◌+◌, drop}
 use Rattle.std.specs.List.{prefix_len}
 use Rattle.moc_lines.specs.Language.{is_line_blank}

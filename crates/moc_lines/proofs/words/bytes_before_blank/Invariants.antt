@@ -1,4 +1,4 @@
--- Behind the bytes that were counted stand the others before the first blank.
+-- After the counted bytes come the other bytes before the first blank.
 use Rattle.std.proofs.Common.{◌≡◌, ◌+◌, drop}
 use Rattle.std.specs.List.{position_or_len}
 use Rattle.moc_lines.specs.Language.{is_line_blank}

@@ -4,7 +4,7 @@ use Rattle.moc_blocks.proofs.Stepping.{spent_within}
 use Rattle.moc_lists.proofs.steps.find_range.Goals as goal
 
 pub step-requires : goal.step-requires
-step-requires c = omega (arith, spent_within _ _ _ _ _ _ _ _ c.loop-low.invariant (omega arith), c.requires.room)
+step-requires c = omega (arith, spent_within _ _ _ _ _ _ _ _ c.loop-low.invariant (omega arith), c.requires.capacity)
 
 pub loop-low-preserved-then-pixel-range : goal.loop-low-preserved-then-pixel-range
 loop-low-preserved-then-pixel-range c =

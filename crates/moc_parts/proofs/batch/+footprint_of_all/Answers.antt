@@ -5,15 +5,15 @@ use Rattle.moc_parts.specs.Batches.{footprint_of_all}
 use Rattle.moc_parts.proofs.Flags.{either_has, lacking}
 use Rattle.moc_parts.proofs.batch.+footprint_of_all.Goals as goal
 
-nothing : (cs : List Command) (b : ℕ) → length cs ≡ 0 → false ≡ footprint_of_all cs b
-nothing [] b none = refl
-nothing (c ∷ cs) b none = absurd (omega arith)
+no_pixels : (cs : List Command) (b : ℕ) → length cs ≡ 0 → false ≡ footprint_of_all cs b
+no_pixels [] b none = refl
+no_pixels (c ∷ cs) b none = absurd (omega arith)
 
 or_nothing : (x : Bool) → x ≡ (x || false)
 or_nothing true = refl
 or_nothing false = refl
 
--- the footprint of one command alone is that of the batch
+-- the footprint of a batch of one command is that of the command
 alone : (first : Command) (rest cs : List Command) (b : ℕ) → cs ≡ first ∷ rest → length rest ≡ 0
     → footprint first b ≡ footprint_of_all cs b
 alone first [] cs b is none = or_nothing (footprint first b) ∙ ap (λ xs. footprint_of_all xs b) (sym is)
@@ -32,4 +32,4 @@ returns-in-Some-2 t c b l =
     ∙ search rules
 
 pub returns-in-None : goal.returns-in-None
-returns-in-None t c b l = lacking c.none.result b c.none.ensures ∙ nothing c.args.commands.now b c.in-None.ensures.cases
+returns-in-None t c b l = lacking c.none.result b c.none.ensures ∙ no_pixels c.args.commands.now b c.in-None.ensures.cases

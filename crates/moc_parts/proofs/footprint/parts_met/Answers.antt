@@ -24,7 +24,7 @@ loop-b-init c = (omega arith, λ k l. lacking c.none-parts.result k c.none-parts
     none : (k : ℕ) (t : Bool) → false ≡ (nat_lt k 0 && t)
     none k t = grind (arith, nat_tests)
 
--- the parts up to the next one that is met
+-- the parts up to and including the next one with a pixel
 hop : (from b k : ℕ) (x : Bool) → from ≤ b → (b ≡ k → x ≡ true) → (from ≤ k → x ≡ true → b ≤ k) → (nat_eq b k || (nat_lt k from && x)) ≡ (nat_lt k (b + 1) && x)
 hop from b k true le here first = elim (cases_lt k from) [
   | inl lt ↦ grind (arith, nat_tests)
@@ -35,7 +35,7 @@ hop from b k false le here first = elim (cases_eq b k) [
   | inr apart ↦ grind (arith, nat_tests)
 ]
 
--- and no further one where none is left
+-- no further part if no part with a pixel remains
 last_hop : (from k : ℕ) (x : Bool) → (from ≤ k → x ≡ true → ⊥) → (nat_lt k from && x) ≡ x
 last_hop from k true none = elim (cases_lt k from) [
   | inl lt ↦ grind (arith, nat_tests)
@@ -47,13 +47,13 @@ pub loop-b-preserved : goal.loop-b-preserved
 loop-b-preserved c =
     let b : ℕ = c.in-Some.b in
     let has : ℕ → Bool = λ n. nat_lt 0 (set.len (part_of c.args.operand.now n)) in
-    let found = c.in-Some.ensures.found in
-    let low = found.1 in (
+    let previous = c.in-Some.ensures.found in
+    let low = previous.1 in (
       omega arith,
       λ k l.
           inserted c.loop-b.parts c.insert-in-Some.new.self c.of-in-Some.result k c.insert-in-Some.ensures
           ∙ (λ i. nat_eq (c.of-in-Some.ensures i) k || c.loop-b.invariant.1 k l i)
-          ∙ hop c.loop-b.from b k (has k) found.0 (λ e. ap has (sym e) ∙ found.2) (c.in-Some.ensures.first k),
+          ∙ hop c.loop-b.from b k (has k) previous.0 (λ e. ap has (sym e) ∙ previous.2) (c.in-Some.ensures.first k),
     )
 
 pub returns-clause-parts : goal.returns-clause-parts

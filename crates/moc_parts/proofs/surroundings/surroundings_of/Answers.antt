@@ -7,7 +7,7 @@ use Rattle.moc_sphere.specs.CellNumber.{cell_count, cell_number}
 use Rattle.moc_lists.specs.RangeList.{NumberSet}
 use Rattle.moc_ranges.specs.Cells.{spans, pixels_of}
 use Rattle.moc_parts.specs.Commands.{surroundings}
-use Rattle.moc_parts.proofs.Around.{one_cell, one_cell_more}
+use Rattle.moc_parts.proofs.CellSurroundings.{one_cell, one_cell_more}
 use Rattle.moc_parts.proofs.surroundings.surroundings_of.Goals as goal
 
 pub loop-index-init : goal.loop-index-init

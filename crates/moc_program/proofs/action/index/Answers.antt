@@ -1,7 +1,7 @@
 use Rattle.std.proofs.Common.{sym}
 use Rattle.std.specs.Str.Parse.{ParsesUnsigned, ExplainsUnsignedError, HasUnsignedDigitsIfOk}
 use Rattle.clap.specs.Words.{found_of}
-use Rattle.moc_program.proofs.Asking.{number_read}
+use Rattle.moc_program.proofs.Requests.{number_read}
 use Rattle.moc_program.proofs.action.index.Goals as goal
 
 pub returns : goal.returns

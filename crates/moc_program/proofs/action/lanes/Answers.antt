@@ -1,10 +1,10 @@
 use Rattle.std.proofs.Common.{codes, rules, sym}
 use Rattle.std.specs.Str.Parse.{ParsesUnsigned, ExplainsUnsignedError, HasUnsignedDigitsIfOk}
-use Rattle.moc_program.specs.Asking.{HasNumber}
+use Rattle.moc_program.specs.Requests.{HasNumber}
 use Rattle.moc_program.specs.Private.Matches.{values_of}
 use Rattle.clap.specs.Words.{found_of}
 use Rattle.moc_script.specs.Crews.{lane_count}
-use Rattle.moc_program.proofs.Asking.{of_number, some_number_read}
+use Rattle.moc_program.proofs.Requests.{of_number, some_number_read}
 use Rattle.moc_program.proofs.action.lanes.Goals as goal
 
 pub returns : goal.returns

@@ -2,7 +2,7 @@ use Rattle.std.proofs.Common.{rules}
 use Rattle.moc_lines.specs.Numberings.{numbering_name}
 use Rattle.moc_lines.specs.declared.name_error.NumberingNameError.TheVariants.{NotNumbering}
 use Rattle.clap.specs.Words.{found_of}
-use Rattle.moc_program.proofs.Asking.{word_read}
+use Rattle.moc_program.proofs.Requests.{word_read}
 use Rattle.moc_program.proofs.action.numbering.Goals as goal
 
 pub returns : goal.returns

@@ -1,8 +1,8 @@
 use Rattle.std.proofs.Common.{codes, rules}
 use Rattle.moc_forms.specs.Combining.{operation_name}
-use Rattle.moc_forms.specs.declared.name_error.FormNameError.TheVariants.{NotOperation}
+use Rattle.moc_forms.specs.declared.name_error.FormatNameError.TheVariants.{NotOperation}
 use Rattle.clap.specs.Words.{found_of}
-use Rattle.moc_program.proofs.Asking.{word_read}
+use Rattle.moc_program.proofs.Requests.{word_read}
 use Rattle.moc_program.proofs.action.operation.Goals as goal
 
 pub returns : goal.returns

@@ -1,9 +1,9 @@
 use Rattle.std.proofs.Common.{codes, rules, sym}
 use Rattle.std.specs.Str.Parse.{ParsesUnsigned, ExplainsUnsignedError, HasUnsignedDigitsIfOk}
-use Rattle.moc_program.specs.Asking.{HasNumber}
+use Rattle.moc_program.specs.Requests.{HasNumber}
 use Rattle.moc_program.specs.Private.Matches.{values_of}
 use Rattle.clap.specs.Words.{found_of}
-use Rattle.moc_program.proofs.Asking.{of_small_number, some_number_read}
+use Rattle.moc_program.proofs.Requests.{of_small_number, some_number_read}
 use Rattle.moc_program.proofs.action.order.Goals as goal
 
 pub returns : goal.returns

@@ -1,4 +1,4 @@
--- The words so far have no control character.
+-- The arguments so far have no control character.
 use Rattle.std.proofs.Common.{◌≡◌, drop}
 use Rattle.std.specs.Prelude.{map}
 use Rattle.std.specs.List.{list_any}
@@ -7,4 +7,4 @@ use Rattle.moc_program.proofs.explaining.has_control_character.Given as goal
 
 abbrev pub invariant-loop-word : goal.invariant-loop-word
 invariant-loop-word g l =
-    list_any has_control (map g.S.AsStr.text (drop l.word-index l.words)) ≡ list_any has_control (map g.S.AsStr.text l.words)
+    list_any has_control (map g.S.AsStr.text (drop l.word-index l.arguments)) ≡ list_any has_control (map g.S.AsStr.text l.arguments)

@@ -1,4 +1,4 @@
--- The others so far stand behind the first.
+-- The others so far follow the first.
 use Rattle.std.proofs.Common.{◌≡◌, ◌++◌, take}
 use Rattle.std.specs.String.{string_bytes}
 use Rattle.moc_program.proofs.NumberLines.{spaced}

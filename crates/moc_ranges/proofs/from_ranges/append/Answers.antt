@@ -9,7 +9,7 @@ pub returns-then-end_below-clause-normal : goal.returns-then-end_below-clause-no
 returns-then-end_below-clause-normal c =
     let below = subst (λ (l : List (ℕ × ℕ)). EndsBelow c.args.from l) c.deref.ensures.value c.if-end_below.ensures.below in
     subst IsNormal (sym c.in_ok-push.ensures.items)
-    (pushed_normal c.args.ranges.now.items (c.args.from, c.args.to) c.requires.normal c.requires.rising c.requires.within below)
+    (pushed_normal c.args.ranges.now.items (c.args.from, c.args.to) c.requires.normal c.requires.ascending c.requires.within below)
 
 pub returns-then-end_below-clause-set : goal.returns-then-end_below-clause-set
 returns-then-end_below-clause-set c = ap set_of c.in_ok-push.ensures.items ∙ set_of-push c.args.ranges.now.items (c.args.from, c.args.to)

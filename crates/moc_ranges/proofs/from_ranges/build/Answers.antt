@@ -33,7 +33,7 @@ returns c =
     let others = take (length c.args.pairs.now - 1) (drop 1 c.args.pairs.now) in
     IfOk-weaker c.finish-2.result _ _
     (λ made is. ap set_of is ∙ same_view _ c.args.pairs.now
-    (lengthened_all _ _ _ _ c.loop-pair.last c.loop-pair.invariant (drop_all c.loop-pair.pair-index others c.loop-pair-test.false) c.in_ok-push.ensures.kept))
+    (lengthened_all _ _ _ _ c.loop-pair.last c.loop-pair.invariant (drop_all c.loop-pair.pair-index others c.loop-pair-test.false) c.in_ok-push.ensures.appended))
     c.finish-2.ensures
 
 pub returns-in_default : goal.returns-in_default
@@ -43,17 +43,17 @@ returns-in_default c =
     (λ made is. ap set_of (is ∙ ap ranges_of c.in_ok-built.ensures ∙ sym none))
     c.finish.ensures
 
-pub lengthen-requires-clause-filled : goal.lengthen-requires-clause-filled
-lengthen-requires-clause-filled c =
+pub extend_or_push-requires-clause-filled : goal.extend_or_push-requires-clause-filled
+extend_or_push-requires-clause-filled c =
     let others = take (length c.args.pairs.now - 1) (drop 1 c.args.pairs.now) in
     (lengthened_next c.loop-pair.last _ _ _ c.loop-pair.invariant.sorted (drop_more others c.loop-pair.pair-index (0, 0) c.loop-pair-test.true)).1
 
-pub lengthen-requires-clause-within : goal.lengthen-requires-clause-within
-lengthen-requires-clause-within c =
+pub extend_or_push-requires-clause-within : goal.extend_or_push-requires-clause-within
+extend_or_push-requires-clause-within c =
     let others = take (length c.args.pairs.now - 1) (drop 1 c.args.pairs.now) in
     (lengthened_next c.loop-pair.last _ _ _ c.loop-pair.invariant.sorted (drop_more others c.loop-pair.pair-index (0, 0) c.loop-pair-test.true)).2
 
-pub lengthen-requires-clause-later : goal.lengthen-requires-clause-later
-lengthen-requires-clause-later c =
+pub extend_or_push-requires-clause-later : goal.extend_or_push-requires-clause-later
+extend_or_push-requires-clause-later c =
     let others = take (length c.args.pairs.now - 1) (drop 1 c.args.pairs.now) in
     (lengthened_next c.loop-pair.last _ _ _ c.loop-pair.invariant.sorted (drop_more others c.loop-pair.pair-index (0, 0) c.loop-pair-test.true)).0

@@ -9,7 +9,7 @@ use Rattle.moc_ranges.proofs.Views.{same_view}
 use Rattle.moc_ranges.proofs.Widening.{size_sorted}
 use Rattle.moc_ranges.proofs.from_ranges.build_widened.Goals as goal
 
--- the next range comes widened
+-- the next range after widening
 come : (xs rest : List (ℕ × ℕ)) (range wide : ℕ × ℕ) (size : ℕ) → xs ≡ range ∷ rest → wide ≡ widen size range → map (widen size) xs ≡ wide ∷ map (widen size) rest
 come xs rest range wide size steps is = ap (map (widen size)) steps ∙ ap (λ (r : ℕ × ℕ). r ∷ map (widen size) rest) (sym is)
 
@@ -23,7 +23,7 @@ loop-from-init c =
     record {
       continues = (tt, tt);
       normal = normal.3;
-      joined = lengthened_start _ (map (widen w) c.into_iter-from-iterator.result) (map (widen w) c.args.ranges) c.cells_around-last.result (ap ranges_of c.in_ok-built.ensures) (size_sorted w c.args.ranges c.requires.size c.requires.ranges) (come c.args.ranges c.into_iter-from-iterator.result range c.cells_around-last.result w steps c.cells_around-last.ensures);
+      joined = lengthened_start _ (map (widen w) c.into_iter-from-iterator.result) (map (widen w) c.args.ranges) c.widen_range-last.result (ap ranges_of c.in_ok-built.ensures) (size_sorted w c.args.ranges c.requires.size c.requires.ranges) (come c.args.ranges c.into_iter-from-iterator.result range c.widen_range-last.result w steps c.widen_range-last.ensures);
     }
 
 pub loop-from-preserved : goal.loop-from-preserved
@@ -34,7 +34,7 @@ loop-from-preserved c =
     record {
       continues = (tt, tt);
       normal = normal.3;
-      joined = lengthened_more _ _ (map (widen w) c.loop-from.from-iterator) (map (widen w) c.next-in-loop-from.new.self) (map (widen w) c.args.ranges) _ _ c.cells_around-next.result c.loop-from.invariant.joined (come c.loop-from.from-iterator c.next-in-loop-from.new.self range c.cells_around-next.result w c.in-Some-2.ensures.steps c.cells_around-next.ensures) c.in_ok-last.ensures.opened c.in_ok-last.ensures.later c.in_ok-last.ensures.same;
+      joined = lengthened_more _ _ (map (widen w) c.loop-from.from-iterator) (map (widen w) c.next-in-loop-from.new.self) (map (widen w) c.args.ranges) _ _ c.widen_range-next.result c.loop-from.invariant.joined (come c.loop-from.from-iterator c.next-in-loop-from.new.self range c.widen_range-next.result w c.in-Some-2.ensures.steps c.widen_range-next.ensures) c.in_ok-last.ensures.opened c.in_ok-last.ensures.later c.in_ok-last.ensures.same;
     }
 
 pub push-requires-clause-filled : goal.push-requires-clause-filled
@@ -50,5 +50,5 @@ pub returns : goal.returns
 returns c =
     IfOk-weaker c.finish-2.result _ _
     (λ made is. ap set_of is ∙ same_view _ (map (widen c.args.size) c.args.ranges)
-    (lengthened_all _ (map (widen c.args.size) c.loop-from.from-iterator) _ _ c.loop-from.last c.loop-from.invariant.joined (ap (map (widen c.args.size)) c.in-None.ensures.steps.0) c.in_ok-push.ensures.kept))
+    (lengthened_all _ (map (widen c.args.size) c.loop-from.from-iterator) _ _ c.loop-from.last c.loop-from.invariant.joined (ap (map (widen c.args.size)) c.in-None.ensures.steps.0) c.in_ok-push.ensures.appended))
     c.finish-2.ensures

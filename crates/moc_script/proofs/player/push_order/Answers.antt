@@ -1,4 +1,4 @@
--- The texts of all entries are told.
+-- The texts of all entries are appended.
 use Rattle.std.proofs.Common.{sym, ap, ◌∙◌, ◌++◌, append-nil}
 use Rattle.std.specs.List.{flat_map}
 use Rattle.std.proofs.lemmas.List.{drop_all}

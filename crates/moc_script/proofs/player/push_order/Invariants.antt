@@ -1,4 +1,4 @@
--- What is told and the texts of what is left are the texts of all.
+-- The text so far and the texts of the other entries are the texts of all.
 use Rattle.std.proofs.Common.{◌≡◌, ◌++◌, drop}
 use Rattle.std.specs.List.{flat_map}
 use Rattle.moc_script.proofs.Beginnings.{begin_of_entry}

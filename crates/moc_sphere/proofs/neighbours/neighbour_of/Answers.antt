@@ -4,7 +4,7 @@ use Rattle.moc_sphere.proofs.FaceBounds.{index_below}
 use Rattle.moc_sphere.proofs.Neighbouring.{one_found, one_only, one_touches}
 use Rattle.moc_sphere.proofs.neighbours.neighbour_of.Goals as goal
 
--- the cell's number is one of its order
+-- the cell's index is in the range of its order
 in_range : (c : goal.After-at_step) → c.args.cell.index < cell_count c.args.cell.order
 in_range c = index_below c.args.cell.order c.args.cell.index (subst (λ f. f < 12) (sym c.requires.place.face) c.requires.face)
 

@@ -6,7 +6,7 @@ use Rattle.moc_sphere.proofs.FaceBounds.{index_below}
 use Rattle.moc_sphere.proofs.neighbours.touching_across.Goals as goal
 use Rattle.moc_sphere.proofs.neighbours.touching_across.Goals.{then-step-ne4+in-Some, then-step-ne4+in_default, else-step-ne4}
 
--- the cell's number is one of its order
+-- the cell's index is in the range of its order
 in_range : (c : goal.After-loop-step) → c.args.cell.index < cell_count c.args.cell.order
 in_range c = index_below c.args.cell.order c.args.cell.index (subst (λ f. f < 12) (sym c.requires.place.face) c.requires.face)
 
@@ -28,10 +28,10 @@ loop-step-preserved c =
     elim c.if-step-ne4.branch [
       | then-step-ne4+in-Some w ↦
           rw w.cells-is (record {
-            room = w.insert_rising.ensures.capacity ∙ c.loop-step.invariant.room;
-            found = found_some k i d c.loop-step.cells.items f w.index.result w.insert_rising.new.list.items w.if-step-ne4.true
+            room = w.insert_sorted.ensures.capacity ∙ c.loop-step.invariant.room;
+            found = found_some k i d c.loop-step.cells.items f w.index.result w.insert_sorted.new.list.items w.if-step-ne4.true
                 (subst (λ j. IsAtStep k i d j) (sym w.index.ensures.value) w.in-Some.ensures.1)
-                w.insert_rising.ensures.rising w.insert_rising.ensures.len w.insert_rising.ensures.has;
+                w.insert_sorted.ensures.ascending w.insert_sorted.ensures.len w.insert_sorted.ensures.has;
           })
       | then-step-ne4+in_default w ↦
           rw w.cells-is (record {

@@ -16,7 +16,7 @@ overflow_add-across c =
     let v : c.index.result / 2 ^ (2 * j) ≡ face_of k i = ap (λ n. n / 2 ^ (2 * j)) c.index.ensures.value ∙ face_code k j i level in
     let f = face_in_range k i c.requires.cell.index_in_range in
     let o = is_off k i c.args.x c.args.y c.requires.x c.requires.y c.requires.x_above c.requires.x_below c.requires.y_above c.requires.y_below in
-    omega (arith, across_fits k (face_of k i) (x_of k i - 1) _ j _ level c.get-digits.ensures.in_range v f (omega (arith, o.x_below)) (c.spread_before.ensures (x_of k i) o.x_above (omega (arith, in_word k (x_of k i) c.requires.cell.order_in_range o.x_below)) c.requires.x))
+    omega (arith, across_fits k (face_of k i) (x_of k i - 1) _ j _ level c.get-digits.ensures.in_range v f (omega (arith, o.x_below)) (c.spread_decrement.ensures (x_of k i) o.x_above (omega (arith, in_word k (x_of k i) c.requires.cell.order_in_range o.x_below)) c.requires.x))
 
 pub overflow_add-across-2 : goal.overflow_add-across-2
 overflow_add-across-2 c =
@@ -29,8 +29,8 @@ overflow_add-across-2 c =
     let o = is_off k i c.args.x c.args.y c.requires.x c.requires.y c.requires.x_above c.requires.x_below c.requires.y_above c.requires.y_below in
     omega (arith, across_fits k (face_of k i) (x_of k i) _ j _ level c.get-digits.ensures.in_range v f (omega (arith, o.x_below)) c.requires.x)
 
-pub spread_after-requires : goal.spread_after-requires
-spread_after-requires c =
+pub spread_increment-requires : goal.spread_increment-requires
+spread_increment-requires c =
     let k = c.args.cell.order in
     let i = c.args.cell.index in
     let o = is_off k i c.args.x c.args.y c.requires.x c.requires.y c.requires.x_above c.requires.x_below c.requires.y_above c.requires.y_below in
@@ -45,20 +45,20 @@ overflow_add-across-3 c =
     let v : c.index.result / 2 ^ (2 * j) ≡ face_of k i = ap (λ n. n / 2 ^ (2 * j)) c.index.ensures.value ∙ face_code k j i level in
     let f = face_in_range k i c.requires.cell.index_in_range in
     let o = is_off k i c.args.x c.args.y c.requires.x c.requires.y c.requires.x_above c.requires.x_below c.requires.y_above c.requires.y_below in
-    omega (arith, across_fits k (face_of k i) (x_of k i + 1) _ j _ level c.get-digits.ensures.in_range v f o.x_below (c.spread_after.ensures (x_of k i) (in_word k (x_of k i) c.requires.cell.order_in_range o.x_below) c.requires.x))
+    omega (arith, across_fits k (face_of k i) (x_of k i + 1) _ j _ level c.get-digits.ensures.in_range v f o.x_below (c.spread_increment.ensures (x_of k i) (in_word k (x_of k i) c.requires.cell.order_in_range o.x_below) c.requires.x))
 
 pub overflow_mul-up : goal.overflow_mul-up
 overflow_mul-up c =
     let k = c.args.cell.order in
     let i = c.args.cell.index in
     let o = is_off k i c.args.x c.args.y c.requires.x c.requires.y c.requires.x_above c.requires.x_below c.requires.y_above c.requires.y_below in
-    omega (arith, spread_fits _ (y_of k i - 1) (c.spread_before-2.ensures (y_of k i) o.y_above (omega (arith, in_word k (y_of k i) c.requires.cell.order_in_range o.y_below)) c.requires.y))
+    omega (arith, spread_fits _ (y_of k i - 1) (c.spread_decrement-2.ensures (y_of k i) o.y_above (omega (arith, in_word k (y_of k i) c.requires.cell.order_in_range o.y_below)) c.requires.y))
 
 pub overflow_mul-up-2 : goal.overflow_mul-up-2
 overflow_mul-up-2 c = omega (arith, spread_fits _ (y_of c.args.cell.order c.args.cell.index) c.requires.y)
 
-pub spread_after-requires-2 : goal.spread_after-requires-2
-spread_after-requires-2 c =
+pub spread_increment-requires-2 : goal.spread_increment-requires-2
+spread_increment-requires-2 c =
     let k = c.args.cell.order in
     let i = c.args.cell.index in
     let o = is_off k i c.args.x c.args.y c.requires.x c.requires.y c.requires.x_above c.requires.x_below c.requires.y_above c.requires.y_below in
@@ -69,10 +69,10 @@ overflow_mul-up-3 c =
     let k = c.args.cell.order in
     let i = c.args.cell.index in
     let o = is_off k i c.args.x c.args.y c.requires.x c.requires.y c.requires.x_above c.requires.x_below c.requires.y_above c.requires.y_below in
-    omega (arith, spread_fits _ (y_of k i + 1) (c.spread_after-2.ensures (y_of k i) (in_word k (y_of k i) c.requires.cell.order_in_range o.y_below) c.requires.y))
+    omega (arith, spread_fits _ (y_of k i + 1) (c.spread_increment-2.ensures (y_of k i) (in_word k (y_of k i) c.requires.cell.order_in_range o.y_below) c.requires.y))
 
--- the code's numbers
-around : (c : goal.After-spread_after-2) → IsAround c.args.cell.order (face_of c.args.cell.order c.args.cell.index) (x_of c.args.cell.order c.args.cell.index) (y_of c.args.cell.order c.args.cell.index) (c.index.result / 2 ^ (2 * c.get-digits.result) * 2 ^ (2 * c.get-digits.result) % 2 ^ 64) c.spread_before.result c.args.x c.spread_after.result c.spread_before-2.result c.args.y c.spread_after-2.result
+-- the numbers that the code computes
+around : (c : goal.After-spread_increment-2) → IsAround c.args.cell.order (face_of c.args.cell.order c.args.cell.index) (x_of c.args.cell.order c.args.cell.index) (y_of c.args.cell.order c.args.cell.index) (c.index.result / 2 ^ (2 * c.get-digits.result) * 2 ^ (2 * c.get-digits.result) % 2 ^ 64) c.spread_decrement.result c.args.x c.spread_increment.result c.spread_decrement-2.result c.args.y c.spread_increment-2.result
 around c =
     let k = c.args.cell.order in
     let i = c.args.cell.index in
@@ -90,12 +90,12 @@ around c =
       y_above = o.y_above;
       y_below = o.y_below;
       is_first = λ t. v t * 2 ^ (2 * level t) % 2 ^ 64;
-      x_before = c.spread_before.ensures (x_of k i) o.x_above (omega arith) c.requires.x;
+      x_before = c.spread_decrement.ensures (x_of k i) o.x_above (omega arith) c.requires.x;
       x_here = c.requires.x;
-      x_after = c.spread_after.ensures (x_of k i) x_word c.requires.x;
-      y_before = c.spread_before-2.ensures (y_of k i) o.y_above (omega arith) c.requires.y;
+      x_after = c.spread_increment.ensures (x_of k i) x_word c.requires.x;
+      y_before = c.spread_decrement-2.ensures (y_of k i) o.y_above (omega arith) c.requires.y;
       y_here = c.requires.y;
-      y_after = c.spread_after-2.ensures (y_of k i) y_word c.requires.y;
+      y_after = c.spread_increment-2.ensures (y_of k i) y_word c.requires.y;
     }
 
 pub sums_around-requires-clause-across : goal.sums_around-requires-clause-across
@@ -107,11 +107,11 @@ sums_around-requires-clause-up c = up_rises _ _ _ _ _ _ _ _ _ _ _ (around c)
 pub sums_around-requires-clause-fits : goal.sums_around-requires-clause-fits
 sums_around-requires-clause-fits c = sums_fit _ _ _ _ _ _ _ _ _ _ _ (around c)
 
-pub sums_around-requires-clause-apart : goal.sums_around-requires-clause-apart
-sums_around-requires-clause-apart c = sums_apart _ _ _ _ _ _ _ _ _ _ _ (around c)
+pub sums_around-requires-clause-distinct : goal.sums_around-requires-clause-distinct
+sums_around-requires-clause-distinct c = sums_apart _ _ _ _ _ _ _ _ _ _ _ (around c)
 
-pub returns-clause-rising : goal.returns-clause-rising
-returns-clause-rising c = rw c.from_buf.ensures.items c.sums_around.ensures.rising
+pub returns-clause-ascending : goal.returns-clause-ascending
+returns-clause-ascending c = rw c.from_buf.ensures.items c.sums_around.ensures.ascending
 
 pub returns-clause-touch : goal.returns-clause-touch
 returns-clause-touch c =

@@ -16,8 +16,8 @@ returns-else-east-y c =
       | then-face-eq1 w ↦ omega (arith, table, c.from.ensures, w.middle-is, w.if-face-eq1.true)
       | else-face-eq1 w ↦ omega (arith, table, c.from.ensures, w.middle-is, w.if-face-eq1.false, c.requires.face)
     ] in
-    let few : column_factor f ≤ 7 = omega (arith, table) in
-    let bound = mul-le-mul_right n few in
+    let bounded : column_factor f ≤ 7 = omega (arith, table) in
+    let bound = mul-le-mul_right n bounded in
     let east = ap (λ m. m * n) is in
     ap (λ m. m * n + c.args.x - c.args.y) is
     ∙ sym (column_plain n (column_factor f) c.args.x c.args.y (column_factor f * n + c.args.x - c.args.y)

@@ -4,12 +4,12 @@ use Rattle.std.specs.Borrow.{Bor}
 use Rattle.std.specs.Option.{option_copied}
 use Rattle.std.proofs.lemmas.List.{get_or-map}
 use Rattle.moc_lists.specs.RangeList.{NumberSet}
-use Rattle.moc_steps.specs.Private.Standing.{notes}
+use Rattle.moc_steps.specs.Private.ClientState.{contents_of}
 use Rattle.moc_steps.proofs.Basics.{get_set_same, get_set_other, length_set, length-map}
-use Rattle.moc_steps.proofs.Loops.{filled_none, filled_next, twelve_nones, copied-at, copied_all, found_copied}
+use Rattle.moc_steps.proofs.Loops.{filled_none, filled_next, twelve_nones, copied-at, copied_all, previous_copied}
 use Rattle.moc_steps.proofs.world.lists.Goals as goal
 
-noted : (sets : List NumberSet) → notes (map (λ s. Some s) sets) ≡ sets
+noted : (sets : List NumberSet) → contents_of (map (λ s. Some s) sets) ≡ sets
 noted [] = refl
 noted (s ∷ sets) = ap (λ xs. s ∷ xs) (noted sets)
 
@@ -34,10 +34,10 @@ loop-b-preserved c =
 pub returns : goal.returns
 returns c =
     let xs : List (Option (Bor NumberSet)) = c.loop-b.lists in
-    let found : List (Option NumberSet) = map (λ s. Some s) c.args.parts.now in
+    let previous : List (Option NumberSet) = map (λ s. Some s) c.args.parts.now in
     let end : c.loop-b.b ≡ length c.args.parts.now = (let low = c.loop-b-test.false in let high = c.loop-b.auto.b-end in omega arith) in
     let at : c.loop-b.b ≡ 12 = end ∙ c.requires in
-    found_copied xs
-    ∙ ap notes (copied_all xs found c.loop-b.invariant.0 (length-map (λ s. Some s) c.args.parts.now ∙ c.requires)
-    (subst (λ n. (k : ℕ) → get_or (map option_copied xs) k None ≡ cond (nat_lt k n) (get_or found k None) None) at c.loop-b.invariant.1))
+    previous_copied xs
+    ∙ ap contents_of (copied_all xs previous c.loop-b.invariant.0 (length-map (λ s. Some s) c.args.parts.now ∙ c.requires)
+    (subst (λ n. (k : ℕ) → get_or (map option_copied xs) k None ≡ cond (nat_lt k n) (get_or previous k None) None) at c.loop-b.invariant.1))
     ∙ noted c.args.parts.now

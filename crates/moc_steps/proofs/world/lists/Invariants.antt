@@ -2,7 +2,7 @@ use Rattle.std.proofs.Common.{◌≡◌, ℕ, None, Some, get_or, length, map, c
 use Rattle.std.specs.Option.{option_copied}
 use Rattle.moc_steps.proofs.world.lists.Given as goal
 
--- the lists of the parts below b are there
+-- the lists of the parts below b are filled
 abbrev pub invariant-loop-b : goal.invariant-loop-b
 invariant-loop-b l =
     (length l.lists ≡ 12)

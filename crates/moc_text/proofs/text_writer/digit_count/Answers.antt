@@ -1,6 +1,6 @@
 use Rattle.std.proofs.Common.{sym, ap, arith, length, List, ℕ}
 use Rattle.std.proofs.lemmas.Fmt.{decimal_digit}
-use Rattle.moc_text.proofs.Waiting.{digits_between}
+use Rattle.moc_text.proofs.Buffering.{digits_between}
 use Rattle.moc_text.proofs.text_writer.digit_count.Goals as goal
 
 pub returns-in-Some : goal.returns-in-Some

@@ -1,7 +1,7 @@
 use Rattle.std.proofs.Common.{◌≡◌, ◌+◌, arith, length-set}
 use Rattle.std.specs.Prelude.{decimal}
 use Rattle.std.proofs.lemmas.Fmt.{length-decimal-le}
-use Rattle.moc_text.proofs.Waiting.{number_behind}
+use Rattle.moc_text.proofs.Buffering.{number_behind}
 use Rattle.moc_text.proofs.text_writer.write_number.Goals as goal
 
 pub overflow_add-end-2 : goal.overflow_add-end-2

@@ -8,6 +8,6 @@ use Rattle.moc_text.proofs.uniq.push_numbers.Given as goal
 abbrev lines : List CellNumber → List ℕ
 lines cells = flat_map (λ c. decimal (uniq_of c) ++ 10 ∷ []) cells
 
--- what is written so far and the lines from here on are all lines
+-- the text so far and the remaining lines are the whole text
 abbrev pub invariant-loop-cell : goal.invariant-loop-cell
 invariant-loop-cell l = string_bytes l.text ++ lines (drop l.cell-index l.cells) ≡ string_bytes l.fn.text ++ lines l.cells

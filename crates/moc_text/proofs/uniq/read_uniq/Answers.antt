@@ -14,6 +14,6 @@ returns-clause-set c =
     rw c.in_ok-build.ensures (lines_say c.args.text.now c.loop-rest.rest.now c.loop-rest.line c.loop-rest.cells none c.loop-rest.invariant)
 
 pub returns-clause-reading : goal.returns-clause-reading
-returns-clause-reading c = λ a says.
+returns-clause-reading c = λ a represents.
     let none : length c.loop-rest.rest.now ≡ 0 = search rules in
-    rw c.in_ok-build.ensures (one_set c.args.text.now c.loop-rest.cells a (lines_say c.args.text.now c.loop-rest.rest.now c.loop-rest.line c.loop-rest.cells none c.loop-rest.invariant) says)
+    rw c.in_ok-build.ensures (one_set c.args.text.now c.loop-rest.cells a (lines_say c.args.text.now c.loop-rest.rest.now c.loop-rest.line c.loop-rest.cells none c.loop-rest.invariant) represents)

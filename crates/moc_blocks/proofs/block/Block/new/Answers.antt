@@ -11,12 +11,12 @@ invariant_of-result c =
     let same : (arc_value c.in_ok-ranges.ranges).items ≡ rs = ap (λ v. v.items) c.in_ok-ranges.ensures.ok in
     let first = get_or_read rs _ _ (omega arith) c.index.ensures (0, 0) in
     let last = get_or_read rs _ _ (omega arith) c.index-2.ensures (0, 0) in
-    subst (λ (l : List (ℕ × ℕ)). IsBlock c.index.result.now.0 c.index-2.result.now.1 c.measure_ranges-size.result l) (sym same) (record {
+    subst (λ (l : List (ℕ × ℕ)). IsBlock c.index.result.now.0 c.index-2.result.now.1 c.width_of_ranges-size.result l) (sym same) (record {
       fits = c.requires.fits;
       summary = record {
         some = c.requires.some;
         first = ap (λ p. p.0) first ∙ sym (first_of-get rs (0, 0) (omega arith));
         last = ap (λ p. p.1) last ∙ sym (last_of-get rs (0, 0) _ (omega arith));
-        measured = c.measure_ranges-size.ensures ∙ ap width_of c.deref.ensures.value;
+        measured = c.width_of_ranges-size.ensures ∙ ap width_of c.deref.ensures.value;
       };
     })

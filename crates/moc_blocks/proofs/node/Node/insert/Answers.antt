@@ -3,9 +3,9 @@ use Rattle.std.proofs.lemmas.List.{get_or_read}
 use Rattle.std.specs.List.{insert}
 use Rattle.moc_blocks.specs.RangeList.{IsNormal}
 use Rattle.moc_blocks.specs.Private.Blocks.{first_of, last_of, width_of}
-use Rattle.moc_blocks.specs.Blocks.{joining, AreBlocks}
-use Rattle.moc_blocks.specs.Private.Added.{inserted}
-use Rattle.moc_blocks.proofs.Blocking.{first_of-joining, last_of-joining, length_last, width_bounded, few_ranges}
+use Rattle.moc_blocks.specs.Blocks.{concat, AreBlocks}
+use Rattle.moc_blocks.specs.Private.Added.{with_range_inserted}
+use Rattle.moc_blocks.proofs.Blocking.{first_of-concat, last_of-concat, length_last, width_bounded, few_ranges}
 use Rattle.moc_blocks.proofs.Inserting.{gap_filled, gap_normal, inserted_is, inserted_width, inserted_count, on_true}
 use Rattle.moc_blocks.proofs.Replacing.{as_many}
 use Rattle.moc_blocks.proofs.node.Node.insert.Goals as goal
@@ -27,11 +27,11 @@ overflow_sub-self c = omega (arith, gap_filled c.args.self.now c.args.block c.ar
 
 pub overflow_add-self : goal.overflow_add-self
 overflow_add-self c =
-    omega (arith, inserted_width c.args.self.now c.args.block c.args.place c.args.range c.requires.there, c.self.invariant.summary.measured, ap (λ (l : List (List (ℕ × ℕ))). width_of (joining l)) c.self.view_is, width_bounded _ c.requires.normal)
+    omega (arith, inserted_width c.args.self.now c.args.block c.args.place c.args.range c.requires.there, c.self.invariant.summary.measured, ap (λ (l : List (List (ℕ × ℕ))). width_of (concat l)) c.self.view_is, width_bounded _ c.requires.normal)
 
 pub overflow_add-self-2 : goal.overflow_add-self-2
 overflow_add-self-2 c =
-    omega (arith, inserted_count c.args.self.now c.args.block c.args.place c.args.range c.requires.there c.requires.inside, c.self.invariant.counted, ap (λ (l : List (List (ℕ × ℕ))). length (joining l)) c.self.view_is, few_ranges _ c.requires.normal)
+    omega (arith, inserted_count c.args.self.now c.args.block c.args.place c.args.range c.requires.there c.requires.inside, c.self.invariant.counted, ap (λ (l : List (List (ℕ × ℕ))). length (concat l)) c.self.view_is, few_ranges _ c.requires.normal)
 
 pub invariant_of-self-2 : goal.invariant_of-self-2
 invariant_of-self-2 c =
@@ -39,7 +39,7 @@ invariant_of-self-2 c =
     let new = slice_set bs c.args.block c.insert.new.self in
     let none : List (ℕ × ℕ) = [] in
     let whole : bs ≡ c.args.self.now = ap (λ v. v.items) c.in-Some.ensures.value ∙ c.self.view_is in
-    let made : new ≡ inserted c.args.self.now c.args.block c.args.place c.args.range = inserted_is bs c.args.self.now c.args.block c.args.place c.args.range c.index_mut.result.now c.insert.new.self whole c.requires.there c.index_mut.ensures.value (on_true _ c.if-not-branch.false c.in_ok-insert.ensures.put) in
+    let made : new ≡ with_range_inserted c.args.self.now c.args.block c.args.place c.args.range = inserted_is bs c.args.self.now c.args.block c.args.place c.args.range c.index_mut.result.now c.insert.new.self whole c.requires.there c.index_mut.ensures.value (on_true _ c.if-not-branch.false c.in_ok-insert.ensures.put) in
     let there : c.args.block < length bs = omega (arith, ap length whole, c.requires.there) in
     let many = as_many bs c.args.block c.insert.new.self in
     let first = get_or_read new _ _ (omega (arith, many, there)) c.index.ensures none in
@@ -49,11 +49,11 @@ invariant_of-self-2 c =
     record {
       sized = subst AreBlocks (sym made) c.requires.sized;
       fits = omega (arith, many, ap length whole, ap length c.self.view_is, c.self.invariant.fits);
-      counted = omega (arith, ap (λ (l : List (List (ℕ × ℕ))). length (joining l)) made, inserted_count c.args.self.now c.args.block c.args.place c.args.range c.requires.there c.requires.inside, c.self.invariant.counted, ap (λ (l : List (List (ℕ × ℕ))). length (joining l)) c.self.view_is);
+      counted = omega (arith, ap (λ (l : List (List (ℕ × ℕ))). length (concat l)) made, inserted_count c.args.self.now c.args.block c.args.place c.args.range c.requires.there c.requires.inside, c.self.invariant.counted, ap (λ (l : List (List (ℕ × ℕ))). length (concat l)) c.self.view_is);
       summary = record {
         some = length_last new none 0 (omega (arith, many, there)) filled_first;
-        first = c.from-self-inside.ensures.value ∙ ap first_of first ∙ sym (first_of-joining new none (omega (arith, many, there)) filled_first);
-        last = c.to-self-inside.ensures.value ∙ ap last_of last ∙ sym (last_of-joining new none _ (omega (arith, many, there, c.len.ensures)) filled_last);
-        measured = omega (arith, ap (λ (l : List (List (ℕ × ℕ))). width_of (joining l)) made, inserted_width c.args.self.now c.args.block c.args.place c.args.range c.requires.there, c.self.invariant.summary.measured, ap (λ (l : List (List (ℕ × ℕ))). width_of (joining l)) c.self.view_is);
+        first = c.from-self-inside.ensures.value ∙ ap first_of first ∙ sym (first_of-concat new none (omega (arith, many, there)) filled_first);
+        last = c.to-self-inside.ensures.value ∙ ap last_of last ∙ sym (last_of-concat new none _ (omega (arith, many, there, c.len.ensures)) filled_last);
+        measured = omega (arith, ap (λ (l : List (List (ℕ × ℕ))). width_of (concat l)) made, inserted_width c.args.self.now c.args.block c.args.place c.args.range c.requires.there, c.self.invariant.summary.measured, ap (λ (l : List (List (ℕ × ℕ))). width_of (concat l)) c.self.view_is);
       };
     }

@@ -2,8 +2,8 @@ use Rattle.std.proofs.Common.{◌≡◌, ◌<◌, arith, ap, sym, ◌∙◌, [],
 use Rattle.std.proofs.lemmas.List.{get_or_read}
 use Rattle.std.specs.Arc.{arc_value}
 use Rattle.moc_blocks.specs.Private.Blocks.{IsNode, width_of, first_of, last_of}
-use Rattle.moc_blocks.specs.Blocks.{joining}
-use Rattle.moc_blocks.proofs.Blocking.{first_of-joining, last_of-joining, length_last}
+use Rattle.moc_blocks.specs.Blocks.{concat}
+use Rattle.moc_blocks.proofs.Blocking.{first_of-concat, last_of-concat, length_last}
 use Rattle.moc_blocks.proofs.node.Node.new.Goals as goal
 
 pub invariant_of-result : goal.invariant_of-result
@@ -15,14 +15,14 @@ invariant_of-result c =
     let last = get_or_read bs _ _ (omega arith) c.index-2.ensures none in
     let filled_first = subst (λ (b : List (ℕ × ℕ)). 0 < length b) first c.from-from.ensures.some in
     let filled_last = subst (λ (b : List (ℕ × ℕ)). 0 < length b) last c.to-to.ensures.some in
-    subst (λ (l : List (List (ℕ × ℕ))). IsNode c.from-from.result c.to-to.result c.measure-size.result c.count_in_blocks-count.result l) (sym same) (record {
+    subst (λ (l : List (List (ℕ × ℕ))). IsNode c.from-from.result c.to-to.result c.width_of_blocks-size.result c.count_in_blocks-count.result l) (sym same) (record {
       sized = c.requires.sized;
       fits = c.requires.fits;
-      counted = c.count_in_blocks-count.ensures ∙ ap (λ (l : List (List (ℕ × ℕ))). length (joining l)) c.deref-2.ensures.value;
+      counted = c.count_in_blocks-count.ensures ∙ ap (λ (l : List (List (ℕ × ℕ))). length (concat l)) c.deref-2.ensures.value;
       summary = record {
         some = length_last bs none 0 (omega (arith, c.requires.some)) filled_first;
-        first = c.from-from.ensures.value ∙ ap first_of first ∙ sym (first_of-joining bs none (omega (arith, c.requires.some)) filled_first);
-        last = c.to-to.ensures.value ∙ ap last_of last ∙ sym (last_of-joining bs none _ (omega arith) filled_last);
-        measured = c.measure-size.ensures ∙ ap (λ (l : List (List (ℕ × ℕ))). width_of (joining l)) c.deref.ensures.value;
+        first = c.from-from.ensures.value ∙ ap first_of first ∙ sym (first_of-concat bs none (omega (arith, c.requires.some)) filled_first);
+        last = c.to-to.ensures.value ∙ ap last_of last ∙ sym (last_of-concat bs none _ (omega arith) filled_last);
+        measured = c.width_of_blocks-size.ensures ∙ ap (λ (l : List (List (ℕ × ℕ))). width_of (concat l)) c.deref.ensures.value;
       };
     })

@@ -1,4 +1,4 @@
-use Rattle.moc_c.proofs.Sharings.{sky_reply}
+use Rattle.moc_c.proofs.MapCalls.{sky_reply}
 use Rattle.moc_c.proofs.member.Member.read.Goals as goal
 
 pub cover_of-requires : goal.cover_of-requires

@@ -1,23 +1,23 @@
 -- A part of a line was found, the line was ended, or it is too long.
 use Rattle.std.proofs.Common.{◌≡◌, ℕ, zero, suc, ◌<◌, ◌≤◌, ◌||◌, Bool, true, false, eqb, List, [], ◌∷◌, length, sym, ap, ◌∙◌, Err, refl, arith, length-append}
 use Rattle.std.proofs.lemmas.Bool.{ltb-true, ltb-false, eqb-true}
-use Rattle.moc_lines.specs.declared.reading.InputError.{InputError}
-use Rattle.moc_lines.specs.declared.reading.InputError.TheVariants.{Read, TooLong, Memory}
-use Rattle.moc_lines.specs.Private.LineReading.{FailsPart, IsOfLine, TakesLine}
+use Rattle.moc_lines.specs.declared.reading.ScriptInputError.{ScriptInputError}
+use Rattle.moc_lines.specs.declared.reading.ScriptInputError.TheVariants.{Read, TooLong, Memory}
+use Rattle.moc_lines.specs.Private.LineReading.{FailsPart, IsOfLine, ReadsLine}
 use Rattle.std.specs.List.{count_by}
 use Rattle.moc_text.specs.Lines.{is_line_feed}
-use Rattle.moc_lines.specs.Private.Held.{Held}
+use Rattle.moc_lines.specs.Private.ReaderState.{ReaderState}
 use Rattle.moc_devices.specs.Devices.{Reading}
 use Rattle.moc_lines.proofs.Turns.{HasNotEnded-later, Turn, Turn-brought, Turn-line, Turn-more, Turn-none, Turn-too_long}
 use Rattle.moc_lines.proofs.line_reader.LineReader.next_line.Goals as goal
 
-faulty : (limit : ℕ) (old now next : Held) (a b : Reading) → Turn limit old a now b → (number : ℕ) (fault : InputError)
-    → FailsPart number limit now fault → 0 < length now.unread → TakesLine limit old a next b (Err fault)
-faulty limit old now next a b turn number Read fails some = absurd fails
-faulty limit old now next a b turn number (TooLong line) fails some = Turn-too_long limit old now next a b turn line fails.1
-faulty limit old now next a b turn number (Memory line) fails some = (turn.came, turn.consumed, rw turn.parts (omega (arith, some, length-append now.line now.unread)))
+after_error : (limit : ℕ) (old now next : ReaderState) (a b : Reading) → Turn limit old a now b → (number : ℕ) (fault : ScriptInputError)
+    → FailsPart number limit now fault → 0 < length now.unread → ReadsLine limit old a next b (Err fault)
+after_error limit old now next a b turn number Read fails some = absurd fails
+after_error limit old now next a b turn number (TooLong line) fails some = Turn-too_long limit old now next a b turn line fails.1
+after_error limit old now next a b turn number (Memory line) fails some = (turn.came, turn.consumed, rw turn.parts (omega (arith, some, length-append now.line now.unread)))
 
-of_line : (number limit : ℕ) (now : Held) (fault : InputError) → FailsPart number limit now fault → IsOfLine number fault
+of_line : (number limit : ℕ) (now : ReaderState) (fault : ScriptInputError) → FailsPart number limit now fault → IsOfLine number fault
 of_line number limit now Read fails = tt
 of_line number limit now (TooLong line) fails = fails.0
 of_line number limit now (Memory line) fails = fails
@@ -41,13 +41,13 @@ unmarked new false e = e
 pub returns-in-Ok-true-take_part-clause-takes : goal.returns-in-Ok-true-take_part-clause-takes
 returns-in-Ok-true-take_part-clause-takes g c =
     let part = c.in-Ok-true-take_part.ensures in
-    let turn = Turn-brought _ _ _ _ _ _ _ c.loop-self.invariant.turn c.fill_chunk.ensures.brings in
+    let turn = Turn-brought _ _ _ _ _ _ _ c.loop-self.invariant.turn c.fill_chunk.ensures.reads_more in
     Turn-line _ _ _ _ _ _ turn (record { line = part.line; unread = part.unread; within = part.within }) (ltb-true _ _ (sym part.found ∙ c.in-Ok-true-take_part.field-0-test))
 
 pub loop-self-preserved : goal.loop-self-preserved
 loop-self-preserved g c =
     let part = c.in-Ok-false-take_part.ensures in
-    let turn = Turn-brought _ _ _ _ _ _ _ c.loop-self.invariant.turn c.fill_chunk.ensures.brings in
+    let turn = Turn-brought _ _ _ _ _ _ _ c.loop-self.invariant.turn c.fill_chunk.ensures.reads_more in
     record {
       turn = Turn-more _ _ _ _ _ _ turn (record { line = part.line; unread = part.unread; within = part.within }) (ltb-false _ _ (sym part.found ∙ c.in-Ok-false-take_part.field-0-test));
       more = HasNotEnded-later _ _ _ c.loop-self.invariant.more (c.in-Ok-true.ensures.more c.in-Ok-true.field-0-test);
@@ -57,15 +57,15 @@ loop-self-preserved g c =
 pub returns-in-Err-take_part-clause-takes : goal.returns-in-Err-take_part-clause-takes
 returns-in-Err-take_part-clause-takes g c =
     let part = c.in-Err-take_part.ensures in
-    let turn = Turn-brought _ _ _ _ _ _ _ c.loop-self.invariant.turn c.fill_chunk.ensures.brings in
-    faulty _ _ _ c.take_part.new.self _ _ turn c.args.number c.in-Err-take_part.fault part.fails (ltb-true _ _ (sym c.in-Ok-true.ensures.some ∙ c.in-Ok-true.field-0-test))
+    let turn = Turn-brought _ _ _ _ _ _ _ c.loop-self.invariant.turn c.fill_chunk.ensures.reads_more in
+    after_error _ _ _ c.take_part.new.self _ _ turn c.args.number c.in-Err-take_part.fault part.fails (ltb-true _ _ (sym c.in-Ok-true.ensures.some ∙ c.in-Ok-true.field-0-test))
 
 pub returns-in-Err-take_part-clause-number : goal.returns-in-Err-take_part-clause-number
 returns-in-Err-take_part-clause-number g c = of_line c.args.number 1048576 c.fill_chunk.new.self c.in-Err-take_part.fault c.in-Err-take_part.ensures.fails
 
 pub returns-in-Err : goal.returns-in-Err
 returns-in-Err g c =
-    let turn = Turn-brought _ _ _ _ _ _ _ c.loop-self.invariant.turn c.fill_chunk.ensures.brings in
+    let turn = Turn-brought _ _ _ _ _ _ _ c.loop-self.invariant.turn c.fill_chunk.ensures.reads_more in
     record {
       takes = (turn.came, turn.consumed, ap (count_by is_line_feed) (Turn-none _ _ _ _ _ turn c.in-Err.ensures.err) ∙ turn.unbroken);
       number = tt;
@@ -76,10 +76,10 @@ returns-in-Err g c =
 
 pub returns-in-Ok-false : goal.returns-in-Ok-false
 returns-in-Ok-false g c =
-    let turn = Turn-brought _ _ _ _ _ _ _ c.loop-self.invariant.turn c.fill_chunk.ensures.brings in
+    let turn = Turn-brought _ _ _ _ _ _ _ c.loop-self.invariant.turn c.fill_chunk.ensures.reads_more in
     let unread = none _ (ltb-false 0 _ (sym c.in-Ok-false.ensures.some ∙ c.in-Ok-false.field-0-test)) in
     let empty : length c.fill_chunk.new.self.line ≤ 0 =
-    omega (arith, ap (λ (h : Held). length h.line) c.self-in-loop-self.view_is, c.self-in-loop-self.inside.line.ok, eqb-true _ 0 (sym c.is_empty.ensures ∙ c.if-is_empty.true)) in
+    omega (arith, ap (λ (h : ReaderState). length h.line) c.self-in-loop-self.view_is, c.self-in-loop-self.inside.line.ok, eqb-true _ 0 (sym c.is_empty.ensures ∙ c.if-is_empty.true)) in
     record {
       takes = (turn.came, turn.consumed, (Turn-none _ _ _ _ _ turn unread ∙ none _ empty, unread, c.in-Ok-false.ensures.end c.in-Ok-false.field-0-test));
       number = tt;
@@ -90,10 +90,10 @@ returns-in-Ok-false g c =
 
 pub returns-in-Ok-false-2 : goal.returns-in-Ok-false-2
 returns-in-Ok-false-2 g c =
-    let turn = Turn-brought _ _ _ _ _ _ _ c.loop-self.invariant.turn c.fill_chunk.ensures.brings in
+    let turn = Turn-brought _ _ _ _ _ _ _ c.loop-self.invariant.turn c.fill_chunk.ensures.reads_more in
     let unread = none _ (ltb-false 0 _ (sym c.in-Ok-false.ensures.some ∙ c.in-Ok-false.field-0-test)) in
     let filled : 0 < length c.fill_chunk.new.self.line =
-    omega (arith, ap (λ (h : Held). length h.line) c.self-in-loop-self.view_is, c.self-in-loop-self.inside.line.ok, some _ (sym c.is_empty.ensures ∙ c.if-is_empty.false)) in
+    omega (arith, ap (λ (h : ReaderState). length h.line) c.self-in-loop-self.view_is, c.self-in-loop-self.inside.line.ok, some _ (sym c.is_empty.ensures ∙ c.if-is_empty.false)) in
     record {
       takes = (turn.came, turn.consumed, (Turn-none _ _ _ _ _ turn unread, turn.unbroken, turn.within, filled, unread, c.in-Ok-false.ensures.end c.in-Ok-false.field-0-test));
       number = tt;

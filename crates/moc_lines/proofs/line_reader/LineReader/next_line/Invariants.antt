@@ -1,4 +1,4 @@
--- The bytes that came and those that were at hand are the line so far and those at hand; the line has no line feed.
+-- The bytes that came, after those in the buffer, are the line so far and the buffer; the line has no line feed.
 use Rattle.std.proofs.Common.{◌≡◌, ◌-◌, length}
 use Rattle.moc_lines.specs.Runs.{HasNotEnded}
 use Rattle.moc_lines.proofs.Turns.{Turn}

@@ -1,8 +1,8 @@
--- What is left in the chunk behind the line feed.
+-- The rest of the chunk after the line feed.
 use Rattle.std.proofs.Common.{◌≡◌, ℕ, ◌+◌, ◌-◌, ◌<◌, ◌≤◌, length, length-take, List, take, drop, arith, ap, ◌∙◌}
 use Rattle.std.specs.List.{position_or_len, after_first}
 use Rattle.moc_text.specs.Lines.{is_line_feed}
-use Rattle.moc_lines.specs.Private.Held.{Held}
+use Rattle.moc_lines.specs.Private.ReaderState.{ReaderState}
 use Rattle.moc_lines.proofs.LineLemmas.{take-drop-part}
 use Rattle.moc_lines.proofs.line_reader.LineReader.take_part.Goals as goal
 
@@ -18,8 +18,8 @@ last at_hand unread len is same = ap (λ n. drop (n + 1) at_hand) is ∙ ap (aft
 pub returns-then-len-unread-clause-unread : goal.returns-then-len-unread-clause-unread
 returns-then-len-unread-clause-unread c =
     let inside = c.self.inside in
-    let len = inside.ahead in
+    let len = inside.feed_offset in
     let below : len < length (take (inside.end - inside.start) (drop inside.start inside.chunk.items)) = rw c.deref.ensures.value at c.if-len-unread.true in
     let within : inside.start + (len + 1) ≤ inside.end = omega (arith, length-take (inside.end - inside.start) (drop inside.start inside.chunk.items)) in
     part inside.chunk.items inside.start inside.end len within
-    ∙ last _ c.args.self.now.unread len c.self.invariant.3 (ap (λ (h : Held). h.unread) c.self.view_is)
+    ∙ last _ c.args.self.now.unread len c.self.invariant.3 (ap (λ (h : ReaderState). h.unread) c.self.view_is)

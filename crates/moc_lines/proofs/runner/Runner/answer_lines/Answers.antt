@@ -1,8 +1,8 @@
--- Each turn of the loop, and each way out of it.
+-- Each iteration of the loop, and each way out of it.
 use Rattle.std.proofs.Common.{◌≡◌, ◌∙◌, inl, sym, refl, arith}
 use Rattle.moc_devices.specs.Lemmas.{Delivers-nil, FlushesNothing-none, FlushesNothing-later}
 use Rattle.moc_lines.proofs.Outcomes.{at_ok, unmarked}
-use Rattle.moc_lines.proofs.Progress.{at_found, Progress-permits, Progress-start, Progress-sent, Progress-line, ReachedEnd-nothing, ReachedEnd-last, Ended-fault, Ended-refused, Ended-uncounted, Ended-closed, Ended-write}
+use Rattle.moc_lines.proofs.Progress.{at_line_kind, Progress-permits, Progress-start, Progress-sent, Progress-line, ReachedEnd-nothing, ReachedEnd-last, Ended-fault, Ended-refused, Ended-uncounted, Ended-closed, Ended-write}
 use Rattle.moc_lines.proofs.Turns.{HasNotEnded-later}
 use Rattle.moc_lines.proofs.runner.Runner.answer_lines.Goals as goal
 
@@ -30,18 +30,18 @@ returns-in-Err-clause-ended g c =
     let sent = Progress-sent _ _ _ _ _ _ _ _ _ c.loop-line.self.lines c.send_if_due.new.self.lines _ _ _ _ c.send_if_due.result c.loop-line.invariant.progress (sym c.is_err.ensures.value ∙ c.if-is_err.false) c.send_if_due.ensures.sends c.send_if_due.ensures.lines c.next_line.ensures.pending in
     rw c.from.ensures (Ended-fault _ _ _ _ _ _ _ _ _ c.send_if_due.new.self.lines c.next_line.new.self.lines _ _ sent c.in-Err.fault c.in-Err.ensures.takes c.in-Err.ensures.number _ refl)
 
-pub returns-in-Ok-Nothing-clause-ended : goal.returns-in-Ok-Nothing-clause-ended
-returns-in-Ok-Nothing-clause-ended g c =
+pub returns-in-Ok-EndOfInput-clause-ended : goal.returns-in-Ok-EndOfInput-clause-ended
+returns-in-Ok-EndOfInput-clause-ended g c =
     let sent = Progress-sent _ _ _ _ _ _ _ _ _ c.loop-line.self.lines c.send_if_due.new.self.lines _ _ _ _ c.send_if_due.result c.loop-line.invariant.progress (sym c.is_err.ensures.value ∙ c.if-is_err.false) c.send_if_due.ensures.sends c.send_if_due.ensures.lines c.next_line.ensures.pending in
-    let takes = at_found 1048576 c.send_if_due.new.self.lines c.next_line.new.self.lines _ _ _ _ c.in-Ok-Nothing.field-0-is c.in-Ok-Nothing.ensures.takes in
+    let takes = at_line_kind 1048576 c.send_if_due.new.self.lines c.next_line.new.self.lines _ _ _ _ c.in-Ok-EndOfInput.field-0-is c.in-Ok-EndOfInput.ensures.takes in
     let answered = ReachedEnd-nothing _ _ _ _ _ _ _ _ _ c.send_if_due.new.self.lines c.next_line.new.self.lines _ _ sent takes in
-    let close = c.close-in-Ok-Nothing in
+    let close = c.close-in-Ok-EndOfInput in
     Ended-closed _ _ _ _ _ _ _ _ _ _ _ close.result answered close.ensures.text close.ensures.memory close.ensures.err close.ensures.some
 
 pub returns-in-Ok-LastLine-clause-ended : goal.returns-in-Ok-LastLine-clause-ended
 returns-in-Ok-LastLine-clause-ended g c =
     let sent = Progress-sent _ _ _ _ _ _ _ _ _ c.loop-line.self.lines c.send_if_due.new.self.lines _ _ _ _ c.send_if_due.result c.loop-line.invariant.progress (sym c.is_err.ensures.value ∙ c.if-is_err.false) c.send_if_due.ensures.sends c.send_if_due.ensures.lines c.next_line.ensures.pending in
-    let takes = at_found 1048576 c.send_if_due.new.self.lines c.next_line.new.self.lines _ _ _ _ c.in-Ok-LastLine.field-0-is c.in-Ok-LastLine.ensures.takes in
+    let takes = at_line_kind 1048576 c.send_if_due.new.self.lines c.next_line.new.self.lines _ _ _ _ c.in-Ok-LastLine.field-0-is c.in-Ok-LastLine.ensures.takes in
     let line = c.in_ok-answer_line-in-Ok-LastLine.ensures in
     let answered = ReachedEnd-last _ _ _ _ _ _ _ _ _ c.send_if_due.new.self.lines c.next_line.new.self.lines _ _ sent takes _ _ line.text line.after in
     Ended-closed _ _ _ _ _ _ _ _ _ _ _ c.close.result answered c.close.ensures.text c.close.ensures.memory c.close.ensures.err c.close.ensures.some
@@ -61,7 +61,7 @@ loop-line-preserved g c =
     let sent = Progress-sent _ _ _ _ _ _ _ _ _ c.loop-line.self.lines c.send_if_due.new.self.lines _ _ _ _ c.send_if_due.result c.loop-line.invariant.progress (sym c.is_err.ensures.value ∙ c.if-is_err.false) c.send_if_due.ensures.sends c.send_if_due.ensures.lines c.next_line.ensures.pending in
     let answered = c.in_ok-answer_line-in-Ok-Line.ensures in
     record {
-      progress = rw answered.lines (Progress-line _ _ _ _ _ _ _ _ _ c.send_if_due.new.self.lines c.next_line.new.self.lines _ _ sent (at_found 1048576 c.send_if_due.new.self.lines c.next_line.new.self.lines _ _ _ _ c.in-Ok-Line.field-0-is c.in-Ok-Line.ensures.takes) _ _ answered.text answered.after);
+      progress = rw answered.lines (Progress-line _ _ _ _ _ _ _ _ _ c.send_if_due.new.self.lines c.next_line.new.self.lines _ _ sent (at_line_kind 1048576 c.send_if_due.new.self.lines c.next_line.new.self.lines _ _ _ _ c.in-Ok-Line.field-0-is c.in-Ok-Line.ensures.takes) _ _ answered.text answered.after);
       more = HasNotEnded-later _ _ _ c.loop-line.invariant.more (c.next_line.ensures.more cc);
       reader = unmarked _ c.next_line.ensures.read.1 (λ is. cc (c.in-Ok-Line.is, is));
       writer = c.send_if_due.ensures.writes.marks c.loop-line.invariant.writer ∙ sym c.is_err.ensures.value ∙ c.if-is_err.false;

@@ -1,5 +1,5 @@
 use Rattle.std.proofs.Common.{◌+◌, length, ap, ◌∙◌, arith}
-use Rattle.moc_blocks.specs.Blocks.{joining}
+use Rattle.moc_blocks.specs.Blocks.{concat}
 use Rattle.moc_blocks.proofs.Stepping.{few_blocks}
 use Rattle.moc_blocks.proofs.Places.{starts_length, count_all}
 use Rattle.moc_lists.proofs.nodes.Nodes.count_blocks.Goals as goal
@@ -12,9 +12,9 @@ index-requires c =
 pub returns : goal.returns
 returns c =
     let all = count_all c.self.inside.nodes.items c.self.inside.starts.items c.len-count.result c.index.result.now c.index-2.result.now c.self.invariant.placed (omega (arith, c.len-count.ensures, c.self.inside.nodes.ok)) (omega (arith, c.if-count-eq0.false)) c.index.ensures c.index-2.ensures in
-    ap (λ n. c.index.result.now + n) (ap length c.blocks-2.ensures.value) ∙ all ∙ ap (λ l. length (joining l)) c.self.view_is
+    ap (λ n. c.index.result.now + n) (ap length c.blocks-2.ensures.value) ∙ all ∙ ap (λ l. length (concat l)) c.self.view_is
 
 pub overflow_add-result : goal.overflow_add-result
 overflow_add-result c =
     let all = count_all c.self.inside.nodes.items c.self.inside.starts.items c.len-count.result c.index.result.now c.index-2.result.now c.self.invariant.placed (omega (arith, c.len-count.ensures, c.self.inside.nodes.ok)) (omega (arith, c.if-count-eq0.false)) c.index.ensures c.index-2.ensures in
-    omega (arith, ap length c.blocks-2.ensures.value, all, ap (λ l. length (joining l)) c.self.view_is, few_blocks (joining c.args.self.now) c.requires)
+    omega (arith, ap length c.blocks-2.ensures.value, all, ap (λ l. length (concat l)) c.self.view_is, few_blocks (concat c.args.self.now) c.requires)

@@ -1,6 +1,6 @@
 use Rattle.std.proofs.Common.{◌<◌, ◌≤◌, ◌++◌, [], ◌∷◌, ℕ, List, length, take, get_or, ap, ◌∙◌, arith}
 use Rattle.std.proofs.lemmas.List.{take_all}
-use Rattle.moc_blocks.specs.Blocks.{joining}
+use Rattle.moc_blocks.specs.Blocks.{concat}
 use Rattle.moc_blocks.specs.Private.Blocks.{starts_from}
 use Rattle.moc_blocks.proofs.Blocking.{node_step, nodes_done, length_node_step, length_nodes_done}
 use Rattle.moc_blocks.proofs.Stepping.{nodes_taken, few_blocks}
@@ -10,9 +10,9 @@ use Rattle.moc_lists.proofs.nodes.Nodes.new.Goals as goal
 pub overflow_add-blocks : goal.overflow_add-blocks
 overflow_add-blocks c =
     let taken = nodes_taken c.deref-node-items.result.now c.loop-node.node-index c.node-item.result c.loop-node-test.true c.node-item.is in
-    let all = ap (λ (l : List (List (List (ℕ × ℕ)))). length (joining l)) c.deref-node-items.ensures.value in
-    let begun = ap (λ (l : List (List (List (ℕ × ℕ)))). length (joining (take c.loop-node.node-index l))) c.deref-node-items.ensures.value in
-    omega (arith, taken.1, all, begun, few_blocks (joining c.args.nodes.items) c.requires, c.loop-node.invariant.many, ap length c.blocks-in-loop-node.ensures.value)
+    let all = ap (λ (l : List (List (List (ℕ × ℕ)))). length (concat l)) c.deref-node-items.ensures.value in
+    let begun = ap (λ (l : List (List (List (ℕ × ℕ)))). length (concat (take c.loop-node.node-index l))) c.deref-node-items.ensures.value in
+    omega (arith, taken.1, all, begun, few_blocks (concat c.args.nodes.items) c.requires, c.loop-node.invariant.many, ap length c.blocks-in-loop-node.ensures.value)
 
 pub overflow_add-size : goal.overflow_add-size
 overflow_add-size c =

@@ -4,7 +4,7 @@ use Rattle.moc_lists.specs.RangeList.{NumberSet}
 use Rattle.moc_parts.specs.declared.command.Command.{Command}
 use Rattle.moc_parts.specs.Commands.{set_after, reply_on, IsCommand}
 use Rattle.moc_parts.specs.Batches.{set_after_all, replies_on}
-use Rattle.moc_parts.proofs.InOrder.{set_after-last, replies-last, command-at}
+use Rattle.moc_parts.proofs.CommandsInOrder.{set_after-last, replies-last, command-at}
 use Rattle.moc_parts.proofs.draft.Draft.answer_all.Goals as goal
 
 pub answer-requires : goal.answer-requires
@@ -21,5 +21,5 @@ loop-command-preserved c =
       c.in_ok-answer.ensures.set ∙ ap (λ s. set_after s command) now ∙ sym (ap (λ xs. set_after_all a xs) more ∙ set_after-last a (take n cs) command),
       c.in_ok-push.ensures ∙ (λ i. c.loop-command.invariant.1 i ++ ((c.in_ok-answer.ensures.reply ∙ ap (λ s. reply_on s command) now) i ∷ []))
           ∙ sym (ap (λ xs. replies_on a xs) more ∙ replies-last a (take n cs) command),
-      c.answer.ensures.found ∙ c.loop-command.invariant.2,
+      c.answer.ensures.previous ∙ c.loop-command.invariant.2,
     )

@@ -1,11 +1,11 @@
 use Rattle.std.proofs.Common.{◌≡◌, ℕ}
 use Rattle.std.specs.FinSet as set
 use Rattle.moc_parts.specs.Commands.{parts_met}
-use Rattle.moc_parts.specs.Lemmas.{IsAhead}
+use Rattle.moc_parts.specs.Lemmas.{IsRemaining}
 use Rattle.moc_parts.proofs.Twelve.{first_parts}
 use Rattle.moc_parts.proofs.draft.Draft.common.Given as goal
 
--- the parts from one on are still to come, and what those before it have in common is there
+-- the parts from `n` on remain, and the intersection with the earlier parts is computed
 abbrev pub invariant-loop-part : goal.invariant-loop-part
 invariant-loop-part l =
-    (n : ℕ) × IsAhead (parts_met l.other) n l.part-iterator × (l.common ≡ set.intersection (first_parts l.self.set n) l.other)
+    (n : ℕ) × IsRemaining (parts_met l.other) n l.part-iterator × (l.common ≡ set.intersection (first_parts l.self.set n) l.other)

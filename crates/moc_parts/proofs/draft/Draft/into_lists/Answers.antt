@@ -8,7 +8,7 @@ use Rattle.moc_ranges.specs.Operations.{part_of}
 use Rattle.moc_parts.specs.Lemmas.{all_parts}
 use Rattle.moc_parts.specs.Private.Drafts.{sets_of}
 use Rattle.moc_parts.specs.Prepared.{is_given, part_if}
-use Rattle.moc_parts.proofs.Drafting.{AreDoneBelow, found_twelve, found_part, own_part, some_copied, one_done, none_done}
+use Rattle.moc_parts.proofs.Drafting.{AreDoneBelow, previous_twelve, previous_part, single_part, some_copied, one_done, none_done}
 use Rattle.moc_parts.proofs.draft.Draft.into_lists.Goals as goal
 use Rattle.moc_parts.proofs.draft.Draft.into_lists.Goals.{
   then-is_none,
@@ -23,8 +23,8 @@ pub loop-part-preserved : goal.loop-part-preserved
 loop-part-preserved c =
     let b : ℕ = c.loop-part.part-index in
     let given = c.args.given.now in
-    let found : List (Bor NumberSet) = c.self.inside.found in
-    let made : List (Option NumberSet) = c.self.inside.made in
+    let previous : List (Bor NumberSet) = c.self.inside.previous in
+    let new_lists : List (Option NumberSet) = c.self.inside.new_lists in
     let lists : List (Option NumberSet) = c.loop-part.lists in
     let set_now : NumberSet = c.args.self.set in
     let is : ℕ → Option NumberSet = λ k. part_if (is_given given k) set_now k in
@@ -37,25 +37,25 @@ loop-part-preserved c =
     let inv = c.loop-part.invariant in
     let same = inv.2 b (omega arith) in
     let next : List (Option NumberSet) = c.if-is_none.lists in
-    let left_out : next ≡ set_at lists b None → c.is_none.result ≡ true → AreDoneBelow made next is (b + 1) =
-    λ put none. one_done made lists next is b None c.loop-part-test.true put (sym (ap (λ t. part_if t set_now b) (given_is ∙ ap not none))) inv in
+    let left_out : next ≡ set_at lists b None → c.is_none.result ≡ true → AreDoneBelow new_lists next is (b + 1) =
+    λ put none. one_done new_lists lists next is b None c.loop-part-test.true put (sym (ap (λ t. part_if t set_now b) (given_is ∙ ap not none))) inv in
     elim c.if-is_none.branch [
       | then-is_none w ↦ left_out (w.lists-is ∙ w.clear.ensures ∙ ap (λ n. set_at lists n None) part) w.if-is_none.true
       | else-is_none+then-is_none-2+in_ok-try_copy+in_ok-put w ↦
-          let item : Bor NumberSet = w.index-found-b.result in
-          let list : Bor NumberSet = get_or found c.index-b.result item in
-          let many : length found ≡ 12 = sym (length-map found (λ l. l.now)) ∙ found_twelve (sets_of found) made c.self.invariant.0 in
+          let item : Bor NumberSet = w.index-previous-b.result in
+          let list : Bor NumberSet = get_or previous c.index-b.result item in
+          let many : length previous ≡ 12 = sym (length-map previous (λ l. l.now)) ∙ previous_twelve (sets_of previous) new_lists c.self.invariant.0 in
           let copied : w.in_ok-try_copy.field-0 ≡ part_of set_now b =
           w.in_ok-try_copy.ensures.same
-          ∙ found_part found made b (option_copied w.get.result) list c.self.invariant.0 c.self.invariant.1 c.loop-part-test.true (w.get.ensures ∙ ap (λ n. get_or lists n None) part ∙ same)
+          ∙ previous_part previous new_lists b (option_copied w.get.result) list c.self.invariant.0 c.self.invariant.1 c.loop-part-test.true (w.get.ensures ∙ ap (λ n. get_or lists n None) part ∙ same)
           (some_copied w.get.result ∙ w.is_none-else-is_none.ensures ∙ ap not w.if-is_none-2.true)
-          (ap (λ n. get_or found n item) at ∙ get_or_default found b item list (subst (λ n. b < n) (sym many) c.loop-part-test.true))
+          (ap (λ n. get_or previous n item) at ∙ get_or_default previous b item list (subst (λ n. b < n) (sym many) c.loop-part-test.true))
           ∙ ap (λ d. part_of d.set b) c.self.view_is in
-          one_done made lists next is b (Some w.in_ok-try_copy.field-0) c.loop-part-test.true (w.lists-is ∙ w.in_ok-put.ensures.put ∙ ap (λ n. set_at lists n (Some w.in_ok-try_copy.field-0)) part)
+          one_done new_lists lists next is b (Some w.in_ok-try_copy.field-0) c.loop-part-test.true (w.lists-is ∙ w.in_ok-put.ensures.put ∙ ap (λ n. set_at lists n (Some w.in_ok-try_copy.field-0)) part)
           (ap Some copied ∙ sym (ap (λ t. part_if t set_now b) (given_is ∙ ap not w.if-is_none.false))) inv
-      | else-is_none+else-is_none-2 w ↦ none_done made lists next is b w.lists-is
+      | else-is_none+else-is_none-2 w ↦ none_done new_lists lists next is b w.lists-is
           (ap (λ n. get_or lists n None) (sym part) ∙ sym w.get.ensures
-          ∙ own_part (sets_of found) made b (option_copied w.get.result) c.self.invariant.0 c.self.invariant.1 c.loop-part-test.true (w.get.ensures ∙ ap (λ n. get_or lists n None) part ∙ same)
+          ∙ single_part (sets_of previous) new_lists b (option_copied w.get.result) c.self.invariant.0 c.self.invariant.1 c.loop-part-test.true (w.get.ensures ∙ ap (λ n. get_or lists n None) part ∙ same)
           (some_copied w.get.result ∙ w.is_none-else-is_none.ensures ∙ ap not w.if-is_none-2.false)
           ∙ ap (λ d. Some (part_of d.set b)) c.self.view_is ∙ sym (ap (λ t. part_if t set_now b) (given_is ∙ ap not w.if-is_none.false))) inv
     ]

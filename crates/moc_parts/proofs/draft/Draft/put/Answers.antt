@@ -10,23 +10,23 @@ use Rattle.moc_parts.proofs.draft.Draft.put.Goals as goal
 
 pub invariant_of-self-2 : goal.invariant_of-self-2
 invariant_of-self-2 c =
-    let found = sets_of c.self.inside.found in
-    let made = c.self.inside.made in
-    let whole : NumberSet = union_of (current_lists found made) in
-    subst (λ lists. AreParts (current_lists found lists) × (length lists ≡ 12)) (sym c.in_ok-put.ensures.put) (
-      made_parts (current_lists found (set_at made c.args.part (Some c.args.list))) (with_part whole c.args.part c.args.list)
-          (newest_set found made c.args.part c.args.list c.self.invariant.0 c.self.invariant.1 c.in_ok-put.ensures.in_range c.requires)
-          (with_part_within whole c.args.part c.args.list c.in_ok-put.ensures.in_range (parts_within (current_lists found made) c.self.invariant.0) c.requires),
-      length-set made c.args.part (Some c.args.list) ∙ c.self.invariant.1,
+    let previous = sets_of c.self.inside.previous in
+    let new_lists = c.self.inside.new_lists in
+    let whole : NumberSet = union_of (current_lists previous new_lists) in
+    subst (λ lists. AreParts (current_lists previous lists) × (length lists ≡ 12)) (sym c.in_ok-put.ensures.put) (
+      made_parts (current_lists previous (set_at new_lists c.args.part (Some c.args.list))) (with_part whole c.args.part c.args.list)
+          (newest_set previous new_lists c.args.part c.args.list c.self.invariant.0 c.self.invariant.1 c.in_ok-put.ensures.in_range c.requires)
+          (with_part_within whole c.args.part c.args.list c.in_ok-put.ensures.in_range (parts_within (current_lists previous new_lists) c.self.invariant.0) c.requires),
+      length-set new_lists c.args.part (Some c.args.list) ∙ c.self.invariant.1,
     )
 
 pub returns-clause-set : goal.returns-clause-set
 returns-clause-set c =
-    let found = sets_of c.self.inside.found in
-    let made = c.self.inside.made in
-    let whole : NumberSet = union_of (current_lists found made) in
-    ap (λ lists. union_of (current_lists found lists)) c.in_ok-put.ensures.put
-    ∙ made_union (current_lists found (set_at made c.args.part (Some c.args.list))) (with_part whole c.args.part c.args.list)
-    (newest_set found made c.args.part c.args.list c.self.invariant.0 c.self.invariant.1 c.in_ok-put.ensures.in_range c.requires)
-    (with_part_within whole c.args.part c.args.list c.in_ok-put.ensures.in_range (parts_within (current_lists found made) c.self.invariant.0) c.requires)
+    let previous = sets_of c.self.inside.previous in
+    let new_lists = c.self.inside.new_lists in
+    let whole : NumberSet = union_of (current_lists previous new_lists) in
+    ap (λ lists. union_of (current_lists previous lists)) c.in_ok-put.ensures.put
+    ∙ made_union (current_lists previous (set_at new_lists c.args.part (Some c.args.list))) (with_part whole c.args.part c.args.list)
+    (newest_set previous new_lists c.args.part c.args.list c.self.invariant.0 c.self.invariant.1 c.in_ok-put.ensures.in_range c.requires)
+    (with_part_within whole c.args.part c.args.list c.in_ok-put.ensures.in_range (parts_within (current_lists previous new_lists) c.self.invariant.0) c.requires)
     ∙ ap (λ d. with_part d.set c.args.part c.args.list) c.self.view_is

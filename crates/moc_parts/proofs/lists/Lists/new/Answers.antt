@@ -1,6 +1,6 @@
 use Rattle.std.proofs.Common.{ap, ◌∙◌}
 use Rattle.moc_parts.specs.Private.Drafts.{twelve_lists}
-use Rattle.moc_parts.proofs.Placing.{twelve_lists-none}
+use Rattle.moc_parts.proofs.OptionalLists.{twelve_lists-none}
 use Rattle.moc_parts.proofs.lists.Lists.new.Goals as goal
 
 pub returns : goal.returns

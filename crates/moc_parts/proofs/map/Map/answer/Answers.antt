@@ -5,5 +5,5 @@ use Rattle.moc_parts.proofs.map.Map.answer.Goals as goal
 pub lists-lists-requires : goal.lists-lists-requires
 lists-lists-requires c = ap length c.deref.ensures.value ∙ parts_length c.self.inside.parts.items c.self.invariant
 
-pub put_all-requires-clause-twelve : goal.put_all-requires-clause-twelve
-put_all-requires-clause-twelve c = ap length c.deref_mut.ensures.value ∙ parts_length c.self.inside.parts.items c.self.invariant
+pub replace_lists-requires-clause-twelve : goal.replace_lists-requires-clause-twelve
+replace_lists-requires-clause-twelve c = ap length c.deref_mut.ensures.value ∙ parts_length c.self.inside.parts.items c.self.invariant

@@ -7,7 +7,7 @@ use Rattle.moc_ranges.proofs.builder.CoverageBuilder.add_range.Goals as goal
 
 pub returns-then-branch-clause-added : goal.returns-then-branch-clause-added
 returns-then-branch-clause-added c =
-    let rising = c.self.inside.rising.items in
+    let ascending = c.self.inside.ascending.items in
     let added = numbers c.args.from c.args.to in
-    let is = c.in_ok-append.ensures.set ∙ ap (λ b. if b then set.union (set_of rising) added else set_of rising) c.if-branch.true in
-    gathered_risen c.self.inside.joined rising c.append.new.ranges.items c.self.inside.waiting.items added is ∙ ap (λ a. set.union a added) c.self.view_is
+    let is = c.in_ok-append.ensures.set ∙ ap (λ b. if b then set.union (set_of ascending) added else set_of ascending) c.if-branch.true in
+    gathered_risen c.self.inside.joined ascending c.append.new.ranges.items c.self.inside.waiting.items added is ∙ ap (λ a. set.union a added) c.self.view_is

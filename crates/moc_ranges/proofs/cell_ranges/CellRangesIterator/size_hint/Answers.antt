@@ -14,5 +14,5 @@ overflow_add-result c =
 pub returns-clause-upper : goal.returns-clause-upper
 returns-clause-upper c =
     let i = c.self.inside in
-    let all = ahead_count i.made (pieces_along i.order i.ranges) i.given i.count (omega (arith, c.self.invariant.1, c.self.invariant.2)) in
+    let all = ahead_count i.buffer (pieces_along i.order i.ranges) i.returned i.count (omega (arith, c.self.invariant.1, c.self.invariant.2)) in
     (tt, omega (arith, ap length c.self.view_is, all, pieces_count i.order i.ranges, ap (λ r. r.0) c.size_hint-ranges.ensures.exact))

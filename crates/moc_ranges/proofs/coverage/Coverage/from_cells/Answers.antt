@@ -14,7 +14,7 @@ returns c =
     let added =
     items_from_extend c.extend.result c.extend.ensures.ran
     (YieldsList-from_copied (YieldsList-at c.copied.ensures.source (YieldsList-from_slice _ c.iter.ensures.rest))) in
-    let gathered : c.extend.new.self ≡ all =
+    let pixels_of_builder : c.extend.new.self ≡ all =
     subst (λ r. OnOk r (c.extend.new.self ≡ set.union c.new-builder.result all)) c.in_ok-extend.was added
     ∙ ap (λ (a : NumberSet). set.union a all) c.new-builder.ensures ∙ empty-union all in
-    subst (λ (a : NumberSet). IfOk c.build.result (λ s. s ≡ a)) gathered c.build.ensures
+    subst (λ (a : NumberSet). IfOk c.build.result (λ s. s ≡ a)) pixels_of_builder c.build.ensures

@@ -63,7 +63,7 @@ overflow_sub-added c =
     let made : set_of c.in_ok-list.list ≡ set.union c.args.self.now (numbers c.args.from c.args.to) =
     c.in_ok-list.ensures ∙ (λ i. set.union (set_of (c.ranges-2.ensures.list i)) (set_of (c.of.ensures.list i)))
     ∙ (λ i. set.union (was i) (range_view c.args.from c.args.to i)) in
-    omega (arith, c.measure.ensures.value, c.measure-2.ensures.value, union_width c.args.from c.args.to c.insert.new.self c.in_ok-list.list c.args.self.now was c.measure-2.ensures.normal c.measure.ensures.normal made)
+    omega (arith, c.total_width.ensures.value, c.total_width-2.ensures.value, union_width c.args.from c.args.to c.insert.new.self c.in_ok-list.list c.args.self.now was c.total_width-2.ensures.normal c.total_width.ensures.normal made)
 
 pub returns-clause-set : goal.returns-clause-set
 returns-clause-set c =
@@ -85,4 +85,4 @@ returns-clause-added c =
     let made : set_of c.in_ok-list.list ≡ set.union c.args.self.now (numbers c.args.from c.args.to) =
     c.in_ok-list.ensures ∙ (λ i. set.union (set_of (c.ranges-2.ensures.list i)) (set_of (c.of.ensures.list i)))
     ∙ (λ i. set.union (was i) (range_view c.args.from c.args.to i)) in
-    omega (arith, c.measure.ensures.value, c.measure-2.ensures.value, union_width c.args.from c.args.to c.insert.new.self c.in_ok-list.list c.args.self.now was c.measure-2.ensures.normal c.measure.ensures.normal made)
+    omega (arith, c.total_width.ensures.value, c.total_width-2.ensures.value, union_width c.args.from c.args.to c.insert.new.self c.in_ok-list.list c.args.self.now was c.total_width-2.ensures.normal c.total_width.ensures.normal made)

@@ -1,8 +1,8 @@
--- One more lane is taken in.
+-- One more client is taken in.
 use Rattle.std.specs.Prelude.{◌≡◌, ℕ, ◌+◌, ◌<◌, get_or, vec_items, vec_len, List, length, Ok, Some}
 use Rattle.std.specs.Vec.Iter.{into_iter_items, into_iter_len}
 use Rattle.std.proofs.Common.{rules, arith, sym, subst}
-use Rattle.moc_script.specs.declared.crews.lane.LaneEnd.{LaneEnd}
+use Rattle.moc_script.specs.declared.crews.lane.LaneOutput.{LaneOutput}
 use Rattle.moc_shared.specs.Clients.{IsClientOf}
 use Rattle.moc_script.specs.Private.LaneEnds.{IsLaneEnd}
 use Rattle.moc_script.specs.Private.Gathering.{IsGathered}
@@ -19,7 +19,7 @@ loop-end-init c =
       (λ j d low.
           let place : j ≡ vec_len c.new-answers.result + j = omega (arith, none) in
           subst (λ (n : ℕ). IsLaneEnd c.args.job.map.now c.args.job.lanes c.args.job.input.now n (Ok (get_or (into_iter_items rest) j d))) place
-          (subst (λ (l : List LaneEnd). IsLaneEnd c.args.job.map.now c.args.job.lanes c.args.job.input.now j (Ok (get_or l j d))) (sym same)
+          (subst (λ (l : List LaneOutput). IsLaneEnd c.args.job.map.now c.args.job.lanes c.args.job.input.now j (Ok (get_or l j d))) (sym same)
           (c.requires.done.1 j d (omega (arith, long, c.requires.done.0))))),
       none,
     )
@@ -30,7 +30,7 @@ both-requires-clause-second c =
     let some : 0 < into_iter_len rest = search rules in
     let first : get_or (into_iter_items rest) 0 c.in-Some.end ≡ c.in-Some.end = grind rules in
     let found = c.loop-end.invariant.1 0 c.in-Some.end some in
-    subst (λ (q : LaneEnd). IsClientOf c.args.job.map.now q.client) first found.0
+    subst (λ (q : LaneOutput). IsClientOf c.args.job.map.now q.client) first found.0
 
 pub loop-end-preserved : goal.loop-end-preserved
 loop-end-preserved c =
@@ -47,13 +47,13 @@ loop-end-preserved c =
     let zero_more : k + 0 ≡ k = omega arith in
     let here : IsLaneEnd map lanes input k (Ok c.in-Some.end) =
     subst (λ (n : ℕ). IsLaneEnd map lanes input n (Ok c.in-Some.end)) zero_more
-    (subst (λ (q : LaneEnd). IsLaneEnd map lanes input (k + 0) (Ok q)) first (was.1 0 c.in-Some.end some)) in (
+    (subst (λ (q : LaneOutput). IsLaneEnd map lanes input (k + 0) (Ok q)) first (was.1 0 c.in-Some.end some)) in (
       search rules,
       (λ j d low.
           let shifted : get_or (into_iter_items left) j d ≡ get_or (into_iter_items rest) (j + 1) d = grind rules in
           let place : k + (j + 1) ≡ vec_len c.push.new.self + j = omega arith in
           subst (λ (n : ℕ). IsLaneEnd map lanes input n (Ok (get_or (into_iter_items left) j d))) place
-          (subst (λ (q : LaneEnd). IsLaneEnd map lanes input (k + (j + 1)) (Ok q)) (sym shifted) (was.1 (j + 1) d (search rules)))),
+          (subst (λ (q : LaneOutput). IsLaneEnd map lanes input (k + (j + 1)) (Ok q)) (sym shifted) (was.1 (j + 1) d (search rules)))),
       (subst (λ (n : ℕ). IsGathered map n lanes input (vec_items c.push.new.self) (Some c.both.result)) (sym grown)
           (subst (λ (l : List (List (List ℕ))). IsGathered map (k + 1) lanes input l (Some c.both.result)) (sym c.in-Ok.ensures.items)
           (gather_more map lanes input (vec_items c.loop-end.answers) k c.loop-end.all c.in-Some.end.client c.both.result c.in-Some.end.answers (omega (arith, c.loop-end.answers.ok)) was.2 c.both.ensures.map c.both.ensures.both

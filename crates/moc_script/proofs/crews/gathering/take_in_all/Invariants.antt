@@ -1,4 +1,4 @@
--- The lanes so far are taken in, and the others are those behind them.
+-- The clients so far are taken in, and the others follow them.
 use Rattle.std.specs.Prelude.{◌≡◌, ℕ, ◌+◌, ◌<◌, get_or, vec_items, vec_len, Ok}
 use Rattle.std.specs.Vec.Iter.{into_iter_items, into_iter_len}
 use Rattle.moc_script.specs.Private.LaneEnds.{IsLaneEnd}

@@ -1,4 +1,5 @@
--- The handles so far are of the lanes in order, the clients left are those behind them, and there is room for these.
+-- The handles so far are those of the lanes in order, the remaining clients follow them, and the capacity suffices for
+-- these.
 use Rattle.std.specs.Prelude.{◌≡◌, ℕ, ◌+◌, ◌<◌, ◌≤◌, get_or, vec_capacity, vec_items, vec_len}
 use Rattle.std.specs.Vec.Iter.{into_iter_items, into_iter_len}
 use Rattle.moc_shared.specs.Clients.{IsNewClient}

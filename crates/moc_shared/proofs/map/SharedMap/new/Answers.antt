@@ -1,6 +1,6 @@
 use Rattle.std.proofs.Common.{◌≡◌, ℕ, zero, suc, replicate, refl}
 use Rattle.std.specs.Prelude.{slice_index}
-use Rattle.moc_shared.proofs.Deals.{made}
+use Rattle.moc_shared.proofs.NewMaps.{made}
 use Rattle.moc_shared.proofs.map.SharedMap.new.Goals as goal
 
 zeros : (n b : ℕ) → slice_index (replicate n 0) b ≡ 0

@@ -1,5 +1,5 @@
 use Rattle.moc_shared.specs.Private.Slots.{replies_to}
-use Rattle.moc_shared.proofs.Promises.{ends_now}
+use Rattle.moc_shared.proofs.Guarantees.{ends_now}
 use Rattle.moc_shared.proofs.map.SharedMap.snapshot.Goals as goal
 
 pub returns-in-Ok-clause-ok : goal.returns-in-Ok-clause-ok

@@ -2,37 +2,37 @@ use Rattle.std.proofs.Common.{rules, ℕ, List, ◌∷◌, map, Some, refl, ap, 
 use Rattle.std.specs.FinSet as set
 use Rattle.moc_shared.specs.History.{call_by}
 use Rattle.moc_shared.specs.Batches.{batch_answer}
-use Rattle.moc_shared.specs.Seats.{table_place}
-use Rattle.moc_shared.specs.Private.Rule.{noted_parts}
-use Rattle.moc_shared.specs.Private.Seats.{content, part, IsProper, notes_below}
+use Rattle.moc_shared.specs.Seats.{table_index}
+use Rattle.moc_shared.specs.Private.Invariant.{parts_of_notes}
+use Rattle.moc_shared.specs.Private.Seats.{content, part, IsInSky, notes_below}
 use Rattle.moc_shared.specs.Private.Slots.{replies_to}
 use Rattle.moc_shared.proofs.Moves.{ends_call_as, ended_is}
-use Rattle.moc_shared.proofs.Carried.{first_carried, rest_parts}
+use Rattle.moc_shared.proofs.CarriedSlots.{first_carried, rest_parts}
 use Rattle.moc_shared.proofs.table.steps.end_call.Goals as goal
 
 pub exchange-requires : goal.exchange-requires
 exchange-requires g c = (
   c.requires.place.0,
   first_carried c.args.seat.now.me.1 c.index-index.result _
-      (c.requires.carried ∙ ap (λ (l : List ℕ). map table_place l) c.requires.held.0
-      ∙ (λ i. sym c.index-index.ensures.place i ∷ map table_place (noted_parts (notes_below c.args.rest.now 12)))),
+      (c.requires.carried ∙ ap (λ (l : List ℕ). map table_index l) c.requires.held.0
+      ∙ (λ i. sym c.index-index.ensures.place i ∷ map table_index (parts_of_notes (notes_below c.args.rest.now 12)))),
 )
 
 pub store-requires : goal.store-requires
 store-requires g c = let h = c.requires.held in let v = c.args.seat.now.me.0 in (
   search rules,
   omega (arith, c.index-index.ensures.place, c.index-index.ensures.in_range, c.requires.place.1),
-  ends_call_as 12 content part batch_answer IsProper _ _ _ _ _ v _ _ (Some c.args.new) _
-      (call_by v.mine.number c.args.batch.now (replies_to c.args.found.now c.args.batch.now)) g.C.Closing.call
-      (notes_below c.args.rest.now 12) g.C.Closing.notes c.index-index.ensures.place c.requires.call.0 c.requires.call.1
+  ends_call_as 12 content part batch_answer IsInSky _ _ _ _ _ v _ _ (Some c.args.new) _
+      (call_by v.mine.number c.args.batch.now (replies_to c.args.previous.now c.args.batch.now)) g.C.EndingCall.call
+      (notes_below c.args.rest.now 12) g.C.EndingCall.notes c.index-index.ensures.place c.requires.call.0 c.requires.call.1
       c.exchange.ensures.3 c.requires.client refl h.0 h.1 c.requires.answered,
 )
 
 pub returns : goal.returns
 returns g c = let h = c.requires.held in let v = c.args.seat.now.me.0 in
-    let t = ended_is 12 content part batch_answer IsProper set.empty 0 c.args.table.now.table_id.slots c.index-index.result _
+    let t = ended_is 12 content part batch_answer IsInSky set.empty 0 c.args.table.now.table_id.slots c.index-index.result _
     c.store.new.seat.me v (Some c.args.new) _
-    (call_by v.mine.number c.args.batch.now (replies_to c.args.found.now c.args.batch.now)) g.C.Closing.call
-    (notes_below c.args.rest.now 12) g.C.Closing.notes c.requires.call.0 c.requires.call.1 c.exchange.ensures.3
-    (rest_parts c.args.seat.now.me.1 (table_place c.args.part) _ (c.requires.carried ∙ ap (λ (l : List ℕ). map table_place l) h.0)) c.store.ensures.2 in
+    (call_by v.mine.number c.args.batch.now (replies_to c.args.previous.now c.args.batch.now)) g.C.EndingCall.call
+    (notes_below c.args.rest.now 12) g.C.EndingCall.notes c.requires.call.0 c.requires.call.1 c.exchange.ensures.3
+    (rest_parts c.args.seat.now.me.1 (table_index c.args.part) _ (c.requires.carried ∙ ap (λ (l : List ℕ). map table_index l) h.0)) c.store.ensures.2 in
     record { same = search rules; carried = t.0; ended = t.1 }

@@ -1,38 +1,38 @@
 use Rattle.std.proofs.Common.{rules, List, ◌∷◌, map, Option, Some, ap, ◌∙◌, subst, sym, arith}
 use Rattle.atomic_table.specs.Table.{rest, Me}
-use Rattle.moc_shared.specs.Seats.{table_place, Pointer, Sight}
-use Rattle.moc_shared.specs.Private.Rule.{noted_parts}
-use Rattle.moc_shared.specs.Private.Seats.{IsCarried, content, part, IsProper, PartNote}
-use Rattle.moc_shared.specs.Private.Plays.{with_holds, behind_first}
+use Rattle.moc_shared.specs.Seats.{table_index, Pointer, ClientView}
+use Rattle.moc_shared.specs.Private.Invariant.{parts_of_notes}
+use Rattle.moc_shared.specs.Private.Seats.{IsCarried, content, part, IsInSky, PartNote}
+use Rattle.moc_shared.specs.Private.StepEffects.{with_holds, tail}
 use Rattle.moc_shared.specs.Batches.{batch_answer}
 use Rattle.moc_shared.proofs.Moves.{gives_part_as}
-use Rattle.moc_shared.proofs.Carried.{first_carried, rest_carried}
+use Rattle.moc_shared.proofs.CarriedSlots.{first_carried, rest_carried}
 use Rattle.moc_shared.proofs.table.steps.give_part.Goals as goal
 
 pub exchange-requires : goal.exchange-requires
 exchange-requires c = let h = c.requires.held in (
   c.requires.place.0,
-  first_carried c.args.seat.now.me.1 c.index-index.result (map table_place (noted_parts h.0))
-      (c.requires.carried ∙ ap (λ (l : List PartNote). map table_place (noted_parts l)) h.1
-      ∙ (λ i. sym c.index-index.ensures.place i ∷ map table_place (noted_parts h.0))),
+  first_carried c.args.seat.now.me.1 c.index-index.result (map table_index (parts_of_notes h.0))
+      (c.requires.carried ∙ ap (λ (l : List PartNote). map table_index (parts_of_notes l)) h.1
+      ∙ (λ i. sym c.index-index.ensures.place i ∷ map table_index (parts_of_notes h.0))),
 )
 
 pub store-requires : goal.store-requires
 store-requires c = let h = c.requires.held in let x = c.exchange.ensures in (
   search rules,
   omega (arith, c.index-index.ensures.place, c.index-index.ensures.in_range, c.requires.place.1),
-  gives_part_as 12 content part batch_answer IsProper _ _ _ _ _ c.args.seat.now.me.0 _ _ (Some c.args.new) _ h.0
+  gives_part_as 12 content part batch_answer IsInSky _ _ _ _ _ c.args.seat.now.me.0 _ _ (Some c.args.new) _ h.0
       c.index-index.ensures.place x.3
       c.requires.client h.1 h.2,
 )
 
-pub returns-clause-gave : goal.returns-clause-gave
-returns-clause-gave c = (λ i. (c.store.ensures.2 i).0)
-    ∙ (λ i. let m = c.exchange.ensures.3 i in with_holds m.0 (behind_first m.0.holds))
+pub returns-clause-given_back : goal.returns-clause-given_back
+returns-clause-given_back c = (λ i. (c.store.ensures.2 i).0)
+    ∙ (λ i. let m = c.exchange.ensures.3 i in with_holds m.0 (tail m.0.holds))
 
 pub returns-clause-carried : goal.returns-clause-carried
 returns-clause-carried c =
-    subst (λ (m : Me (Option Pointer) Sight). IsCarried m)
+    subst (λ (m : Me (Option Pointer) ClientView). IsCarried m)
     (sym (c.store.ensures.2
-    ∙ (λ i. let m = c.exchange.ensures.3 i in (with_holds m.0 (behind_first m.0.holds), rest m.1))))
+    ∙ (λ i. let m = c.exchange.ensures.3 i in (with_holds m.0 (tail m.0.holds), rest m.1))))
     (rest_carried c.args.seat.now.me.1 c.args.seat.now.me.0.holds c.requires.carried)

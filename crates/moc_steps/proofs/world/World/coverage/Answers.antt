@@ -15,4 +15,4 @@ lists-requires c =
 
 pub returns-clause-covered : goal.returns-clause-covered
 returns-clause-covered c =
-    c.in_ok-unite.ensures ∙ ap union_of (c.lists.ensures ∙ c.deref.ensures.value) ∙ ap (λ (w : BatchWorld). whole batches w) c.self.view_is
+    c.in_ok-merge_parts.ensures ∙ ap union_of (c.lists.ensures ∙ c.deref.ensures.value) ∙ ap (λ (w : BatchWorld). whole batches w) c.self.view_is

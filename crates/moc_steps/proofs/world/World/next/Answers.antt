@@ -3,7 +3,7 @@ use Rattle.moc_parts.specs.Batches.{batches}
 use Rattle.moc_steps.specs.Machine.{holder}
 use Rattle.moc_steps.specs.Played.{BatchWorld}
 use Rattle.moc_steps.proofs.Basics.{none_or_some, same_or}
-use Rattle.moc_steps.proofs.Rising.{IsTaken, all_rising, last_taken}
+use Rattle.moc_steps.proofs.Ascending.{IsTaken, all_rising, last_taken}
 use Rattle.moc_steps.proofs.world.World.next.Goals as goal
 
 pub loop-part-init : goal.loop-part-init
@@ -29,7 +29,7 @@ loop-part-preserved c =
     let b : ℕ = c.in-Some.part.now in
     let taken : IsTaken c.loop-part.part-iterator.iter.rest.now c.next.new.self.iter.rest.now b =
     last_taken c.loop-part.part-iterator.iter.rest.now c.next.new.self.iter.rest.now b c.in-Some.ensures.steps c.loop-part.invariant.0 in (
-      taken.rising,
+      taken.ascending,
       λ d l k. elim (same_or d b) [
         | inl e ↦ ap (holder batches c.args.self.now.locks.clients) e ∙ sym (ap (λ (w : BatchWorld). holder batches w.locks.clients b) c.self.view_is) ∙ sym (c.self.invariant.held b taken.below)
             ∙ elim (none_or_some (get_or c.self.inside.holders b None)) [

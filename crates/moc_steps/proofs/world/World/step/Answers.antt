@@ -1,7 +1,7 @@
 use Rattle.std.proofs.Common.{sym, subst}
 use Rattle.moc_parts.specs.Batches.{batches}
 use Rattle.moc_steps.specs.declared.step.Step.{Step}
-use Rattle.moc_steps.specs.Laws.{RepliesByEntry}
+use Rattle.moc_steps.specs.Theorems.{RepliesByEntry}
 use Rattle.moc_steps.specs.Played.{step_of}
 use Rattle.moc_steps.proofs.world.World.step.Goals as goal
 

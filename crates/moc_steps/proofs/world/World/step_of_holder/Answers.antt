@@ -3,9 +3,9 @@ use Rattle.std.specs.Option.{is_some}
 use Rattle.moc_parts.specs.Batches.{batches}
 use Rattle.moc_steps.specs.Machine.{client_at}
 use Rattle.moc_steps.proofs.Basics.{clash}
-use Rattle.moc_steps.proofs.Taking.{holder_holds}
-use Rattle.moc_steps.proofs.KeptSteps.{seen_as}
-use Rattle.moc_steps.proofs.Going.{highest_takes, highest_edits, highest_gives}
+use Rattle.moc_steps.proofs.TakingParts.{holder_holds}
+use Rattle.moc_steps.proofs.PreservedSteps.{seen_as}
+use Rattle.moc_steps.proofs.NextSteps.{highest_takes, highest_edits, highest_gives}
 use Rattle.moc_steps.proofs.world.World.step_of_holder.Goals as goal
 use Rattle.moc_steps.proofs.world.World.step_of_holder.Goals.{else-not-quits-via-then-not-quits+else-is_some}
 use Rattle.moc_steps.proofs.world.World.step_of_holder.Goals.{else-not-quits-via-else-not-quits}

@@ -5,14 +5,14 @@ use Rattle.std.specs.FinSet as set
 use Rattle.moc_parts.specs.Batches.{batches}
 use Rattle.moc_steps.specs.Machine as machine
 use Rattle.moc_steps.specs.Machine.{refusal, take_refusal, next_part, world_after}
-use Rattle.moc_steps.specs.Private.Standing.{Standing}
-use Rattle.moc_steps.specs.Private.Effects.{IsEffectOf}
+use Rattle.moc_steps.specs.Private.ClientState.{ClientState}
+use Rattle.moc_steps.specs.Private.Effects.{IsApplicable}
 use Rattle.moc_steps.specs.declared.table.Effect.TheVariants.{Take}
 use Rattle.moc_steps.specs.Played.{BatchWorld}
 use Rattle.moc_steps.specs.Private.Worlds.{world_of}
 use Rattle.moc_steps.proofs.AnyObject.{reached_explained}
-use Rattle.moc_steps.proofs.Notes.{same_default}
-use Rattle.moc_steps.proofs.KeptSteps.{Goes, take_goes, take_asks, is_midway, may_take}
+use Rattle.moc_steps.proofs.PreviousContents.{same_default}
+use Rattle.moc_steps.proofs.PreservedSteps.{Goes, take_goes, take_asks, is_midway, may_take}
 use Rattle.moc_steps.proofs.world.World.take.Goals as goal
 
 pub index-requires-2 : goal.index-requires-2
@@ -32,14 +32,14 @@ list_is c =
 pub change-requires : goal.change-requires
 change-requires c =
     let i = c.self.inside in
-    let s : Standing = c.in_ok-midway.midway.now in
-    subst (λ x. IfSome x (λ s. IsEffectOf s (Take c.in_ok-part.part c.in_ok-list.list))) (sym (sym c.get.ensures ∙ ap option_copied (c.ok_or.ensures.ok_part ∙ ap result_ok c.in_ok-midway.was)))
+    let s : ClientState = c.in_ok-midway.midway.now in
+    subst (λ x. IfSome x (λ s. IsApplicable s (Take c.in_ok-part.part c.in_ok-list.list))) (sym (sym c.get.ensures ∙ ap option_copied (c.ok_or.ensures.ok_part ∙ ap result_ok c.in_ok-midway.was)))
     (take_asks i.begun i.clients i.parts.items i.holders i.order.items c.self.invariant c.args.client c.in_ok-part.part s c.in_ok-list.list (sym c.get.ensures ∙ ap option_copied (c.ok_or.ensures.ok_part ∙ ap result_ok c.in_ok-midway.was)) c.in_ok-part.ensures.next (list_is c))
 
 goes : (c : goal.After-way_told-1) → Goes c.self.inside.begun c.self.inside.clients c.self.inside.parts.items c.self.inside.order.items (machine.Step.Take c.args.client) c.self.inside.begun c.change.new.self c.self.inside.parts.items (slice_set c.self.inside.holders c.index-3.result (Some c.args.client)) c.self.inside.order.items
 goes c =
     let i = c.self.inside in
-    let s : Standing = c.in_ok-midway.midway.now in
+    let s : ClientState = c.in_ok-midway.midway.now in
     let q : ℕ = c.in_ok-part.part in
     let twelve : length i.holders ≡ 12 = search rules in
     let is : c.in_ok-list.list ≡ get_or i.parts.items q set.empty =
@@ -58,19 +58,19 @@ invariant_of-self c = (goes c).1
 pub returns-clause-after : goal.returns-clause-after
 returns-clause-after c = (goes c).0 ∙ ap (λ w. world_after batches w (machine.Step.Take c.args.client)) c.self.view_is
 
-pub returns-in_err-midway-clause-refused : goal.returns-in_err-midway-clause-refused
-returns-in_err-midway-clause-refused c =
+pub returns-in_err-midway-clause-failure : goal.returns-in_err-midway-clause-failure
+returns-in_err-midway-clause-failure c =
     let i = c.self.inside in
     is_midway i.begun i.clients i.parts.items i.holders i.order.items c.self.invariant c.args.client (take_refusal batches (world_of i.begun i.clients i.parts.items i.order.items).locks)
     (ap (λ (w : BatchWorld). refusal batches w.locks (machine.Step.Take c.args.client)) c.self.view_is ∙ c.requires)
     (sym c.get.ensures ∙ ap option_copied (c.ok_or.ensures.ok_part ∙ ap result_ok c.in_err-midway.was))
 
-pub returns-in_err-part-clause-refused : goal.returns-in_err-part-clause-refused
-returns-in_err-part-clause-refused c =
+pub returns-in_err-part-clause-failure : goal.returns-in_err-part-clause-failure
+returns-in_err-part-clause-failure c =
     let i = c.self.inside in
-    let s : Standing = c.in_ok-midway.midway.now in
+    let s : ClientState = c.in_ok-midway.midway.now in
     let free : take_refusal batches c.args.self.now.locks s.running ≡ None =
     sym (ap (λ (w : BatchWorld). take_refusal batches w.locks s.running) c.self.view_is)
     ∙ may_take i.begun i.clients i.parts.items i.holders i.order.items c.self.invariant c.args.client s (sym c.get.ensures ∙ ap option_copied (c.ok_or.ensures.ok_part ∙ ap result_ok c.in_ok-midway.was))
     (ap (λ (w : BatchWorld). refusal batches w.locks (machine.Step.Take c.args.client)) c.self.view_is ∙ c.requires) in
-    let refused = c.in_err-part.ensures.refused in absurd (cc (free, refused))
+    let refused = c.in_err-part.ensures.failure in absurd (cc (free, refused))

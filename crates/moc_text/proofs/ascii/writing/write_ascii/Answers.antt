@@ -2,7 +2,7 @@ use Rattle.std.proofs.Common.{rules, ◌≡◌, ℕ, List, None, true, false, sy
 use Rattle.std.specs.List.{join_with_byte}
 use Rattle.std.specs.String.{string_bytes}
 use Rattle.moc_ranges.specs.Cells.{cells_of}
-use Rattle.moc_text.specs.Ascii.{Says}
+use Rattle.moc_text.specs.Ascii.{Represents}
 use Rattle.moc_text.specs.AsciiText.{ascii_text, IsTooCoarse, deepest_written, runs_of, words_of}
 use Rattle.moc_text.proofs.Written.{written_is_read}
 use Rattle.moc_text.proofs.ascii.writing.write_ascii.Goals as goal
@@ -15,5 +15,5 @@ returns-clause-reads_back c =
     let none : c.is_too_coarse.result ≡ false = c.if-is_too_coarse.false in
     absurd cc in
     let text : string_bytes c.in_ok-finish.field-0 ≡ join_with_byte 32 (words_of c.args.stated None (runs_of (cells_of c.args.set.now))) = search rules in
-    subst (λ (t : List ℕ). Says t c.args.set.now (deepest_written c.args.set.now c.args.stated)) (sym text)
+    subst (λ (t : List ℕ). Represents t c.args.set.now (deepest_written c.args.set.now c.args.stated)) (sym text)
     (written_is_read c.args.set.now c.args.stated c.cell_orders-orders.ensures.within (rw c.depth_of-stated.ensures.same at c.depth_of-stated.ensures.small) fine)

@@ -1,6 +1,0 @@
-use Rattle.std.proofs.Common.{◌≤◌}
-use Rattle.moc_c.specs.Private.Looking.{IsRest}
-use Rattle.moc_c.proofs.looking.go_on.Given as goal
-
-abbrev pub invariant-loop-step : goal.invariant-loop-step
-invariant-loop-step l = IsRest l.coverage l.rest l.passed × (l.passed ≤ l.pixel)

@@ -1,5 +1,0 @@
-use Rattle.moc_c.proofs.Keys.{none_after_free}
-use Rattle.moc_c.proofs.shelf.Shelf.free.Goals as goal
-
-pub invariant_of-self : goal.invariant_of-self
-invariant_of-self c = rw c.remove.ensures.removed (none_after_free c.self.inside.sets c.self.inside.next c.args.key c.self.invariant)

@@ -1,9 +1,0 @@
-use Rattle.std.proofs.Common.{◌≡◌, ◌++◌, ℕ, List, length}
-use Rattle.moc_conversion.specs.Private.Running.{IsOpen, Leads}
-use Rattle.moc_conversion.proofs.combination.Combination.take_bytes.Given as goal
-
-abbrev pub invariant-loop-part : goal.invariant-loop-part
-invariant-loop-part l = IsOpen l.self × ((taken : List ℕ) × (l.bytes ≡ taken ++ l.rest) × Leads l.fn.self taken l.self)
-
-abbrev pub decreases-loop-part : goal.decreases-loop-part
-decreases-loop-part l = length l.rest

@@ -1,6 +1,0 @@
-use Rattle.std.proofs.Common.{◌≡◌, drop}
-use Rattle.moc_forms.specs.Finding.{first_byte}
-use Rattle.moc_forms.proofs.finding.first_byte.Given as goal
-
-abbrev pub invariant-loop-byte : goal.invariant-loop-byte
-invariant-loop-byte l = first_byte (drop l.byte-index l.text) ≡ first_byte l.text

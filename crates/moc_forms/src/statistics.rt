@@ -1,0 +1,183 @@
+//! Statistics of a coverage.
+ghost use Rattle.std.specs.Prelude.{◌≡◌, IfOk, slice_index};
+ghost use Rattle.std.specs.Fmt.{WritesOnOk};
+ghost use Rattle.std.specs.String.{string_bytes};
+ghost use Rattle.moc_forms.specs.Describing.{AreStatistics, Describes, counts_of, deepest_line, order_line};
+ghost use Rattle.moc_forms.specs.Describing.{order_lines_below, share_line, share_of};
+
+use moc_ranges::{Coverage, Memory, PIXEL_COUNT};
+use moc_sphere::{Cell, Order};
+use std::alloc::Global;
+use std::fmt;
+
+/// The denominator of the share of the sky: 10^12.
+const SHARE_DENOMINATOR: u64 = 1_000_000_000_000;
+
+/// The statistics of a coverage. `Display` writes them one a line. The first lines are the MOC order that its text
+/// states, or `none`, the number of pixels of order 29, and their share of the sky, truncated to twelve digits. Then
+/// come the number of ranges, the number of cells, and the number of cells of each order that has any.
+#[derive(Clone, Copy, Debug, PartialEq, Eq)]
+pub struct Statistics {
+    deepest: Option<Order>,
+    pixels: u64,
+    ranges: u64,
+    cells: u64,
+    orders: [u64; 30],
+}
+
+impl Statistics {
+    /// Returns the statistics of a set, given the MOC order that its text states.
+    ///
+    /// # Errors
+    /// Fails with `Memory` if an allocation fails.
+    ///
+    /// # Complexity
+    /// One pass over the ranges for each order that can have cells, and one over the cells.
+    ///
+    /// # Memory
+    /// Proportional to the number of the set's cells.
+    pub fn of(alloc: Global, set: &Coverage, deepest: Option<Order>) -> Result<Statistics, Memory>
+        ensures { IfOk result (AreStatistics set.now deepest) }
+    {
+        let cells = set.cells(alloc)?;
+        Ok(Statistics {
+            deepest,
+            pixels: set.count(),
+            ranges: set.range_count() as u64,
+            cells: cells.len() as u64,
+            orders: counts(&cells),
+        })
+    }
+
+    /// Returns the MOC order that the text of the set states.
+    pub fn deepest(&self) -> Option<Order>
+        ensures { result ≡ self.now.deepest }
+    {
+        self.deepest
+    }
+
+    /// Returns the number of pixels of order 29.
+    pub fn count(&self) -> u64
+        ensures { result ≡ self.now.pixels }
+    {
+        self.pixels
+    }
+
+    /// Returns the number of ranges of pixels of order 29.
+    pub fn range_count(&self) -> u64
+        ensures { result ≡ self.now.ranges }
+    {
+        self.ranges
+    }
+
+    /// Returns the number of cells: those that are not part of a larger cell of the set.
+    pub fn cell_count(&self) -> u64
+        ensures { result ≡ self.now.cells }
+    {
+        self.cells
+    }
+
+    /// Returns the number of these cells that have the given order.
+    pub fn cells_of(&self, order: Order) -> u64
+        ensures { result ≡ slice_index self.now.orders order }
+    {
+        self.orders[usize::from(order.get())]
+    }
+
+    /// Returns the share of the sky in parts of 10^12, rounded down: 88541666666 for 0.088541666666. O(1); allocates
+    /// nothing.
+    pub fn share(&self) -> u64
+        ensures { result ≡ share_of self.now.pixels }
+    {
+        let parts = u128::from(self.pixels) * u128::from(SHARE_DENOMINATOR)
+            / u128::from(PIXEL_COUNT);
+        parts as u64
+    }
+}
+
+impl fmt::Display for Statistics {
+    ghost use Rattle.std.specs.Prelude.{Some};
+    ghost use Rattle.moc_forms.specs.Describing.{statistics_text};
+
+    ghost output = { λ statistics. Some (statistics_text statistics) };
+
+    fn fmt<W: fmt::Write>(&self, f: &mut fmt::Formatter<W>) -> fmt::Result {
+        write_deepest(f, self.deepest)?;
+        writeln!(f, "pixels {}", self.pixels)?;
+        write_share(f, self.share())?;
+        writeln!(f, "ranges {}", self.ranges)?;
+        writeln!(f, "cells {}", self.cells)?;
+        write_orders(f, &self.orders)
+    }
+}
+
+/// Writes the line of the MOC order.
+fn write_deepest<W: fmt::Write>(f: &mut fmt::Formatter<W>, deepest: Option<Order>) -> fmt::Result
+    ensures { WritesOnOk W.write_str_gives f.old result (deepest_line deepest) f.new }
+{
+    match deepest {
+        Some(order) => writeln!(f, "deepest {order}"),
+        None => writeln!(f, "deepest none"),
+    }
+}
+
+/// Writes the line of a share of the sky, given in parts of 10^12.
+fn write_share<W: fmt::Write>(f: &mut fmt::Formatter<W>, parts: u64) -> fmt::Result
+    ensures { WritesOnOk W.write_str_gives f.old result (share_line parts) f.new }
+{
+    writeln!(
+        f,
+        "share {}.{:012}",
+        parts / SHARE_DENOMINATOR,
+        parts % SHARE_DENOMINATOR
+    )
+}
+
+/// Writes a line for each order that has cells.
+#[tactic(auto, unfolding(crate::specs::Describing::order_lines_below))]
+fn write_orders<W: fmt::Write>(f: &mut fmt::Formatter<W>, orders: &[u64; 30]) -> fmt::Result
+    ensures { WritesOnOk W.write_str_gives f.old result (order_lines_below orders.now 30) f.new }
+{
+    for order in 0..30 {
+        write_order(f, order, orders[order])?;
+    }
+    Ok(())
+}
+
+/// Writes the line of an order with its number of cells, if the number is not zero.
+fn write_order<W: fmt::Write>(f: &mut fmt::Formatter<W>, order: usize, count: u64) -> fmt::Result
+    ensures { WritesOnOk W.write_str_gives f.old result (order_line order count) f.new }
+{
+    if count > 0 {
+        writeln!(f, "order {order} {count}")?;
+    }
+    Ok(())
+}
+
+/// Returns the number of cells of each order.
+fn counts(cells: &[Cell]) -> [u64; 30]
+    ensures { result ≡ counts_of cells.now }
+{
+    let mut counts = [0; 30];
+    for cell in cells {
+        counts[usize::from(cell.order().get())] += 1;
+    }
+    counts
+}
+
+/// Returns the text of the statistics of a set, given the MOC order that its text states.
+///
+/// # Errors
+/// Fails with `Memory` if an allocation fails.
+///
+/// # Complexity
+/// As `Statistics::of`.
+///
+/// # Memory
+/// Proportional to the number of the set's cells.
+pub fn describe(alloc: Global, set: &Coverage, deepest: Option<Order>) -> Result<String, Memory>
+    ensures { IfOk result (λ t. Describes set.now deepest (string_bytes t)) }
+{
+    let statistics = Statistics::of(alloc, set, deepest)?;
+    Ok(format!(in alloc; "{statistics}")?)
+}

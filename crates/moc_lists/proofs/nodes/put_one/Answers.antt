@@ -1,5 +1,0 @@
-use Rattle.moc_blocks.proofs.Adding.{set_split}
-use Rattle.moc_lists.proofs.nodes.put_one.Goals as goal
-
-pub returns : goal.returns
-returns c = set_split c.args.nodes.now.items c.args.place c.args.first c.requires

@@ -1,5 +1,0 @@
-use Rattle.moc_blocks.proofs.Adding.{set_inserted}
-use Rattle.moc_lists.proofs.nodes.put_two.Goals as goal
-
-pub returns-clause-new : goal.returns-clause-new
-returns-clause-new c = set_inserted c.args.nodes.now.items _ c.args.place c.args.first c.args.second c.requires c.in_ok-insert.ensures.items

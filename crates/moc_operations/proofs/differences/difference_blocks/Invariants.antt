@@ -1,0 +1,14 @@
+use Rattle.std.proofs.Common.{◌+◌, [], length}
+use Rattle.moc_blocks.specs.RangeList.{IsNormal}
+use Rattle.moc_blocks.specs.Private.Built.{ranges_of}
+use Rattle.moc_operations.specs.Private.Meeting.{Intersects, gaps_of}
+use Rattle.moc_operations.proofs.differences.difference_blocks.Given as goal
+
+abbrev pub invariant-loop-built : goal.invariant-loop-built
+invariant-loop-built l = record {
+  met : Intersects l.fn.xs l.xs (gaps_of 0 l.fn.ys) (gaps_of l.low l.ys) [] (ranges_of l.built);
+  second_normal : IsNormal l.ys;
+}
+
+abbrev pub decreases-loop-built : goal.decreases-loop-built
+decreases-loop-built l = length l.xs + length l.ys

@@ -1,7 +1,0 @@
-use Rattle.moc_blocks.proofs.Basics.{from_ok}
-use Rattle.moc_operations.proofs.MeetingOn.{meets_taken}
-use Rattle.moc_operations.proofs.intersection.meet_whole.Goals as goal
-
-pub returns-clause-met : goal.returns-clause-met
-returns-clause-met c =
-    from_ok c.take_whole.result c.take_whole.ensures (meets_taken _ _ c.args.xs.now _ c.args.ys.now c.in-Some.ensures.0 c.in-Some.other c.requires.can c.in-Some.ensures.1)

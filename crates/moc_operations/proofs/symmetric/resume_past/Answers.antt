@@ -1,8 +1,0 @@
-use Rattle.std.proofs.Common.{◌++◌, List, ℕ, sym, subst}
-use Rattle.moc_blocks.specs.RangeList.{IsNormal}
-use Rattle.moc_operations.proofs.Bounds.{normal_next, take_rest}
-use Rattle.moc_operations.proofs.symmetric.resume_past.Goals as goal
-
-pub resume-requires : goal.resume-requires
-resume-requires c =
-    subst (λ (l : List (ℕ × ℕ)). IsNormal (l ++ c.args.block.behind)) (sym (take_rest c.args.block.ranges.now c.args.passed)) (normal_next c.args.xs.now c.args.block.ranges.now c.args.block.behind c.args.passed c.requires.parts c.requires.normal)

@@ -1,9 +1,0 @@
-use Rattle.std.proofs.Common.{◌+◌, length}
-use Rattle.moc_operations.proofs.Merging.{IsUniting}
-use Rattle.moc_operations.proofs.union.unite_lists.Given as goal
-
-abbrev pub invariant-loop-built : goal.invariant-loop-built
-invariant-loop-built l = IsUniting l.built l.xs l.ys l.fn.xs l.fn.ys
-
-abbrev pub decreases-loop-built : goal.decreases-loop-built
-decreases-loop-built l = length l.xs + length l.ys

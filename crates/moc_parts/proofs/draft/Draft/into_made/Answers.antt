@@ -1,8 +1,0 @@
-use Rattle.std.proofs.Common.{subst}
-use Rattle.moc_ranges.specs.Operations.{pixels, IsWithin}
-use Rattle.moc_parts.specs.Private.Drafts.{current_lists, sets_of}
-use Rattle.moc_parts.proofs.Twelve.{parts_within}
-use Rattle.moc_parts.proofs.draft.Draft.into_made.Goals as goal
-
-pub returns-clause-within : goal.returns-clause-within
-returns-clause-within c = subst (λ d. IsWithin d.set pixels) c.self.view_is (parts_within (current_lists (sets_of c.self.inside.found) c.self.inside.made) c.self.invariant.0)

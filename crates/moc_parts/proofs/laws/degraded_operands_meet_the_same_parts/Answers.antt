@@ -1,5 +1,0 @@
-use Rattle.moc_parts.proofs.Locality.{met_degraded}
-use Rattle.moc_parts.proofs.laws.degraded_operands_meet_the_same_parts.Goals as goal
-
-pub returns : goal.returns
-returns c = met_degraded

@@ -1,9 +1,0 @@
-use Rattle.moc_parts.proofs.Twelve.{lying_parts, parts_within, found_by_part}
-use Rattle.moc_parts.proofs.laws.sets_are_united_by_parts.Goals as goal
-
-pub returns : goal.returns
-returns c = record {
-  parts = lying_parts;
-  within = λ sets lie. parts_within sets (lying_parts sets lie);
-  found = found_by_part;
-}

@@ -1,7 +1,0 @@
-use Rattle.std.proofs.Common.{◌≡◌, ◌<◌}
-use Rattle.moc_ranges.specs.Operations.{IsWithin, pixels}
-use Rattle.moc_parts.specs.Parts.{parts_below}
-use Rattle.moc_parts.proofs.whole.cut.Given as goal
-
-abbrev pub invariant-loop-part : goal.invariant-loop-part
-invariant-loop-part l = (l.parts.items ≡ parts_below l.set l.part-index) × (0 < l.part-index → IsWithin l.set pixels)

@@ -1,0 +1,75 @@
+-- The values of a subcommand, and the action of the arguments.
+use Rattle.std.proofs.Common.{◌≡◌, ◌∙◌, inl, inr, ℕ, List, Option, None, Some, Result, Ok, Err, refl, sym, ap, subst}
+use Rattle.std.specs.Prelude.{IfSome}
+use Rattle.std.specs.Option.{SomeIff}
+use Rattle.std.specs.Result.{result_ok}
+use Rattle.clap.specs.Words.{Text, ReadsOne, first_value, one_text, rows_of}
+use Rattle.clap.specs.declared.parser.matches.Found.{Found}
+use Rattle.clap.proofs.WalkLemmas.{first_value-rows, one_text-rows}
+use Rattle.moc_devices.specs.Devices.{Reading, Writing}
+use Rattle.moc_sphere.specs.Names.{ParsesName, Spells}
+use Rattle.clap.specs.declared.parser.matches.ArgMatches.{ArgMatches}
+use Rattle.moc_program.specs.Actions.{ActionEnds}
+use Rattle.moc_program.specs.Requests.{RequestAction, HasNumber, HasWord}
+use Rattle.moc_program.specs.Outcomes.{CanEndWith}
+use Rattle.moc_program.specs.Private.Matches.{AreParsedAs, IsRequestedIn, MatchedEnd}
+use Rattle.moc_program.specs.declared.action.Action.{Action}
+use Rattle.moc_program.specs.declared.status.ProgramError.{ProgramError}
+
+-- the parsed number is one that the value spells
+pub number_read : {E : Type 0} (gives : List ℕ → Result ℕ E → Type 0) (f : Found) (name : Text) (r : Option ℕ) → ((text : List ℕ) (n : ℕ) → gives text (Ok n) → Spells text n)
+    → (one_text f name ≡ None → r ≡ None) → ((text : List ℕ) → one_text f name ≡ Some text → ReadsOne gives text r) → IfSome r (λ n. HasNumber name (rows_of f) n)
+number_read gives f name None spells none value = tt
+number_read gives f name (Some n) spells none value = at (one_text f name) refl
+  where
+    at : (o : Option (List ℕ)) → one_text f name ≡ o → HasNumber name (rows_of f) n
+    at None e = absurd (let no = none e in cc)
+    at (Some text) e = (text, sym (one_text-rows f name) ∙ e, spells text n (value text e))
+
+-- the same if the result was some number
+pub some_number_read : {E : Type 0} (gives : List ℕ → Result ℕ E → Type 0) (f : Found) (name : Text) (r : Option ℕ) (n : ℕ) → ((text : List ℕ) (n : ℕ) → gives text (Ok n) → Spells text n)
+    → (one_text f name ≡ None → r ≡ None) → ((text : List ℕ) → one_text f name ≡ Some text → ReadsOne gives text r) → r ≡ Some n → HasNumber name (rows_of f) n
+some_number_read gives f name r n spells none value is =
+    subst (λ o. IfSome o (λ m. HasNumber name (rows_of f) m)) is (number_read gives f name r spells none value)
+
+-- what was made from a number, if anything
+pub of_number : {T : Type 0} (o : Option T) (number : T → ℕ) (n : ℕ) (Q : ℕ → Type 0) → IfSome o (λ x. number x ≡ n) → Q n → IfSome o (λ x. Q (number x))
+of_number None number n Q is here = tt
+of_number (Some x) number n Q is here = subst Q (sym is) here
+
+pub of_small_number : (o : Option ℕ) (P : Type 0) (n : ℕ) (Q : ℕ → Type 0) → SomeIff o P n → Q n → IfSome o Q
+of_small_number None P n Q is here = tt
+of_small_number (Some x) P n Q is here = subst Q (sym is.1) here
+
+-- what was parsed from a word has that name
+pub word_read : {A E : Type 0} (name_of : A → List ℕ) (none : E) (f : Found) (name word : Text) (r : Result A E) (o : Option A)
+    → first_value f name ≡ Some word → ParsesName name_of none word r → o ≡ result_ok r → IfSome o (λ a. HasWord name (rows_of f) (name_of a))
+word_read name_of none f name word (Ok a) o is read same =
+    subst (λ x. IfSome x (λ a. HasWord name (rows_of f) (name_of a))) (sym same) (sym (first_value-rows f name) ∙ is ∙ ap (λ w. Some w) read.named)
+word_read name_of none f name word (Err e) o is read same = subst (λ x. IfSome x (λ a. HasWord name (rows_of f) (name_of a))) (sym same) tt
+
+-- ---- the action of the arguments
+
+pub matched : (m : ArgMatches) (action : Action) (left left' : Reading) (w w' : Writing) (result : Result (Unit {0}) ProgramError) → IsRequestedIn m action
+    → ActionEnds action left left' w w' result → MatchedEnd m left left' w w' result
+matched m action left left' w w' (Ok u) requested ends = (action, requested, ends)
+matched m action left left' w w' (Err f) requested ends = inr (action, requested, ends)
+
+named_subcommand : (arguments : List Text) (m : ArgMatches) (action : Action) → AreParsedAs arguments m → IsRequestedIn m action → RequestAction arguments action
+named_subcommand arguments m action read requested = record {
+  app = read.app;
+  line = read.line;
+  word = requested.0;
+  values = requested.1;
+  are = sym read.are ∙ requested.2;
+  selects = requested.3;
+}
+
+pub arguments_done : (arguments : List Text) (m : ArgMatches) (left left' : Reading) (w w' : Writing) → AreParsedAs arguments m → MatchedEnd m left left' w w' (Ok tt)
+    → (action : Action) × RequestAction arguments action × ActionEnds action left left' w w' (Ok tt)
+arguments_done arguments m left left' w w' read ends = (ends.0, named_subcommand arguments m ends.0 read ends.1, ends.2)
+
+pub arguments_end : (arguments : List Text) (m : ArgMatches) (left left' : Reading) (w w' : Writing) (fault : ProgramError) → AreParsedAs arguments m → MatchedEnd m left left' w w' (Err fault)
+    → CanEndWith arguments left left' w w' fault
+arguments_end arguments m left left' w w' fault read (inl memory) = inl memory
+arguments_end arguments m left left' w w' fault read (inr ends) = inr (inr (ends.0, named_subcommand arguments m ends.0 read ends.1, ends.2))

@@ -1,9 +1,0 @@
-use Rattle.std.proofs.Common.{rules}
-use Rattle.moc_forms.specs.Forms.{form_name}
-use Rattle.moc_forms.specs.declared.name_error.FormNameError.TheVariants.{NotForm}
-use Rattle.clap.specs.Words.{found_of}
-use Rattle.moc_program.proofs.Asking.{word_read}
-use Rattle.moc_program.proofs.action.form.Goals as goal
-
-pub returns : goal.returns
-returns c = word_read form_name NotForm (found_of c.args.values.now) c.args.id.now c.in_ok-get_str.field-0.now c.from_str.result c.ok.result (search rules) c.from_str.ensures c.ok.ensures.value

@@ -1,5 +1,0 @@
-use Rattle.moc_ranges.specs.Lemmas.Sets.{complement_twice}
-use Rattle.moc_ranges.proofs.laws.complement_twice_is_the_set.Goals as goal
-
-pub returns : goal.returns
-returns c = complement_twice

@@ -1,5 +1,0 @@
-use Rattle.moc_ranges.specs.Lemmas.Ranges.{same_normal}
-use Rattle.moc_ranges.proofs.laws.normal_list_is_one.Goals as goal
-
-pub returns : goal.returns
-returns c = same_normal

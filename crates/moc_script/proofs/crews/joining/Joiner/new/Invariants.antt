@@ -1,9 +1,0 @@
--- The lanes so far each have their answers, and there is room for the others.
-use Rattle.std.proofs.Common.{◌≡◌, ◌≤◌, length, take}
-use Rattle.std.specs.Prelude.{vec_items, vec_len, vec_capacity}
-use Rattle.moc_script.proofs.crews.joining.Joiner.new.Given as goal
-
-abbrev pub invariant-loop-texts : goal.invariant-loop-texts
-invariant-loop-texts l =
-    (vec_items l.walks ≡ take l.texts-index l.answers) × (vec_len l.walks ≡ l.texts-index)
-    × (length l.answers ≤ vec_capacity l.walks)

@@ -1,6 +1,0 @@
--- The law is a lemma.
-use Rattle.moc_script.proofs.Unordered.{lines_without_order as law}
-use Rattle.moc_script.proofs.laws.lines_without_order.Goals as goal
-
-pub returns : goal.returns
-returns c = law

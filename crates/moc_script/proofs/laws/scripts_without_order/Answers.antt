@@ -1,6 +1,0 @@
--- The law is a lemma.
-use Rattle.moc_script.proofs.WholeScripts.{scripts_without_order as law}
-use Rattle.moc_script.proofs.laws.scripts_without_order.Goals as goal
-
-pub returns : goal.returns
-returns c = law

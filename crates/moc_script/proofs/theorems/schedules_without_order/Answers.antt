@@ -1,0 +1,6 @@
+-- The theorem is a lemma.
+use Rattle.moc_script.proofs.WholeScripts.{schedules_without_order as the_theorem}
+use Rattle.moc_script.proofs.theorems.schedules_without_order.Goals as goal
+
+pub returns : goal.returns
+returns c = the_theorem

@@ -1,0 +1,159 @@
+//! Writes the answers of the lanes in the order of the lines.
+ghost use Rattle.std.specs.Prelude.{◌≡◌, ◌≢◌, ◌<◌, ◌≤◌, ◌+◌, ◌++◌, ◌↔◌, [], Err, false, is_err, length, IfOk, IsErrOf};
+ghost use Rattle.std.specs.Prelude.{IsTrue, vec_len, vec_capacity};
+ghost use Rattle.moc_devices.specs.Devices.{AcceptsNone};
+ghost use Rattle.moc_devices.specs.Devices.{FlushesNothing, OnlyWrites, Sends};
+ghost use Rattle.moc_script.specs.Private.Joining.{MergesTo, SendsTurns};
+ghost use Rattle.moc_script.specs.declared.crews.merging.MergeError.TheVariants as join;
+
+use crate::crews::texts::{Texts, Walk};
+use moc_devices::{DeviceFault, Sink, write_all};
+use moc_ranges::Memory;
+use std::alloc::Global;
+
+/// Why the answers were not all written.
+#[derive(Clone, Copy)]
+pub(crate) enum MergeError {
+    /// An allocation failed, and nothing is written.
+    Memory,
+    /// Writing failed.
+    Write,
+}
+
+impl From<Memory> for MergeError {
+    ghost from_gives = { λ _ e. e ≡ join.Memory };
+
+    fn from(_memory: Memory) -> MergeError {
+        MergeError::Memory
+    }
+}
+
+impl From<DeviceFault> for MergeError {
+    ghost from_gives = { λ _ e. e ≡ join.Write };
+
+    fn from(_fault: DeviceFault) -> MergeError {
+        MergeError::Write
+    }
+}
+
+/// The number of bytes of answers that are buffered before they are written.
+const BUFFER_SIZE: usize = 65_536;
+
+/// The answers of the lanes that are still to come, and those that are merged and not written yet.
+#[derive(Drop)]
+struct AnswerMerger<'a> {
+    walks: Vec<Walk<'a>>,
+    pending: Vec<u8>,
+}
+
+impl<'a> AnswerMerger<'a> {
+    /// Returns a writer of all answers of each lane. Allocates all memory that writing them needs.
+    fn new(alloc: Global, answers: &'a [Texts]) -> Result<AnswerMerger<'a>, Memory>
+        ensures walks { IfOk result (λ j. j.walks.items ≡ answers.now) }
+        ensures none { IfOk result (λ j. j.pending.items ≡ []) }
+    {
+        let mut walks = Vec::with_capacity(alloc, answers.len())?;
+        for texts in answers {
+            walks.push_reserved(texts.walk());
+        }
+        Ok(AnswerMerger {
+            walks,
+            pending: Vec::with_capacity(alloc, BUFFER_SIZE)?,
+        })
+    }
+
+    /// Writes one answer of each lane in turn, until the next lane has none, and then the text after them.
+    fn write<W: Sink>(mut self, following: &[u8], writer: &mut W) -> Result<(), DeviceFault>
+        requires some { 0 < length self.walks.items }
+        requires none { self.pending.items ≡ [] }
+        ensures sends { MergesTo self.entry.walks.items following.now (W.writing writer.old) (W.writing writer.new)
+            result }
+        ensures writes { OnlyWrites W.mark W.flushed W.flushes writer.old writer.new (is_err result) }
+    {
+        self.write_turns(writer)?;
+        send(following, &mut self.pending, writer)?;
+        write_all(&self.pending, writer)
+    }
+
+    /// Writes one answer of each lane in turn, until the next lane has none. A rest may stay pending.
+    fn write_turns<W: Sink>(&mut self, writer: &mut W) -> Result<(), DeviceFault>
+        requires some { 0 < length self.old.walks.items }
+        requires none { self.old.pending.items ≡ [] }
+        ensures sends { SendsTurns self.old.walks.items (W.writing writer.old)
+            self.new.pending.items (W.writing writer.new) result }
+        ensures writes { OnlyWrites W.mark W.flushed W.flushes writer.old writer.new (is_err result) }
+    {
+        let mut turn = 0;
+        while let Some(answer) = self.walks[turn].next_text() {
+            send(answer, &mut self.pending, writer)?;
+            turn += 1;
+            if turn == self.walks.len() {
+                turn = 0;
+            }
+        }
+        Ok(())
+    }
+}
+
+/// Appends a text to the pending bytes. If it does not fit, writes the pending bytes first; writes a text that is
+/// longer than the buffer directly.
+fn send<W: Sink>(text: &[u8], pending: &mut Vec<u8>, writer: &mut W) -> Result<(), DeviceFault>
+    ensures sends { Sends (pending.old.items ++ text.now) (W.writing writer.old)
+        pending.new.items (W.writing writer.new) result }
+    ensures writes { OnlyWrites W.mark W.flushed W.flushes writer.old writer.new (is_err result) }
+{
+    if text.len() <= pending.capacity() - pending.len() {
+        append_pending(text, pending);
+        return Ok(());
+    }
+    write_all(pending, writer)?;
+    pending.clear();
+    if text.len() > pending.capacity() {
+        return write_all(text, writer);
+    }
+    append_pending(text, pending);
+    Ok(())
+}
+
+/// Appends a text to the pending bytes. Requires that it fits.
+fn append_pending(text: &[u8], pending: &mut Vec<u8>)
+    requires { vec_len pending.old + length text.now ≤ vec_capacity pending.old }
+    ensures { pending.new.items ≡ pending.old.items ++ text.now }
+{
+    // An append within the capacity allocates nothing.
+    let Ok(()) = pending.extend_from_slice(text) else {
+        unreachable!()
+    };
+}
+
+/// Writes the answers in the order of the lines, one of each lane in turn, and the text after them. The answers of a
+/// single lane are already in this order. All allocations happen before the first byte is written.
+pub(crate) fn write_merged<W: Sink>(
+    alloc: Global,
+    answers: &[Texts],
+    following: &[u8],
+    writer: &mut W,
+) -> Result<(), MergeError>
+    requires some { 0 < length answers.now }
+    requires writer { W.mark writer.old ≡ false }
+    ensures sends { result ≢ Err MergeError.Memory
+        → MergesTo answers.now following.now (W.writing writer.old) (W.writing writer.new) result }
+    ensures no_output { result ≡ Err MergeError.Memory → AcceptsNone (W.writing writer.old) (W.writing writer.new) }
+    ensures write { IsErrOf result MergeError.Write ↔ IsTrue (W.mark writer.new) }
+    ensures unflushed { FlushesNothing W.flushed W.flushes writer.old writer.new }
+{
+    if answers.len() == 1 {
+        return Ok(write_both(answers[0].as_bytes(), following, writer)?);
+    }
+    let joiner = AnswerMerger::new(alloc, answers)?;
+    Ok(joiner.write(following, writer)?)
+}
+
+/// Writes two texts, one after the other.
+fn write_both<W: Sink>(text: &[u8], following: &[u8], writer: &mut W) -> Result<(), DeviceFault>
+    ensures sends { Sends (text.now ++ following.now) (W.writing writer.old) [] (W.writing writer.new) result }
+    ensures writes { OnlyWrites W.mark W.flushed W.flushes writer.old writer.new (is_err result) }
+{
+    write_all(text, writer)?;
+    write_all(following, writer)
+}

@@ -1,0 +1,244 @@
+-- A command whose footprint is a single part.
+use Rattle.std.proofs.Common.{◌≡◌, ◌≢◌, ℕ, ◌/◌, ◌&&◌, ◌||◌, Bool, true, false, not, true≢false, nat_eq, List, [], ◌∷◌, ◌++◌, length}
+use Rattle.std.proofs.Common.{refl, sym, ap, ◌∙◌, subst, inl, eq-eqb, eqb-true, ne_eqb, Contains, Option, Some, IsTrue}
+use Rattle.std.proofs.Common.{Result, Ok, Err, IfOk, OnErr}
+use Rattle.atomic_table.specs.Table.{Me}
+use native.Mathlib.Decide.{ℕ_discrete}
+use Rattle.std.specs.Cmp.{nat_cmp_total}
+use Rattle.std.specs.FinSet as finset
+use Rattle.std.specs.Ordering.{nat_cmp}
+use Rattle.moc_lists.specs.RangeList.{NumberSet}
+use Rattle.moc_lists.specs.Lemmas.Members.{same_members}
+use Rattle.moc_ranges.specs.Lemmas.Members.{contains-part_of}
+use Rattle.moc_ranges.specs.Operations.{base_pixel_size, pixels, part_of, IsWithin}
+use Rattle.moc_parts.specs.Objects.{IsLocal, AgreeOn, base_pixel}
+use Rattle.moc_parts.specs.Commands.{footprint, reply_on, set_after}
+use Rattle.moc_parts.specs.Batches.{batches, footprint_of_all}
+use Rattle.moc_parts.specs.declared.command.Command.{Command}
+use Rattle.moc_parts.specs.declared.reply.Reply.{Reply}
+use Rattle.moc_shared.specs.declared.map.SharedMap.{SharedMap}
+use Rattle.moc_shared.specs.History.{call_by, IsLegal}
+use Rattle.moc_shared.specs.Seats.{note, Pointer, ClientView}
+use Rattle.moc_shared.specs.Private.Invariant.{IsSingleClient}
+use Rattle.moc_shared.specs.Private.Seats.{PartNote, IsCarried, part, IsInSky}
+use Rattle.moc_shared.specs.Private.OperationEffects.{HasEffect}
+use Rattle.moc_shared.specs.Private.Held.{HoldsOnly}
+use Rattle.moc_shared.specs.Private.StepEffects.{with_part, with_parts, with_misses, with_holds, with_mark}
+use Rattle.moc_shared.specs.Private.Slots.{BatchTakesEffect, AreWaits, exactly, in_footprint}
+use Rattle.moc_shared.specs.Batches.{BatchCall, BatchRecord, batch_answer}
+use Rattle.moc_shared.specs.Clients.{start_of, clients_of, TakesEffectAfterWaiting, FailsOutOfMemoryWaiting}
+use Rattle.moc_shared.proofs.Basics.{here, none_in, only}
+use Rattle.moc_shared.proofs.Guarantees.{Stays, stays_through, stays_ended, stays_given, ends_noted, undone_noted, undone_at_once}
+use Rattle.moc_shared.proofs.WaitingViews.{waits_from, stays_waited}
+use Rattle.moc_shared.proofs.Unions.{and_true}
+
+or_false : (x : Bool) → (x || false) ≡ x
+or_false true = refl
+or_false false = refl
+
+and_none : (x : Bool) → (x && false) ≡ false
+and_none true = refl
+and_none false = refl
+
+both_true : (x y : Bool) → (x && y) ≡ true → x ≡ true
+both_true true y e = refl
+both_true false y e = absurd (true≢false (sym e))
+
+some_inside : (a b : NumberSet) → Some a ≡ Some b → a ≡ b
+some_inside a b e = cc
+
+-- ---- pixels that are already there
+
+old_or : (a b : Bool) → (b ≡ true → a ≡ true) → a ≡ (a || b)
+old_or true b has = refl
+old_or false true has = absurd (true≢false (sym (has refl)))
+old_or false false has = refl
+
+new_not : (a b : Bool) → (b ≡ true → a ≡ true) → (b && not a) ≡ false
+new_not true true has = refl
+new_not true false has = refl
+new_not false true has = absurd (true≢false (sym (has refl)))
+new_not false false has = refl
+
+pub union_there : (a b : NumberSet) → finset.is_subset b a ≡ true → a ≡ finset.union a b
+union_there a b all = same_members _ _ (λ q. old_or (finset.contains a q) (finset.contains b q) (finset.is_subset-contains nat_cmp_total b a all q) ∙ sym (finset.contains-union nat_cmp_total a b q))
+
+pub none_new : (a b : NumberSet) → finset.is_subset b a ≡ true → 0 ≡ finset.len (finset.difference b a)
+none_new a b all =
+    let none : finset.difference b a ≡ finset.empty = same_members _ _ (λ q. finset.contains-difference nat_cmp_total b a q ∙ new_not (finset.contains a q) (finset.contains b q) (finset.is_subset-contains nat_cmp_total b a all q) ∙ sym (finset.contains-empty nat_cmp q)) in
+    sym (ap finset.len none ∙ finset.len-empty nat_cmp)
+
+-- ---- the effect of the command, by locality
+
+module _ (c : Command) (b : ℕ) (met : (k : ℕ) → footprint c k ≡ nat_eq b k) where
+  abbrev cs : List Command
+  cs = c ∷ []
+
+  pub touched_alone : (k : ℕ) → footprint_of_all cs k ≡ nat_eq b k
+  touched_alone k = or_false (footprint c k) ∙ met k
+
+  touched_it : footprint_of_all cs b ≡ true
+  touched_it = touched_alone b ∙ eq-eqb b b refl
+
+  pixel_in : (s : NumberSet) (q : ℕ) → q / base_pixel_size ≡ b → finset.contains (part_of s b) q ≡ finset.contains s q
+  pixel_in s q e = contains-part_of s b q
+      ∙ ap (λ (t : Bool). finset.contains s q && t) (eq-eqb (q / base_pixel_size) b e) ∙ and_true (finset.contains s q)
+
+  pixel_out : (s : NumberSet) (q k : ℕ) → q / base_pixel_size ≢ k → finset.contains (part_of s k) q ≡ false
+  pixel_out s q k ne = contains-part_of s k q
+      ∙ ap (λ (t : Bool). finset.contains s q && t) (ne_eqb (q / base_pixel_size) k ne) ∙ and_none (finset.contains s q)
+
+  within_part : (s : NumberSet) → IsWithin s pixels → IsWithin (part_of s b) pixels
+  within_part s w = record {
+    each = λ q h. w.each q (both_true (finset.contains s q) (nat_eq (q / base_pixel_size) b) (sym (contains-part_of s b q) ∙ h));
+  }
+
+  -- part b of a set agrees with the whole set in part b
+  agrees_there : (s : NumberSet) → AgreeOn (footprint_of_all cs) (part_of s b) s
+  unfolding base_pixel
+  agrees_there s q t =
+      pixel_in s q (sym (eqb-true b (q / base_pixel_size) (sym (touched_alone (q / base_pixel_size)) ∙ t)))
+
+  untouched : (q : ℕ) → q / base_pixel_size ≢ b → footprint_of_all cs (base_pixel q) ≡ false
+  unfolding base_pixel
+  untouched q ne = touched_alone (q / base_pixel_size) ∙ ne_eqb b (q / base_pixel_size) (λ e. ne (sym e))
+
+  touched : (q : ℕ) → q / base_pixel_size ≡ b → footprint_of_all cs (base_pixel q) ≡ true
+  unfolding base_pixel
+  touched q e = ap (footprint_of_all cs) e ∙ touched_it
+
+  -- part b of the result is the result on part b
+  part_after : (s : NumberSet) → IsLocal batches cs → IsWithin s pixels
+      → set_after (part_of s b) c ≡ part_of (set_after s c) b
+  part_after s local w = same_members _ _ (λ q. one q (ℕ_discrete (q / base_pixel_size) b))
+    where
+      one : (q : ℕ) → Dec (q / base_pixel_size ≡ b)
+          → finset.contains (set_after (part_of s b) c) q ≡ finset.contains (part_of (set_after s c) b) q
+      one q (yes e) = local.inside (part_of s b) s (within_part s w) w (agrees_there s) q (touched q e)
+          ∙ sym (pixel_in (set_after s c) q e)
+      one q (no ne) = local.outside (part_of s b) (within_part s w) q (untouched q ne) ∙ pixel_out s q b ne
+          ∙ sym (pixel_out (set_after s c) q b ne)
+
+  -- the other parts do not change
+  other_after : (s : NumberSet) (k : ℕ) → k ≢ b → IsLocal batches cs → IsWithin s pixels
+      → part_of (set_after s c) k ≡ part_of s k
+  other_after s k apart local w = same_members _ _ (λ q. one q (ℕ_discrete (q / base_pixel_size) k))
+    where
+      one : (q : ℕ) → Dec (q / base_pixel_size ≡ k)
+          → finset.contains (part_of (set_after s c) k) q ≡ finset.contains (part_of s k) q
+      one q (yes e) = contains-part_of (set_after s c) k q
+          ∙ ap (λ (t : Bool). t && nat_eq (q / base_pixel_size) k)
+          (local.outside s w q (untouched q (λ f. apart (sym e ∙ f)))) ∙ sym (contains-part_of s k q)
+      one q (no ne) = pixel_out (set_after s c) q k ne ∙ sym (pixel_out s q k ne)
+
+  -- the content of the part determines the effect
+  pub answers_alone : (x y : NumberSet) (r : Reply) → IsLocal batches cs → y ≡ set_after x c → r ≡ reply_on x c
+      → HasEffect part batch_answer IsInSky cs (r ∷ []) (note b (Some x) ∷ []) (note b (Some y) ∷ [])
+  unfolding batch_answer part
+  answers_alone x y r local new determined s w noted =
+      let is : x ≡ part_of s b = some_inside x (part_of s b) (noted b (Some x) (here (note b (Some x)) [])) in (
+        local.reply s (part_of s b) w (within_part s w) (λ q t. sym (agrees_there s q t))
+            ∙ ap (λ (a : NumberSet). reply_on a c ∷ []) (sym is) ∙ ap (λ (q : Reply). q ∷ []) (sym determined),
+        (λ k z h. let e : note b (Some y) ≡ note k z = only (note b (Some y)) (note k z) h in
+            sym (ap (λ (t : PartNote). t.content) e)
+            ∙ ap Some (new ∙ ap (λ (a : NumberSet). set_after a c) is ∙ part_after s local w)
+            ∙ ap (λ (j : ℕ). Some (part_of (set_after s c) j)) (ap (λ (t : PartNote). t.part) e)),
+        (λ k none. ap Some (other_after s k
+            (λ e. none (subst (λ (j : ℕ). Contains (b ∷ []) j) (sym e) (here b []))) local w)),
+        local.stays s w,
+      )
+
+  -- ---- the effect on the view
+
+  pub noted_alone : (y : Option NumberSet) (p : ℕ) (z : Option NumberSet) → Contains (note b y ∷ []) (note p z)
+      → IsTrue (footprint_of_all cs p)
+  noted_alone y p z h = subst (λ (k : ℕ). footprint_of_all cs k ≡ true)
+      (ap (λ (t : PartNote). t.part) (only (note b y) (note p z) h)) touched_it
+
+  pub waits_alone : (v : ClientView) (waits : List (ℕ × ℕ)) → AreWaits (exactly b) v waits → AreWaits (in_footprint cs) v waits
+  waits_alone v waits each h d i = let n = each h d i in
+      let same : b ≡ d = n.0 in
+      (subst (λ (k : ℕ). footprint_of_all cs k ≡ true) same touched_it, n.1, n.2)
+
+  pub ended_alone : (the : SharedMap) (reply : Reply) (number : ℕ) (init u w : ClientView) (y : Option NumberSet)
+      (waits : List (ℕ × ℕ)) → init.start ≡ start_of the → init.clients ≡ clients_of the → number ≡ init.mine.number
+      → u ≡ with_parts (with_misses init waits) (note b y ∷ []) → AreWaits (exactly b) init waits
+      → BatchTakesEffect cs (reply ∷ []) [] u w → TakesEffectAfterWaiting the (call_by number cs (reply ∷ [])) init.mine w.mine
+  ended_alone the reply number init u w y waits start clients number_is held each determined = (
+    (with_misses init waits).mine,
+    waits_from the cs init waits clients (waits_alone init waits each),
+    ends_noted the cs (reply ∷ []) number (with_misses init waits) u w (note b y ∷ []) (noted_alone y) start clients
+        number_is held determined,
+  )
+
+  pub undone_alone : (the : SharedMap) (init u w : ClientView) (y : Option NumberSet) (waits : List (ℕ × ℕ))
+      → init.clients ≡ clients_of the → u ≡ with_parts (with_misses init waits) (note b y ∷ [])
+      → AreWaits (exactly b) init waits → w ≡ with_holds u [] → FailsOutOfMemoryWaiting the cs init.mine w.mine
+  undone_alone the init u w y waits clients held each gave = (
+    (with_misses init waits).mine,
+    waits_from the cs init waits clients (waits_alone init waits each),
+    inl (undone_noted cs (with_misses init waits) u w (note b y ∷ []) (noted_alone y) held gave),
+  )
+
+-- a client that held no part holds one part
+pub one_held : (v u : ClientView) (b : ℕ) (y : Option NumberSet) → v.holds ≡ [] → u ≡ with_part v b y
+    → u ≡ with_parts v (note b y ∷ [])
+one_held v u b y none is = is
+    ∙ (λ i. record {
+      start = v.start;
+      clients = v.clients;
+      mine = with_mark b v.mine;
+      others = v.others;
+      holds = note b y ∷ none i;
+    })
+
+pub stays_alone : (init u w : ClientView) (b : ℕ) (y : Option NumberSet) (waits : List (ℕ × ℕ))
+    → u ≡ with_parts (with_misses init waits) (note b y ∷ []) → Stays u w → Stays init w
+stays_alone init u w b y waits held s =
+    stays_waited init w waits (stays_through (with_misses init waits) u w (note b y ∷ []) held s)
+
+pub stays_answered : {E : Type 0} (cs : List Command) (v w : ClientView) (r : Result Reply E)
+    → IfOk r (λ x. BatchTakesEffect cs (x ∷ []) [] v w) → OnErr r (w ≡ with_holds v []) → Stays v w
+stays_answered all v w (Ok x) ok err = stays_ended (call_by v.mine.number all (x ∷ [])) v w ok
+stays_answered all v w (Err e) ok err = stays_given v w err
+
+pub holds_alone : (init : ClientView) (me : Me (Option Pointer) ClientView) (b : ℕ) (a : NumberSet) (waits : List (ℕ × ℕ))
+    → IsSingleClient init → me.0 ≡ with_parts (with_misses init waits) (note b (Some a) ∷ []) → IsCarried me
+    → HoldsOnly b a me
+holds_alone init me b a waits one is carried = record {
+  client = subst (λ (v : ClientView). IsSingleClient v) (sym is) (one.0, one.1);
+  carried = carried;
+  held = λ i. (is i).holds;
+}
+
+-- ---- the replies of a batch of one command
+
+last_reply : (a : NumberSet) (log : List BatchCall) (e : BatchCall) → IsLegal batch_answer a (log ++ e ∷ [])
+    → (s : NumberSet) × (e.reply ≡ (batch_answer s e.operation).1)
+last_reply a [] e h = (a, h.0)
+last_reply a (x ∷ xs) e h = last_reply (batch_answer a x.operation).0 xs e h.1
+
+pub only_reply : (the : SharedMap) (c : Command) (replies : List Reply) (number : ℕ) (old new : BatchRecord)
+    → TakesEffectAfterWaiting the (call_by number (c ∷ []) replies) old new → length replies ≡ 1
+unfolding batch_answer
+only_reply the c replies number old new (mid, waited, ends) =
+    let e : BatchCall = call_by number (c ∷ []) replies in
+    let legal : IsLegal batch_answer (start_of the) ((mid.seen ++ ends.between) ++ e ∷ []) =
+    subst (λ (l : List BatchCall). IsLegal batch_answer (start_of the) l) ends.seen ends.history.0 in
+    let r = last_reply (start_of the) (mid.seen ++ ends.between) e legal in
+    ap (λ (l : List Reply). length l) r.1
+
+-- the call of one command, as a call of a batch and its replies
+pub one_reply : (the : SharedMap) (number : ℕ) (batch : List Command) (c : Command) (replies : List Reply) (r : Reply)
+    (old new : BatchRecord) → batch ≡ c ∷ [] → replies ≡ r ∷ [] → TakesEffectAfterWaiting the (call_by number batch replies) old new
+    → TakesEffectAfterWaiting the (call_by number (c ∷ []) (r ∷ [])) old new
+one_reply the number batch c replies r old new is determined ends =
+    subst (λ (z : List Command × List Reply). TakesEffectAfterWaiting the (call_by number z.0 z.1) old new) (λ i. (is i, determined i)) ends
+
+pub at_err : {T E P : Type 0} (r : Result T E) → P → OnErr r P
+at_err (Ok x) p = tt
+at_err (Err e) p = p
+
+pub failed_at_once : (the : SharedMap) (cs : List Command) (r : BatchRecord) → FailsOutOfMemoryWaiting the cs r r
+failed_at_once the cs r =
+    (r, ([], refl, λ h b i. let x : ℕ × ℕ = (h, b) in absurd (none_in x i)), inl (undone_at_once cs r))

@@ -1,0 +1,20 @@
+use Rattle.std.proofs.Common.{◌≡◌, ◌<◌, ◌≤◌, ℕ, length, is_some, None}
+use Rattle.moc_shared.specs.Private.Seats.{IsCarried, notes_below, slot_at, AreWithinOwnParts}
+use Rattle.moc_shared.specs.Private.StepEffects.{with_parts}
+use Rattle.moc_parts.specs.Batches.{footprint_of_all}
+use Rattle.moc_parts.specs.Lemmas.{IsRemaining}
+use Rattle.moc_shared.proofs.calls.footprint.take_all.Given as goal
+
+-- the parts of the footprint from `next` on remain
+abbrev pub invariant-loop-part : goal.invariant-loop-part
+invariant-loop-part l = record {
+  next : ℕ;
+  remains : IsRemaining (footprint_of_all l.batch) next l.part-iterator;
+  same : (l.seat.table_id ≡ l.initial.seat.table_id) × (l.seat.id ≡ l.initial.seat.id);
+  carried : IsCarried l.seat.me;
+  view : l.seat.me.0 ≡ with_parts l.initial.seat.me.0 (notes_below l.previous next);
+  long : length l.previous ≡ 12;
+  so_far : (k : ℕ) → k < next → is_some (slot_at l.previous k) ≡ footprint_of_all l.batch k;
+  beyond : (k : ℕ) → next ≤ k → slot_at l.previous k ≡ None;
+  own : AreWithinOwnParts l.previous;
+}

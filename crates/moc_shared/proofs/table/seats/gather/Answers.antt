@@ -1,9 +1,0 @@
-use Rattle.std.proofs.Common.{rules}
-use Rattle.moc_shared.specs.Batches.{batch_answer}
-use Rattle.moc_shared.specs.Private.Seats.{content, part, IsProper}
-use Rattle.moc_shared.proofs.Regroups.{gathers}
-use Rattle.moc_shared.proofs.table.seats.gather.Goals as goal
-
-pub load-requires : goal.load-requires
-load-requires c =
-    (search rules, search rules, gathers 12 content part batch_answer IsProper _ _ _ _ _ _ c.requires.two.0 c.requires.client c.requires.two.1)

@@ -1,0 +1,79 @@
+//! Taking parts that other clients may hold, by waiting for them.
+ghost use Rattle.std.specs.Prelude.{◌≡◌, ℕ, suc, ◌≤◌, List, [], Contains, Option, Some};
+ghost use Rattle.moc_lists.specs.RangeList.{NumberSet};
+ghost use Rattle.moc_shared.specs.Seats.{note};
+ghost use Rattle.moc_shared.specs.Private.Invariant.{IsSingleClient};
+ghost use Rattle.moc_shared.specs.Private.Seats.{IsCarried, shared, notes_below};
+ghost use Rattle.moc_shared.specs.Private.Seats.{AreWithinOwnParts, IsFootprint, IsWithinPart, IsOfTable};
+ghost use Rattle.moc_shared.specs.Private.StepEffects.{with_part, with_parts, with_misses};
+ghost use Rattle.moc_shared.specs.Private.Slots.{in_footprint, exactly, AreWaits};
+
+use crate::table::locks::{LockTable, Pointer, SeatToken};
+use crate::table::slots::{Slots, no_slots, put_at};
+use crate::table::steps::take_slot;
+use moc_parts::{Batch, Part};
+use std::alloc::Global;
+use std::sync::Wait;
+use std::thread;
+
+/// Takes a part. While another client holds it, yields to other threads and tries again; the number of tries is
+/// unbounded.
+pub(crate) fn wait_for_slot<R: Wait>(
+    rt: &R,
+    table: &LockTable,
+    seat: &mut SeatToken,
+    part: Part,
+    mark: u64,
+) -> Pointer
+    requires place { IsOfTable seat.old.table_id table.now.table_id }
+    requires client { IsSingleClient seat.old.me.0 × (mark ≡ suc seat.old.me.0.mine.number) }
+    requires bounded { seat.old.me.0.clients ≤ 64 }
+    requires carried { IsCarried seat.old.me }
+    requires other { (y : Option NumberSet) → ¬ Contains seat.old.me.0.holds (note part y) }
+    ensures same { (seat.new.table_id ≡ seat.old.table_id) × (seat.new.id ≡ seat.old.id) }
+    ensures carried { IsCarried seat.new.me }
+    ensures own { IsWithinPart part (Some result) }
+    ensures taken_or_missed { (waits : List (ℕ × ℕ))
+        × (seat.new.me.0 ≡ with_part (with_misses seat.old.me.0 waits) part (shared result))
+        × AreWaits (exactly part) seat.old.me.0 waits }
+{
+    for _ in rt.forever() {
+        match take_slot(table, seat, part, mark) {
+            Ok(pointer) => return pointer,
+            Err(_) => thread::yield_now(),
+        }
+    }
+    // The loop never ends.
+    unreachable!()
+}
+
+/// Takes the parts in the footprint of a batch in ascending order; waits for each part that is held.
+pub(crate) fn wait_for_all<R: Wait>(
+    rt: &R,
+    table: &LockTable,
+    alloc: Global,
+    seat: &mut SeatToken,
+    mark: u64,
+    batch: &Batch,
+) -> Slots
+    requires place { IsOfTable seat.old.table_id table.now.table_id }
+    requires client { IsSingleClient seat.old.me.0 × (mark ≡ suc seat.old.me.0.mine.number) }
+    requires bounded { seat.old.me.0.clients ≤ 64 }
+    requires idle { (seat.old.me.0.holds ≡ []) × (seat.old.me.1 ≡ []) }
+    ensures same { (seat.new.table_id ≡ seat.old.table_id) × (seat.new.id ≡ seat.old.id) }
+    ensures carried { IsCarried seat.new.me }
+    ensures previous { IsFootprint batch.now result × AreWithinOwnParts result }
+    ensures taken_or_missed { (waits : List (ℕ × ℕ))
+        × (seat.new.me.0 ≡ with_parts (with_misses seat.old.me.0 waits) (notes_below result 12))
+        × AreWaits (in_footprint batch.now) seat.old.me.0 waits }
+{
+    let mut previous = no_slots();
+    for part in batch.footprint(alloc) {
+        put_at(
+            &mut previous,
+            part,
+            wait_for_slot(rt, table, seat, part, mark),
+        );
+    }
+    previous
+}

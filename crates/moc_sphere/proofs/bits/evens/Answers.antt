@@ -1,5 +1,0 @@
-use Rattle.moc_sphere.proofs.SpreadSteps.{spread_mask}
-use Rattle.moc_sphere.proofs.bits.evens.Goals as goal
-
-pub returns : goal.returns
-returns c = spread_mask c.args.s
