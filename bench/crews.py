@@ -1,9 +1,13 @@
 #!/usr/bin/env python3
-"""Times scripts through `moc crew`: lanes on parts of their own beside one lane and beside as many processes that share
-nothing, and one lane beside `moc run`, also of ten times as many lines and of none. Prints milliseconds, the least and
-the median of so many of each, in turn in one run.
+"""Times scripts with `moc crew`.
 
-    bench/crews.py [REPEATS]"""
+usage: bench/crews.py [REPEATS]
+
+Compares lanes on separate parts with one lane, and with the same number of processes that share nothing. Also compares one lane with
+`moc run`, on the same lines, on ten times the number of lines, and on no line. Runs the variants in turn. Prints the minimum and the median
+of the times of each variant in milliseconds."""
+from __future__ import annotations
+
 import os
 import random
 import statistics
@@ -11,75 +15,85 @@ import subprocess
 import sys
 import tempfile
 import time
+from collections.abc import Iterable
 
 TOP = os.path.dirname(os.path.dirname(os.path.abspath(__file__)))
 MOC = os.environ.get("MOC", os.path.join(TOP, "crates", "moc_cli", "out", "moc_cli"))
-REPEATS = int(sys.argv[1]) if len(sys.argv) > 1 else 15
 LINES = 60_000
-MANY = 64
+LARGE_LINES = 2_000
+MAX_LANES = 64
+PARTS = 12
+
+# The arguments of the program, and the file of its standard input.
+Run = tuple[list[str], str]
+# The name of a variant, and the runs that it does at the same time.
+Variant = tuple[str, list[Run]]
 
 
-def small(part, rng):
-    """An add or a count of one cell of order 5 in a base pixel."""
+def small_line(part: int, rng: random.Random) -> str:
+    """Returns an add or a count of one cell of order 5 in a base pixel."""
     return f"{rng.choice(['add', 'count'])} 5/{part * 1024 + rng.randrange(1024)}\n"
 
 
-def large(rng):
-    """An add or a count of three hundred cells of order 9."""
+def large_line(rng: random.Random) -> str:
+    """Returns an add or a count of three hundred cells of order 9."""
     cells = " ".join(str(rng.randrange(12 << 18)) for _ in range(300))
     return f"{rng.choice(['add', 'count'])} 9/{cells}\n"
 
 
-def script(folder, name, lines):
-    """A file of these lines."""
+def write_script(folder: str, name: str, lines: Iterable[str]) -> str:
+    """Writes a script into a folder, and returns its path."""
     path = os.path.join(folder, name)
-    with open(path, "w") as file:
+    with open(path, "w", encoding="ascii") as file:
         file.writelines(lines)
     return path
 
 
-def seconds(runs):
-    """How long these runs of the program take side by side: each is the words and the file that is read."""
+def time_runs(runs: list[Run]) -> float:
+    """Returns the seconds of these runs of the program, which start at the same time."""
     start = time.monotonic()
-    ends = []
-    for words, path in runs:
+    processes = []
+    for arguments, path in runs:
         with open(path, "rb") as file:
-            ends.append(subprocess.Popen([MOC] + words, stdin=file, stdout=subprocess.DEVNULL))
-    for end in ends:
-        if end.wait() != 0:
+            processes.append(subprocess.Popen([MOC, *arguments], stdin=file, stdout=subprocess.DEVNULL))
+    for process in processes:
+        if process.wait() != 0:
             raise SystemExit("the program failed")
     return time.monotonic() - start
 
 
-def in_turn(kinds):
-    """The times of these kinds of runs, in turn."""
-    times = {name: [] for name, _ in kinds}
-    for _ in range(REPEATS):
-        for name, runs in kinds:
-            times[name].append(seconds(runs))
-    return times
-
-
-def main():
+def make_variants(folder: str) -> list[Variant]:
+    """Writes the scripts of all variants, and returns the variants."""
     rng = random.Random(21)
-    processors = os.cpu_count()
+    processors = os.cpu_count() or 1
+    one = write_script(folder, "one", [small_line(0, rng) for _ in range(LINES)])
+    ten = write_script(folder, "ten", [small_line(0, rng) for _ in range(10 * LINES)])
+    none = write_script(folder, "none", [])
+    variants: list[Variant] = [
+        ("crew 1 on one part", [(["crew", "1"], one)]), ("run on the same lines", [(["run"], one)]),
+        ("crew 1 on ten times the lines", [(["crew", "1"], ten)]), ("run on the same lines, ten times", [(["run"], ten)]),
+        ("crew 1 on no line", [(["crew", "1"], none)]), ("run on no line", [(["run"], none)])]
+    for lanes in sorted({2, processors}):
+        path = write_script(folder, f"small{lanes}", [small_line(number % lanes, rng) for number in range(lanes * LINES)])
+        variants.append((f"crew {lanes}, the same lines per lane", [(["crew", str(lanes)], path)]))
+        variants.append((f"{lanes} processes of crew 1", [(["crew", "1"], one)] * lanes))
+    many = write_script(folder, "many", [small_line(number % PARTS, rng) for number in range(processors * LINES)])
+    variants.append((f"crew {MAX_LANES}, the same lines in total", [(["crew", str(MAX_LANES)], many)]))
+    large = write_script(folder, "large", [large_line(rng) for _ in range(LARGE_LINES)])
+    return [*variants, ("crew 1 on large lines", [(["crew", "1"], large)]), ("run on the same large lines", [(["run"], large)])]
+
+
+def main() -> None:
+    """Times all variants in turn, and prints their times."""
+    repeats = int(sys.argv[1]) if len(sys.argv) > 1 else 15
     with tempfile.TemporaryDirectory() as folder:
-        one = script(folder, "one", [small(0, rng) for _ in range(LINES)])
-        ten = script(folder, "ten", [small(0, rng) for _ in range(10 * LINES)])
-        none = script(folder, "none", [])
-        kinds = [("crew 1 of one part", [(["crew", "1"], one)]), ("run of the same", [(["run"], one)])]
-        kinds += [("crew 1, ten times as many lines", [(["crew", "1"], ten)]), ("run of as many", [(["run"], ten)])]
-        kinds += [("crew 1 of no line", [(["crew", "1"], none)]), ("run of no line", [(["run"], none)])]
-        for lanes in sorted({2, processors}):
-            path = script(folder, f"small{lanes}", [small(at % lanes, rng) for at in range(lanes * LINES)])
-            kinds.append((f"crew {lanes}, as many lines a lane", [(["crew", str(lanes)], path)]))
-            kinds.append((f"{lanes} processes of crew 1", [(["crew", "1"], one)] * lanes))
-        many = script(folder, "many", [small(at % 12, rng) for at in range(processors * LINES)])
-        kinds.append((f"crew {MANY}, as many lines together", [(["crew", str(MANY)], many)]))
-        wide = script(folder, "large", [large(rng) for _ in range(2_000)])
-        kinds += [("crew 1, large lines", [(["crew", "1"], wide)]), ("run of the same large lines", [(["run"], wide)])]
-        for name, times in in_turn(kinds).items():
-            print(f"{name:36} {1000 * min(times):7.1f} {1000 * statistics.median(times):7.1f}")
+        variants = make_variants(folder)
+        times: dict[str, list[float]] = {name: [] for name, _ in variants}
+        for _ in range(repeats):
+            for name, runs in variants:
+                times[name].append(time_runs(runs))
+    for name, seconds in times.items():
+        print(f"{name:36} {1000 * min(seconds):7.1f} {1000 * statistics.median(seconds):7.1f}")
 
 
 if __name__ == "__main__":

@@ -1,113 +1,140 @@
 #!/usr/bin/env python3
-"""Times calls of the Python package over arrays, and beside them in turn healpy, astropy-healpix and numpy where they are installed.
+"""Times functions of the Python package on arrays, and in turn those of healpy, astropy-healpix and numpy if they are installed.
 
-    bench/python.py [REPEATS]
+usage: bench/python.py [REPEATS]
 
-Wants numpy, the library beside the package (`./moc library`), and the input of `generate.py` in bench/data, which `run.sh` makes. Each line
-is the work and then, for each that does it, the least seconds, and the package's as a share of them. What they answer is compared first."""
+Needs numpy, the library in the folder of the package (`./moc library`), and the input of `generate.py` in bench/data, which `run.sh` makes.
+A line has the task and, for each package, the minimal time in seconds and the time of Ploverchaise divided by it. The results are compared
+before they are timed."""
+from __future__ import annotations
+
 import os
 import sys
 import time
+from collections.abc import Callable, Iterator
+from typing import Any
 
-import numpy
+import numpy as numpy_module
 
 TOP = os.path.dirname(os.path.dirname(os.path.abspath(__file__)))
 sys.path.insert(0, os.path.join(TOP, "python"))
 import ploverchaise  # noqa: E402
 from ploverchaise import MOC  # noqa: E402
 
+# The packages have different types in different versions, and none is checked.
+numpy: Any = numpy_module
+healpy: Any = None
+astropy: Any = None
 try:
-    import healpy
+    import healpy as healpy_module
+    healpy = healpy_module
 except ImportError:
-    healpy = None
+    pass
 try:
-    from astropy_healpix import core as astropy
+    from astropy_healpix import core as astropy_module
+    astropy = astropy_module
 except ImportError:
-    astropy = None
+    pass
 
 DATA = os.path.join(TOP, "bench", "data")
 REPEATS = int(sys.argv[1]) if len(sys.argv) > 1 else 5
 MANY, FEWER = 10_000_000, 1_000_000
 PIXELS = 12 * 4**29
 
-
-def rows(found):
-    """Rows of touching cells as sets: eight places each, rising."""
-    return numpy.sort(numpy.asarray(found).T, axis=1)
+# The packages that can do a task, each with its function.
+Task = dict[str, Callable[[], Any]]
 
 
-def numbering(order):
-    """The works on random cells of an order: of each its name, and who does it how."""
+def sort_rows(cells: Any) -> Any:
+    """Returns the adjacent cells of healpy or astropy-healpix, which are columns, as sorted rows of eight numbers."""
+    return numpy.sort(numpy.asarray(cells).T, axis=1)
+
+
+def number_tasks(order: int) -> Iterator[tuple[str, Task]]:
+    """Returns the tasks on random cells of an order, each with its name."""
     rng = numpy.random.default_rng(2005)
     nside, cells = 2**order, rng.integers(0, 12 * 4**order, MANY)
     rings, some = ploverchaise.nest2ring(nside, cells), cells[:FEWER]
-    yield f"ten million nest to ring, order {order}", {
-        "ploverchaise": lambda: ploverchaise.nest2ring(nside, cells),
-        "healpy": healpy and (lambda: healpy.nest2ring(nside, cells)),
-        "astropy-healpix": astropy and (lambda: astropy.nested_to_ring(cells, nside))}
-    yield f"ten million ring to nest, order {order}", {
-        "ploverchaise": lambda: ploverchaise.ring2nest(nside, rings),
-        "healpy": healpy and (lambda: healpy.ring2nest(nside, rings)),
-        "astropy-healpix": astropy and (lambda: astropy.ring_to_nested(rings, nside))}
-    yield f"touching cells of a million, order {order}", {
-        "ploverchaise": lambda: ploverchaise.neighbours(some, order),
-        "healpy": healpy and (lambda: healpy.get_all_neighbours(nside, some, nest=True)),
-        "astropy-healpix": astropy and (lambda: astropy.neighbours(some, nside, order="nested"))}
+    task: Task = {"ploverchaise": lambda: ploverchaise.nest2ring(nside, cells)}
+    if healpy:
+        task["healpy"] = lambda: healpy.nest2ring(nside, cells)
+    if astropy:
+        task["astropy-healpix"] = lambda: astropy.nested_to_ring(cells, nside)
+    yield f"ten million nest to ring, order {order}", task
+    task = {"ploverchaise": lambda: ploverchaise.ring2nest(nside, rings)}
+    if healpy:
+        task["healpy"] = lambda: healpy.ring2nest(nside, rings)
+    if astropy:
+        task["astropy-healpix"] = lambda: astropy.ring_to_nested(rings, nside)
+    yield f"ten million ring to nest, order {order}", task
+    task = {"ploverchaise": lambda: ploverchaise.neighbours(some, order)}
+    if healpy:
+        task["healpy"] = lambda: healpy.get_all_neighbours(nside, some, nest=True)
+    if astropy:
+        task["astropy-healpix"] = lambda: astropy.neighbours(some, nside, order="nested")
+    yield f"adjacent cells of a million, order {order}", task
 
 
-def text_of(name):
+def read_bytes(name: str) -> bytes:
+    """Returns the bytes of an input file."""
     with open(os.path.join(DATA, name), "rb") as file:
         return file.read()
 
 
-def searched(bounds, pixels):
-    """Which pixels lie in the ranges of these bounds, by numpy."""
+def search(bounds: Any, pixels: Any) -> Any:
+    """Returns whether each pixel is in the ranges of these bounds, by numpy."""
     return numpy.searchsorted(bounds, pixels, side="right") % 2 == 1
 
 
-def coverages():
-    """The works on two large sets."""
-    text = text_of("moc_a.txt")
-    a, b = MOC.from_string(text), MOC.from_string(text_of("moc_b.txt"))
-    bounds = a.to_depth29_ranges.reshape(-1)
+def lookup_task(moc: MOC, bounds: Any, pixels: Any) -> Task:
+    """Returns the task to look up pixels in a coverage."""
+    return {"ploverchaise": lambda: moc.contains(pixels), "numpy": lambda: search(bounds, pixels)}
+
+
+def set_tasks() -> Iterator[tuple[str, Task]]:
+    """Returns the tasks on two large coverages, each with its name."""
+    text = read_bytes("moc_a.txt")
+    a, b = MOC.from_string(text), MOC.from_string(read_bytes("moc_b.txt"))
+    bounds: Any = a.to_depth29_ranges.reshape(-1)
     pixels = numpy.random.default_rng(7).integers(0, PIXELS, MANY).astype("uint64")
-    for kind, these in (("random", pixels), ("rising", numpy.sort(pixels))):
-        yield f"ten million {kind} pixels looked up", {
-            "ploverchaise": lambda these=these: a.contains(these), "numpy": lambda these=these: searched(bounds, these)}
-    for name, work in (("read A", lambda: MOC.from_string(text)), ("write A", a.to_string), ("union", lambda: a | b),
-                       ("intersection", lambda: a & b), ("difference", lambda: a - b), ("complement", lambda: ~a),
-                       ("ranges of A", lambda: a.to_depth29_ranges), ("A from its ranges", lambda: MOC.from_ranges(bounds.reshape(-1, 2)))):
-        yield name, {"ploverchaise": work}
+    yield "ten million random pixels looked up", lookup_task(a, bounds, pixels)
+    yield "ten million sorted pixels looked up", lookup_task(a, bounds, numpy.sort(pixels))
+    functions: dict[str, Callable[[], Any]] = {
+        "read A": lambda: MOC.from_string(text), "write A": a.to_string, "union": lambda: a | b, "intersection": lambda: a & b,
+        "difference": lambda: a - b, "complement": lambda: ~a, "ranges of A": lambda: a.to_depth29_ranges,
+        "A from its ranges": lambda: MOC.from_ranges(bounds.reshape(-1, 2))}
+    for name, function in functions.items():
+        yield name, {"ploverchaise": function}
 
 
-def is_same(ours, theirs):
-    """Whether two answer the same; touching cells come in any sequence, and by columns from the others."""
+def is_equal(ours: Any, theirs: Any) -> bool:
+    """Returns whether two results are equal. The other packages return adjacent cells in any order, and as columns."""
     if getattr(ours, "ndim", 0) == 2 and ours.shape[1] == 8:
-        return numpy.array_equal(ours, rows(theirs))
-    return numpy.array_equal(ours, theirs)
+        return bool(numpy.array_equal(ours, sort_rows(theirs)))
+    return bool(numpy.array_equal(ours, theirs))
 
 
-def least(works):
-    """The least seconds of each work, done in turn."""
-    found = {name: float("inf") for name in works}
+def minimal_times(task: Task) -> dict[str, float]:
+    """Returns the minimal time of each package in seconds. The packages do the task in turn."""
+    times = {name: float("inf") for name in task}
     for _ in range(REPEATS):
-        for name, work in works.items():
-            begun = time.perf_counter()
-            work()
-            found[name] = min(found[name], time.perf_counter() - begun)
-    return found
+        for name, function in task.items():
+            start = time.perf_counter()
+            function()
+            times[name] = min(times[name], time.perf_counter() - start)
+    return times
 
 
-def main():
-    for title, all_works in (*numbering(13), *numbering(29), *coverages()):
-        works = {name: work for name, work in all_works.items() if work}
-        ours = works["ploverchaise"]()
-        for name, work in works.items():
-            if name != "ploverchaise" and not is_same(ours, work()):
-                raise SystemExit(f"{title}: {name} answers otherwise")
-        seconds = least(works)
-        own = seconds["ploverchaise"]
-        print(f"{title:40}" + "".join(f"  {name} {it:.3f} ({own / it:.2f})" for name, it in seconds.items()), flush=True)
+def main() -> None:
+    """Compares and times all tasks."""
+    for title, task in (*number_tasks(13), *number_tasks(29), *set_tasks()):
+        result = task["ploverchaise"]()
+        for name, function in task.items():
+            if name != "ploverchaise" and not is_equal(result, function()):
+                raise SystemExit(f"{title}: the result of {name} differs")
+        times = minimal_times(task)
+        own = times["ploverchaise"]
+        print(f"{title:40}" + "".join(f"  {name} {seconds:.3f} ({own / seconds:.2f})" for name, seconds in times.items()), flush=True)
 
 
 if __name__ == "__main__":

@@ -1,7 +1,7 @@
 #!/usr/bin/env bash
-# Times the library and the program against Healpix_cxx 3.80, cds.moc 5.0 with cdshealpix 0.30.2 and healpix.essentials 3.60 on the same
-# input in one run: a table of what all have (`peers.py`), then a work a line. Wants Debian's libhealpix-cxx-dev, libcds-moc-java,
-# libcds-healpix-java and libhealpix-java. Writes its input into bench/data (150 MB) once.
+# Times the library and the program, and Healpix_cxx 3.80, cds.moc 5.0 with cdshealpix 0.30.2 and healpix.essentials 3.60 on the same input.
+# Prints a table of the common operations (`peers.py`), then one line for each other operation. Needs Debian's libhealpix-cxx-dev,
+# libcds-moc-java, libcds-healpix-java and libhealpix-java. Writes its input into bench/data once (150 MB).
 set -euo pipefail
 cd "$(dirname "$0")"
 jars=/usr/share/java/cds.moc.jar:/usr/share/java/cdshealpix.jar:/usr/share/java/healpix.jar
@@ -16,7 +16,7 @@ for operation in border13 border29; do
     printf 'cxx     '
     ./peer data "$operation" 9
 done
-# Adds of one cell each: the program's whole runs over scripts, and the peer's adds in memory, in seconds.
+# Adds of one cell each, in seconds: whole runs of the program on scripts, and adds of the peers in memory.
 ../moc uniq 0 0 > /dev/null
 for script in adds_only adds_count_cell adds rising falling shuffled deep100000 deep1000000; do
     TIMEFORMAT="moc     $script %R"
@@ -33,14 +33,14 @@ for operation in adds_only adds; do
     printf 'ess     '
     java_peer essentials "$operation" 1
 done
-# cds.moc's own writers into memory: slower than its cells, one after another into a string.
+# The writers of cds.moc, which are slower than its cells, one after another into a string.
 for operation in write_ascii write_json; do
     printf 'cds     '
     java_peer cds "$operation" 25
 done
-# Whole conversions by the program, and the peers' reading and writing in memory (the C++ peer's: read_a and write_json above).
-for forms in "ascii json" "json ascii" "ascii uniq" "uniq ascii"; do
-    read -r from to <<< "$forms"
+# Whole conversions by the program, and a conversion by cds.moc in memory. The operations read_a and write_json above are those of Healpix_cxx.
+for formats in "ascii json" "json ascii" "ascii uniq" "uniq ascii"; do
+    read -r from to <<< "$formats"
     case "$from" in ascii) file=moc_a.txt ;; json) file=moc_a.json ;; uniq) file=moc_a.uniq ;; esac
     TIMEFORMAT="moc     $from to $to %R"
     for _ in 1 2 3 4 5; do
@@ -49,12 +49,12 @@ for forms in "ascii json" "json ascii" "ascii uniq" "uniq ascii"; do
 done
 printf 'cds     '
 java_peer cds ascii_to_json 5
-# Schedules in memory and through the program, and crews.
+# Schedules in memory and by the program, and crews.
 for operation in turns rounds10 rounds1000 rounds100000; do
     printf 'moc     '
     ../crates/moc_bench/out/moc_bench "$operation" 9 < /dev/null
 done
 ./schedules.py
 ./crews.py
-# Calls of the running map, by one client and by several threads.
+# Calls of the shared map, by one client and by several threads.
 ../crates/moc_bench/out/moc_bench clients 20000

@@ -1,15 +1,19 @@
 #!/usr/bin/env python3
-"""Times hostile texts of 4, 8 and 16 MiB through `moc convert`, and tells the most memory that each took.
+"""Times hostile texts of 4, 8 and 16 MiB with `moc convert`, and measures the memory that the program uses.
 
-    bench/sizes.py [PROGRAM]
+usage: bench/sizes.py [PROGRAM]
 
-Each row is a kind of text, how it ends, and for each size the least processor time of three runs of the whole program, in
-seconds, and its peak in MiB. The program reads the text whole, so a peak has the text in it."""
+Prints a table. A row has a kind of text, the result, and for each size the minimal processor time of three runs in seconds and the maximal
+memory in MiB. The memory includes the text, because the program reads the whole text first."""
+from __future__ import annotations
+
 import os
 import random
 import subprocess
 import sys
 import tempfile
+from collections.abc import Callable, Iterable, Iterator
+from typing import NamedTuple
 
 TOP = os.path.dirname(os.path.dirname(os.path.abspath(__file__)))
 MOC = sys.argv[1] if len(sys.argv) > 1 else os.path.join(TOP, "crates", "moc_cli", "out", "moc_cli")
@@ -18,88 +22,114 @@ SIZES = [4, 8, 16]
 RUNS = 3
 
 
-def padded(front, filler, back, size):
-    """A text of this size: a front, a filler again and again, a back."""
-    count = (size - len(front) - len(back)) // len(filler)
-    return front + filler * count + back
+class Kind(NamedTuple):
+    """A kind of text.
+
+    Attributes
+    ----------
+    name : str
+        Its name in the table.
+    text_format : str
+        The format of the text.
+    make : callable
+        Returns a text of at most this number of bytes.
+    """
+
+    name: str
+    text_format: str
+    make: Callable[[int], bytes]
 
 
-def listed(front, words, between, back, size):
-    """A text of at most this size: a front, words, a back."""
-    parts, left = [], size - len(front) - len(back)
+class Measurement(NamedTuple):
+    """The processor time of a run in seconds, its maximal memory in MiB, and its result."""
+
+    seconds: float
+    memory: float
+    result: str
+
+
+def repeat(start: bytes, unit: bytes, end: bytes, size: int) -> bytes:
+    """Returns a text of this size: a start, repetitions of a unit, and an end."""
+    count = (size - len(start) - len(end)) // len(unit)
+    return start + unit * count + end
+
+
+def join(start: bytes, words: Iterable[bytes], separator: bytes, end: bytes, size: int) -> bytes:
+    """Returns a text of at most this size: a start, as many words as fit, and an end."""
+    parts, free = [], size - len(start) - len(end)
     for word in words:
-        left -= len(word) + len(between)
-        if left < 0:
+        free -= len(word) + len(separator)
+        if free < 0:
             break
         parts.append(word)
-    return front + between.join(parts) + back
+    return start + separator.join(parts) + end
 
 
-def cells(order, first=0):
-    """Numbers of cells of an order at random, always the same."""
+def random_cells(order: int, first: int = 0) -> Iterator[bytes]:
+    """Returns random cells of an order, the same each time, plus a number."""
     rng = random.Random(1)
     while True:
         yield b"%d" % (first + rng.randrange(12 << 2 * order))
 
 
-def names():
-    """Names of an object that are all different, and no orders."""
+def names_without_order() -> Iterator[bytes]:
+    """Returns different names of an object that are not orders."""
     return (b'"%07d":[]' % number for number in range(1_000_000, 10_000_000))
 
 
-def orders():
-    """Names that are all different, and all orders: behind more and more zeros."""
+def names_of_orders() -> Iterator[bytes]:
+    """Returns different names of an object that are orders, with leading zeros."""
     return (b'"%s%d":[]' % (b"0" * zeros, order) for zeros in range(1, 5_000) for order in range(10, 30))
 
 
 KINDS = [
-    ("digits of one number", "ascii", lambda size: padded(b"0/", b"0", b"5", size)),
-    ("separators", "ascii", lambda size: padded(b"", b" ", b"", size)),
-    ("one cell, again and again", "ascii", lambda size: padded(b"0/0", b" 0", b"", size)),
-    ("cells of order 29 in random order", "ascii", lambda size: listed(b"29/", cells(29), b" ", b"", size)),
-    ("cells of order 8 in random order", "ascii", lambda size: listed(b"8/", cells(8), b" ", b"", size)),
-    ("NUNIQ numbers of order 29 in random order", "uniq",
-     lambda size: listed(b"", cells(29, 4 << 58), b"\n", b"\n", size)),
-    ("`[`", "json", lambda size: padded(b"", b"[", b"", size)),
-    ("names that are no orders", "json", lambda size: listed(b"{", names(), b",", b"}", size)),
-    ("names that are orders", "json", lambda size: listed(b"{", orders(), b",", b"}", size)),
-    ("cells of order 29 in random order", "json", lambda size: listed(b'{"29":[', cells(29), b",", b"]}", size)),
+    Kind("digits of one number", "ascii", lambda size: repeat(b"0/", b"0", b"5", size)),
+    Kind("separators", "ascii", lambda size: repeat(b"", b" ", b"", size)),
+    Kind("one cell, repeated", "ascii", lambda size: repeat(b"0/0", b" 0", b"", size)),
+    Kind("cells of order 29 in random order", "ascii", lambda size: join(b"29/", random_cells(29), b" ", b"", size)),
+    Kind("cells of order 8 in random order", "ascii", lambda size: join(b"8/", random_cells(8), b" ", b"", size)),
+    Kind("NUNIQ numbers of order 29 in random order", "uniq", lambda size: join(b"", random_cells(29, 4 << 58), b"\n", b"\n", size)),
+    Kind("`[`", "json", lambda size: repeat(b"", b"[", b"", size)),
+    Kind("names that are not orders", "json", lambda size: join(b"{", names_without_order(), b",", b"}", size)),
+    Kind("names that are orders", "json", lambda size: join(b"{", names_of_orders(), b",", b"}", size)),
+    Kind("cells of order 29 in random order", "json", lambda size: join(b'{"29":[', random_cells(29), b",", b"]}", size)),
 ]
 
 
-def write_text(path, made, size):
-    """Writes a text from a process of its own: a process that starts another one lends it its own peak."""
+def write_text(path: str, make: Callable[[int], bytes], size: int) -> None:
+    """Writes a text in a separate process, because the maximal memory of a child process is at least that of its parent."""
     writer = os.fork()
     if writer == 0:
-        with open(path, "wb") as text:
-            text.write(made(size))
+        with open(path, "wb") as file:
+            file.write(make(size))
         os._exit(0)
     os.waitpid(writer, 0)
 
 
-def run_once(form, text):
-    """The processor time in seconds, the peak in MiB and the outcome of one run."""
-    with open(text, "rb") as given, tempfile.TemporaryFile() as faults:
-        moc = subprocess.Popen([MOC, "convert", form, "uniq"], stdin=given, stdout=subprocess.DEVNULL, stderr=faults)
-        _, status, usage = os.wait4(moc.pid, 0)
-        moc.returncode = os.waitstatus_to_exitcode(status)
-        faults.seek(0)
-        said = faults.read().decode().strip()
-    return usage.ru_utime + usage.ru_stime, usage.ru_maxrss / 1024, said or "read"
+def measure(text_format: str, path: str) -> Measurement:
+    """Runs the program once, and measures it."""
+    with open(path, "rb") as file, tempfile.TemporaryFile() as errors:
+        process = subprocess.Popen([MOC, "convert", text_format, "uniq"], stdin=file, stdout=subprocess.DEVNULL, stderr=errors)
+        _, status, usage = os.wait4(process.pid, 0)
+        process.returncode = os.waitstatus_to_exitcode(status)
+        errors.seek(0)
+        error = errors.read().decode().strip()
+    return Measurement(usage.ru_utime + usage.ru_stime, usage.ru_maxrss / 1024, error or "read")
 
 
-def main():
-    print("| Text | Form | Ends with |" + "".join(f" {size} MiB: s, peak |" for size in SIZES))
+def main() -> None:
+    """Prints the table."""
+    print("| Text | Format | Result |" + "".join(f" {size} MiB: s, memory |" for size in SIZES))
     print("|---|---|---|" + "---|" * len(SIZES))
-    for kind, form, made in KINDS:
-        columns, outcome = [], ""
+    for kind in KINDS:
+        columns, result = [], ""
         for size in SIZES:
-            with tempfile.NamedTemporaryFile() as text:
-                write_text(text.name, made, size * MIB)
-                runs = [run_once(form, text.name) for _ in range(RUNS)]
-            outcome = runs[0][2]
-            columns.append(f" {min(run[0] for run in runs):.3f}, {max(run[1] for run in runs):.0f} |")
-        print(f"| {kind} | {form} | {outcome} |" + "".join(columns), flush=True)
+            with tempfile.NamedTemporaryFile() as file:
+                write_text(file.name, kind.make, size * MIB)
+                runs = [measure(kind.text_format, file.name) for _ in range(RUNS)]
+            result = runs[0].result
+            columns.append(f" {min(run.seconds for run in runs):.3f}, {max(run.memory for run in runs):.0f} |")
+        print(f"| {kind.name} | {kind.text_format} | {result} |" + "".join(columns), flush=True)
 
 
 if __name__ == "__main__":

@@ -1,101 +1,121 @@
 #!/usr/bin/env python3
-"""Has each operation of `moc_bench` done once on a small input, and compares its checksum with that of a model: sets of pixels are lists
-of ranges here, and cells are found by HEALPix's formulas and by the corner points that they share. The last line printed is
-`N passed, M failed`."""
+"""Runs each operation of `moc_bench` once on a small input, and compares its checksum with that of a model.
+
+In the model, sets of pixels are lists of ranges. Cell numbers are converted by the formulas of HEALPix, and adjacent cells are found by the
+corner points that they share. The last line printed is `N passed, M failed`."""
+from __future__ import annotations
+
 import math
 import os
 import subprocess
 import sys
+from collections.abc import Iterator
+
+from tally import Tally
 
 TOP = os.path.dirname(os.path.dirname(os.path.abspath(__file__)))
 BENCH = os.path.join(TOP, "crates", "moc_bench", "out", "moc_bench")
-SECONDS = 60
-DEEPEST = 29
-SKY = 12 * 4**DEEPEST
-# Two coverages, as cells of orders: ranges of indices, the last one with them.
-FIRST = {3: [(0, 10), (700, 767)], 7: [(11264, 11300)], 13: [(150_000_000, 150_000_321)], 29: [(5 << 56, (5 << 56) + 77)]}
-SECOND = {2: [(2, 5)], 3: [(90, 701)], 11: [(11_534_400, 11_534_402)], 13: [(150_000_017, 150_000_600)], 29: [(9, 9)]}
-# The rows and columns of the base pixels' south corners and middles, in steps of a base pixel's half.
+TIME_LIMIT = 60
+MAX_ORDER = 29
+PIXELS = 12 * 4**MAX_ORDER
+# The cells of a coverage: for each order, ranges of indices with their last index.
+Cells = dict[int, list[tuple[int, int]]]
+FIRST: Cells = {3: [(0, 10), (700, 767)], 7: [(11264, 11300)], 13: [(150_000_000, 150_000_321)], 29: [(5 << 56, (5 << 56) + 77)]}
+SECOND: Cells = {2: [(2, 5)], 3: [(90, 701)], 11: [(11_534_400, 11_534_402)], 13: [(150_000_017, 150_000_600)], 29: [(9, 9)]}
+# The rows of the south corners of the base pixels, and the columns of their centers, in halves of a base pixel.
 ROWS = (2, 2, 2, 2, 3, 3, 3, 3, 4, 4, 4, 4)
 COLUMNS = (1, 3, 5, 7, 0, 2, 4, 6, 1, 3, 5, 7)
 NUMBERS = 500
 OPERATIONS = 1_000
 
+# Ranges of pixels, each with its first pixel and the pixel after its last one.
+Ranges = list[tuple[int, int]]
+# The row of a corner point of cells, and its position in the row.
+Point = tuple[int, int]
 
-def text_of(cells):
-    """The cells as an ASCII text."""
+
+def text_of(cells: Cells) -> str:
+    """Returns the ASCII text of these cells."""
     return " ".join(f"{order}/" + " ".join(f"{first}-{last}" for first, last in runs) for order, runs in cells.items())
 
 
-def normal(ranges):
-    """Ranges of pixels in order, none touching the next."""
-    found = []
+def normalize(ranges: Ranges) -> Ranges:
+    """Returns sorted ranges of the same pixels, with a gap between each and the next."""
+    normal: Ranges = []
     for start, end in sorted(ranges):
-        if found and start <= found[-1][1]:
-            found[-1][1] = max(found[-1][1], end)
+        if normal and start <= normal[-1][1]:
+            normal[-1] = (normal[-1][0], max(normal[-1][1], end))
         elif start < end:
-            found.append([start, end])
-    return found
+            normal.append((start, end))
+    return normal
 
 
-def pixels_of(cells):
-    return normal([(first << 2 * (DEEPEST - order), last + 1 << 2 * (DEEPEST - order))
-                   for order, runs in cells.items() for first, last in runs])
+def ranges_of(cells: Cells) -> Ranges:
+    """Returns the ranges of the pixels of these cells."""
+    return normalize([(first << 2 * (MAX_ORDER - order), last + 1 << 2 * (MAX_ORDER - order))
+                      for order, runs in cells.items() for first, last in runs])
 
 
-def complement(ranges):
-    ends = [0, *(it for one in ranges for it in one), SKY]
-    return [[ends[i], ends[i + 1]] for i in range(0, len(ends), 2) if ends[i] < ends[i + 1]]
+def complement(ranges: Ranges) -> Ranges:
+    """Returns the complement of a set."""
+    bounds = [0, *(bound for pair in ranges for bound in pair), PIXELS]
+    return [(bounds[i], bounds[i + 1]) for i in range(0, len(bounds), 2) if bounds[i] < bounds[i + 1]]
 
 
-def intersection(one, other):
-    return normal([(max(a, c), min(b, d)) for a, b in one for c, d in other if max(a, c) < min(b, d)])
+def intersection(first: Ranges, second: Ranges) -> Ranges:
+    """Returns the intersection of two sets."""
+    return normalize([(max(a, c), min(b, d)) for a, b in first for c, d in second if max(a, c) < min(b, d)])
 
 
-def degraded(ranges, order):
-    size = 4 ** (DEEPEST - order)
-    return normal([(start // size * size, -(-end // size) * size) for start, end in ranges])
+def degrade(ranges: Ranges, order: int) -> Ranges:
+    """Returns the pixels of all cells of an order that a set meets."""
+    size: int = 4 ** (MAX_ORDER - order)
+    return normalize([(start // size * size, -(-end // size) * size) for start, end in ranges])
 
 
-def count(ranges):
+def count(ranges: Ranges) -> int:
+    """Returns the number of pixels of a set."""
     return sum(end - start for start, end in ranges)
 
 
-def cells_of(ranges):
-    """The fewest cells that a set is made of, each as its order and index."""
+def cells_of(ranges: Ranges) -> list[tuple[int, int]]:
+    """Returns the minimal cells of a set, each with its order and its index."""
     cells = []
     for start, end in ranges:
         while start < end:
             order = 0
-            while start % 4 ** (DEEPEST - order) or start + 4 ** (DEEPEST - order) > end:
+            while start % 4 ** (MAX_ORDER - order) or start + 4 ** (MAX_ORDER - order) > end:
                 order += 1
-            cells.append((order, start >> 2 * (DEEPEST - order)))
-            start += 4 ** (DEEPEST - order)
+            cells.append((order, start >> 2 * (MAX_ORDER - order)))
+            start += 4 ** (MAX_ORDER - order)
     return sorted(cells)
 
 
-def ascii_of(ranges):
-    """The normal text: cells in a row as a range, each order once."""
-    words, before = [], None
+def ascii_of(ranges: Ranges) -> str:
+    """Returns the normal ASCII text of a set: each order once, and consecutive cells as a range."""
+    runs: list[tuple[int, int, int]] = []
     for order, index in cells_of(ranges):
-        if before and before[0] == order and before[2] + 1 == index:
-            before[2] = index
+        if runs and runs[-1][0] == order and runs[-1][2] + 1 == index:
+            runs[-1] = (order, runs[-1][1], index)
         else:
-            before = [order, index, index]
-            words.append(before)
-    texts = [f"{a}-{b}" if a < b else f"{a}" for _, a, b in words]
-    return " ".join((f"{it[0]}/" if i == 0 or words[i - 1][0] != it[0] else "") + texts[i] for i, it in enumerate(words))
+            runs.append((order, index, index))
+    words = []
+    for position, (order, first, last) in enumerate(runs):
+        is_first = position == 0 or runs[position - 1][0] != order
+        words.append((f"{order}/" if is_first else "") + (f"{first}-{last}" if first < last else f"{first}"))
+    return " ".join(words)
 
 
-def json_of(ranges):
-    orders = {}
+def json_of(ranges: Ranges) -> str:
+    """Returns the JSON text of a set."""
+    orders: dict[int, list[int]] = {}
     for order, index in cells_of(ranges):
         orders.setdefault(order, []).append(index)
     return "{" + ",".join(f'"{order}":[{",".join(map(str, cells))}]' for order, cells in orders.items()) + "}"
 
 
-def random_numbers(limit):
-    """Numbers below a limit, by splitmix64 with the seed 42."""
+def random_numbers(limit: int) -> Iterator[int]:
+    """Returns random numbers below a limit, by splitmix64 with the seed 42."""
     state, mask = 42, 2**64 - 1
     while True:
         state = state + 0x9E3779B97F4A7C15 & mask
@@ -104,22 +124,24 @@ def random_numbers(limit):
         yield (z ^ z >> 31) % limit
 
 
-def place_of(order, index):
-    """The base pixel of a nested number, and x and y in it."""
+def face_xy(order: int, index: int) -> tuple[int, int, int]:
+    """Returns the base pixel of a nested index, and the coordinates x and y in it."""
     inside = index % 4**order
     x = sum((inside >> 2 * bit & 1) << bit for bit in range(order))
     y = sum((inside >> 2 * bit + 1 & 1) << bit for bit in range(order))
     return index >> 2 * order, x, y
 
 
-def nested_of(order, face, x, y):
-    return face * 4**order + sum((x >> bit & 1) << 2 * bit | (y >> bit & 1) << 2 * bit + 1 for bit in range(order))
+def nested_index(order: int, face: int, x: int, y: int) -> int:
+    """Returns the nested index of a cell."""
+    index: int = face * 4**order + sum((x >> bit & 1) << 2 * bit | (y >> bit & 1) << 2 * bit + 1 for bit in range(order))
+    return index
 
 
-def ring_of(order, index):
-    """The ring number, as HEALPix's library finds it: its ring and the place in it."""
-    side = 2**order
-    face, x, y = place_of(order, index)
+def nest_to_ring(order: int, index: int) -> int:
+    """Returns the ring number of a nested index, by the ring of the cell and its position in the ring."""
+    side: int = 2**order
+    face, x, y = face_xy(order, index)
     ring = ROWS[face] * side - x - y - 1
     if ring < side:
         length, before, shift = ring, 2 * ring * (ring - 1), 0
@@ -128,124 +150,127 @@ def ring_of(order, index):
         before, shift = 12 * side**2 - 2 * length * (length + 1), 0
     else:
         length, before, shift = side, 2 * side * (side - 1) + (ring - side) * 4 * side, ring - side & 1
-    place = (COLUMNS[face] * length + x - y + 1 + shift) // 2
-    place += 4 * side if place < 1 else 0
-    return before + (place - 4 * side if place > 4 * side else place) - 1
+    position = (COLUMNS[face] * length + x - y + 1 + shift) // 2
+    position += 4 * side if position < 1 else 0
+    return before + (position - 4 * side if position > 4 * side else position) - 1
 
 
-def nest_of(order, number):
-    """The cell that has a ring number: it lies in the ring that has the number, and in some base pixel."""
-    side = 2**order
+def ring_to_nest(order: int, number: int) -> int:
+    """Returns the nested index of a ring number, from the base pixels that the ring crosses."""
+    side: int = 2**order
     cap, total = 2 * side * (side - 1), 12 * side**2
     if number < cap:
         ring = (1 + math.isqrt(1 + 2 * number)) // 2
-        length, place, shift = ring, number + 1 - 2 * ring * (ring - 1), 0
+        length, position, shift = ring, number + 1 - 2 * ring * (ring - 1), 0
     elif number < total - cap:
         ring = (number - cap) // (4 * side) + side
-        length, place, shift = side, (number - cap) % (4 * side) + 1, ring + side & 1
+        length, position, shift = side, (number - cap) % (4 * side) + 1, ring + side & 1
     else:
         length = (1 + math.isqrt(2 * (total - number) - 1)) // 2
-        ring, place, shift = 4 * side - length, 4 * length - (total - number - 1 - 2 * length * (length - 1)), 0
+        ring, position, shift = 4 * side - length, 4 * length - (total - number - 1 - 2 * length * (length - 1)), 0
     for face in range(12):
-        both = ROWS[face] * side - ring - 1
+        total_xy = ROWS[face] * side - ring - 1
         for turn in (-8 * side, 0, 8 * side):
-            apart = 2 * place - COLUMNS[face] * length - 1 - shift + turn
-            x, y = both + apart >> 1, both - apart >> 1
-            if (both + apart) % 2 == 0 and 0 <= x < side and 0 <= y < side and ring_of(order, nested_of(order, face, x, y)) == number:
-                return nested_of(order, face, x, y)
+            difference = 2 * position - COLUMNS[face] * length - 1 - shift + turn
+            x, y = total_xy + difference >> 1, total_xy - difference >> 1
+            if (total_xy + difference) % 2 == 0 and 0 <= x < side and 0 <= y < side:
+                index = nested_index(order, face, x, y)
+                if nest_to_ring(order, index) == number:
+                    return index
     raise ValueError(number)
 
 
-def point(side, face, u, v):
-    """A corner point of cells, by its row and its place along the row: in a cap a row has as many places as it is from the pole."""
+def corner_point(side: int, face: int, u: int, v: int) -> Point:
+    """Returns a corner point of cells. In a polar cap, a row has as many positions as its distance from the pole."""
     row = ROWS[face] * side - u - v
     if face < 4 and row < side:
         return row, (face * row + side - v) % (4 * row) if row else 0
     if face >= 8 and row > 3 * side:
-        below = 4 * side - row
-        return row, ((face - 8) * below + u) % (4 * below) if below else 0
+        distance = 4 * side - row
+        return row, ((face - 8) * distance + u) % (4 * distance) if distance else 0
     return row, (COLUMNS[face] * side + u - v) % (8 * side)
 
 
-def faces_at(side, where):
-    """Each base pixel that has a corner point, and its place there."""
-    row, along = where
+def faces_at(side: int, point: Point) -> Iterator[tuple[int, int, int]]:
+    """Returns each base pixel that has a corner point, and the coordinates of the point in it."""
+    row, along = point
     for face in range(12):
-        both = ROWS[face] * side - row
+        total = ROWS[face] * side - row
         if row < side or row > 3 * side:
             if face < 4 and row < side:
-                found = [(both - v, v) for v in {side - (along - face * row) % (4 * row) if row else side}]
+                v = side - (along - face * row) % (4 * row) if row else side
+                places = [(total - v, v)]
             elif face >= 8 and row > 3 * side:
-                below = 4 * side - row
-                found = [(u, both - u) for u in {(along - (face - 8) * below) % (4 * below) if below else 0}]
+                distance = 4 * side - row
+                u = (along - (face - 8) * distance) % (4 * distance) if distance else 0
+                places = [(u, total - u)]
             else:
                 continue
         else:
-            aparts = [along - COLUMNS[face] * side + turn for turn in (-8 * side, 0, 8 * side)]
-            found = [(both + apart >> 1, both - apart >> 1) for apart in aparts if (both + apart) % 2 == 0]
-        for u, v in found:
-            if 0 <= u <= side and 0 <= v <= side and point(side, face, u, v) == where:
+            differences = [along - COLUMNS[face] * side + turn for turn in (-8 * side, 0, 8 * side)]
+            places = [(total + difference >> 1, total - difference >> 1) for difference in differences if (total + difference) % 2 == 0]
+        for u, v in places:
+            if 0 <= u <= side and 0 <= v <= side and corner_point(side, face, u, v) == point:
                 yield face, u, v
 
 
-def near(order, index):
-    """The cells that share a corner point with a cell."""
+def neighbours(order: int, index: int) -> set[int]:
+    """Returns the cells that share a corner point with a cell."""
     side = 2**order
-    face, x, y = place_of(order, index)
-    found = set()
-    for where in {point(side, face, x + i, y + j) for i in (0, 1) for j in (0, 1)}:
-        for other, u, v in faces_at(side, where):
-            found |= {nested_of(order, other, u - i, v - j) for i in (0, 1) for j in (0, 1)
+    face, x, y = face_xy(order, index)
+    cells: set[int] = set()
+    for point in {corner_point(side, face, x + i, y + j) for i in (0, 1) for j in (0, 1)}:
+        for other, u, v in faces_at(side, point):
+            cells |= {nested_index(order, other, u - i, v - j) for i in (0, 1) for j in (0, 1)
                       if 0 <= u - i < side and 0 <= v - j < side}
-    return found - {index}
+    return cells - {index}
 
 
-def sums():
-    """Each operation, with its checksum."""
-    one, other = pixels_of(FIRST), pixels_of(SECOND)
-    yield "read_a", count(one)
-    yield "count", count(one)
-    yield "union", count(normal(one + other))
-    yield "intersection", count(intersection(one, other))
-    yield "difference", count(intersection(one, complement(other)))
-    yield "symmetric", count(intersection(one, complement(other))) + count(intersection(other, complement(one)))
-    yield "complement", SKY - count(one)
+def checksums() -> Iterator[tuple[str, int]]:
+    """Returns each operation with its checksum."""
+    first, second = ranges_of(FIRST), ranges_of(SECOND)
+    yield "read_a", count(first)
+    yield "count", count(first)
+    yield "union", count(normalize(first + second))
+    yield "intersection", count(intersection(first, second))
+    yield "difference", count(intersection(first, complement(second)))
+    yield "symmetric", count(intersection(first, complement(second))) + count(intersection(second, complement(first)))
+    yield "complement", PIXELS - count(first)
     for order in (10, 13):
-        yield f"degrade{order}", count(degraded(one, order))
-    yield "write_ascii", len(ascii_of(one))
-    yield "write_json", len(json_of(one))
+        yield f"degrade{order}", count(degrade(first, order))
+    yield "write_ascii", len(ascii_of(first))
+    yield "write_json", len(json_of(first))
     for order in (13, 29):
         random = random_numbers(12 * 4**order)
         numbers = [next(random) for _ in range(NUMBERS)]
-        yield f"ring{order}", sum(ring_of(order, it) for it in numbers) % 2**64
-        yield f"nest{order}", sum(nest_of(order, it) for it in numbers) % 2**64
-        yield f"near{order}", sum(sum(near(order, it)) for it in numbers) % 2**64
+        yield f"ring{order}", sum(nest_to_ring(order, number) for number in numbers) % 2**64
+        yield f"nest{order}", sum(ring_to_nest(order, number) for number in numbers) % 2**64
+        yield f"near{order}", sum(sum(neighbours(order, number)) for number in numbers) % 2**64
         random = random_numbers(2**64)
-        border = [nested_of(order, next(random) % 12, 0, next(random) % 2**order) for _ in range(NUMBERS)]
-        yield f"border{order}", sum(sum(near(order, it)) for it in border) % 2**64
+        border = [nested_index(order, next(random) % 12, 0, next(random) % 2**order) for _ in range(NUMBERS)]
+        yield f"border{order}", sum(sum(neighbours(order, number)) for number in border) % 2**64
     yield "turns", OPERATIONS
     for clients in (10, 1_000, 100_000):
         yield f"rounds{clients}", OPERATIONS // clients * clients
 
 
-def answered(word):
-    """The line that an operation is told in, on the two coverages."""
-    size = OPERATIONS if word.startswith(("turns", "rounds")) else NUMBERS
-    given = f"{text_of(FIRST)}\n{text_of(SECOND)}\n".encode()
-    ended = subprocess.run([BENCH, word, "1", str(size)], input=given, stdout=subprocess.PIPE, stderr=subprocess.STDOUT, timeout=SECONDS)
-    return ended.returncode, ended.stdout.decode(errors="replace").split()
+def run_operation(name: str) -> tuple[int, list[str]]:
+    """Runs an operation on the two coverages. Returns the exit status, and the fields of the line that it prints."""
+    size = OPERATIONS if name.startswith(("turns", "rounds")) else NUMBERS
+    texts = f"{text_of(FIRST)}\n{text_of(SECOND)}\n".encode()
+    result = subprocess.run([BENCH, name, "1", str(size)], input=texts, stdout=subprocess.PIPE, stderr=subprocess.STDOUT,
+                            timeout=TIME_LIMIT)
+    return result.returncode, result.stdout.decode(errors="replace").split()
 
 
-def main():
-    passed = failed = 0
-    for word, wanted in sums():
-        status, line = answered(word)
-        is_right = status == 0 and len(line) == 5 and line[0] == word and line[4] == str(wanted)
-        passed, failed = passed + is_right, failed + (not is_right)
-        if not is_right:
-            print(f"{word}: {status}, {' '.join(line)}, where {wanted} is the checksum")
-    print(f"{passed} passed, {failed} failed")
-    return 1 if failed else 0
+def main() -> int:
+    """Checks all operations."""
+    tally = Tally()
+    for name, checksum in checksums():
+        status, fields = run_operation(name)
+        is_correct = status == 0 and len(fields) == 5 and fields[0] == name and fields[4] == str(checksum)
+        tally.check(is_correct, f"{name}: status {status}, {' '.join(fields)}; the checksum is {checksum}")
+    return tally.finish()
 
 
 if __name__ == "__main__":

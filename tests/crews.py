@@ -1,125 +1,147 @@
 #!/usr/bin/env python3
-"""Has crews of 2 to 64 lanes answer scripts of thousands of lines, and looks for what no order of the lines could answer.
+"""Runs crews of 2 to 64 lanes on scripts of thousands of lines, and checks that some order of the lines gives the same answers.
 
-A script adds and removes four sets of cells that do not meet, each only as a whole, over one part or up to twelve. So in every order of the
-lines each of them is there or not, whole: a reply that tells of a piece of one is of no order. And the lines that changed a set take turns
-to bring it and to take it, so how often each happened, and the cover at the end, must agree. Which lines stood before which is not looked at.
+A script adds and removes four disjoint sets of cells, each in one part of the sky or in up to twelve. Each line adds or removes whole sets.
+So in every order of the lines each set is contained or disjoint, and no answer may report a piece of a set. Lines that change a set add and
+remove it in turn. So the numbers of these changes and the cover at the end have to agree. The script does not check which line comes before
+which.
 
-The program lies where the environment's MOC says. The last line printed is `N passed, M failed`."""
+The environment variable MOC has the path of the program; the default is the program of the checkout. The last line printed is
+`N passed, M failed`."""
+from __future__ import annotations
+
 import os
 import random
 import subprocess
 import sys
+from collections.abc import Iterable
+
+from tally import Tally
 
 TOP = os.path.dirname(os.path.dirname(os.path.abspath(__file__)))
 MOC = os.environ.get("MOC", os.path.join(TOP, "crates", "moc_cli", "out", "moc_cli"))
-SECONDS = 300
+TIME_LIMIT = 300
 LANES = [2, 3, 4, 8, 16, 64]
 LINES = 3000
 SEEDS = 2
-# How many pixels a cell of order 5 has, and how many such cells a base pixel.
-CELL, CELLS = 4 ** 24, 4 ** 5
+# The number of pixels of a cell of order 5, and the number of these cells in a base pixel.
+CELL_PIXELS, BASE_CELLS = 4 ** 24, 4 ** 5
 
 
-class Cells:
-    """A cell of order 5 in each of some base pixels, at one place of each."""
+class CellSet:
+    """A set of one cell of order 5 in each of some base pixels, at the same place of each.
 
-    def __init__(self, base_pixels, place):
-        self.text = "5/" + " ".join(str(it * CELLS + place) for it in base_pixels)
-        self.size = len(base_pixels) * CELL
+    Parameters
+    ----------
+    base_pixels : iterable of int
+        The base pixels.
+    place : int
+        The number of the cell in its base pixel.
+    """
 
-    def is_here(self, pixels):
-        """Whether a count of the set finds it, where it is there whole or not at all."""
+    def __init__(self, base_pixels: Iterable[int], place: int) -> None:
+        cells = [base_pixel * BASE_CELLS + place for base_pixel in base_pixels]
+        self.text = "5/" + " ".join(map(str, cells))
+        self.size = len(cells) * CELL_PIXELS
+
+    def is_whole(self, pixels: int) -> bool:
+        """Returns whether a number of pixels is that of the set. Raises ValueError if it is the number of a piece."""
         if pixels not in (0, self.size):
             raise ValueError(f"{pixels} pixels are a piece of {self.text}")
         return pixels == self.size
 
 
-SETS = [Cells(range(12), 7), Cells([2, 3, 4], 9), Cells([0, 11], 11), Cells([5], 13)]
-# The lines of a set, by what each does.
-LINES_OF = {
+SETS = [CellSet(range(12), 7), CellSet([2, 3, 4], 9), CellSet([0, 11], 11), CellSet([5], 13)]
+# The kinds of lines, each with a set in place of the braces.
+LINE_FORMATS = {
     "add": "add {0}", "remove": "remove {0}", "count": "count {0}", "claim": "claim {0}", "read": "read {0}",
     "pass": "add {0} ; remove {0}", "fill": "count {0} ; add {0} ; count {0}",
 }
 
 
-def number(answer, word):
-    """The number behind this word."""
-    told, value = answer.split(" ")
-    if told != word:
-        raise ValueError(f"{answer!r} where {word!r} was due")
+def parse_number(answer: str, word: str) -> int:
+    """Returns the number after this word. Raises ValueError for another answer."""
+    first, _, value = answer.partition(" ")
+    if first != word:
+        raise ValueError(f"{answer!r} instead of {word!r}")
     return int(value)
 
 
-def change(cells, kind, answer):
-    """By how much an answer says that the set came (1) or went (-1); ValueError where no order answers so."""
+def net_change(cells: CellSet, kind: str, answer: str) -> int:
+    """Returns 1 if the answer reports that the line added the set, -1 if it removed the set, and 0 otherwise.
+
+    Raises ValueError if no order of the lines gives this answer."""
     if kind == "add":
-        return int(cells.is_here(number(answer, "changed")))
+        return int(cells.is_whole(parse_number(answer, "changed")))
     if kind == "remove":
-        return -int(cells.is_here(number(answer, "changed")))
+        return -int(cells.is_whole(parse_number(answer, "changed")))
     if kind == "count":
-        cells.is_here(number(answer, "total"))
+        cells.is_whole(parse_number(answer, "total"))
         return 0
     if kind == "claim":
         if answer == "claimed":
             return 1
-        if not cells.is_here(number(answer, "taken")):
-            raise ValueError(f"{answer!r} of a set that is not there")
+        if not cells.is_whole(parse_number(answer, "taken")):
+            raise ValueError(f"{answer!r} for a set that is not contained")
         return 0
     if kind == "read":
         if answer not in ("cover", f"cover {cells.text}"):
             raise ValueError(f"{answer!r} is a piece of {cells.text}")
         return 0
-    parts = answer.split(" ; ")
+    replies = answer.split(" ; ")
     if kind == "pass":
-        came = cells.is_here(number(parts[0], "changed"))
-        if not cells.is_here(number(parts[1], "changed")):
-            raise ValueError(f"{answer!r} removes nothing of what it added")
-        return int(came) - 1
-    was, came, now = (cells.is_here(number(part, word)) for part, word in zip(parts, ["total", "changed", "total"]))
-    if was == came or not now:
+        was_added = cells.is_whole(parse_number(replies[0], "changed"))
+        if not cells.is_whole(parse_number(replies[1], "changed")):
+            raise ValueError(f"{answer!r} does not remove what it added")
+        return int(was_added) - 1
+    before, was_added, after = (cells.is_whole(parse_number(reply, word))
+                                for reply, word in zip(replies, ["total", "changed", "total"]))
+    if before == was_added or not after:
         raise ValueError(f"{answer!r} counts what it did not add")
-    return int(came)
+    return int(was_added)
 
 
-def balance(script, answers):
-    """How often each set came more than it went."""
-    came = dict.fromkeys(SETS, 0)
+def net_changes(script: list[tuple[CellSet, str]], answers: list[str]) -> dict[CellSet, int]:
+    """Returns the number of additions of each set minus the number of its removals."""
+    changes = dict.fromkeys(SETS, 0)
     for (cells, kind), answer in zip(script, answers, strict=True):
-        came[cells] += change(cells, kind, answer)
-    return came
+        changes[cells] += net_change(cells, kind, answer)
+    return changes
 
 
-def contents(cover):
-    """Which of the sets a cover has, as numbers of pixels that it has of each."""
+def sets_of(cover: str) -> dict[CellSet, int]:
+    """Returns 1 for each set that a cover contains, and 0 for each that is disjoint from it. Raises ValueError for a piece of a set."""
     lines = [f"add {cover.removeprefix('cover').strip()}"] + [f"count {cells.text}" for cells in SETS]
-    ended = subprocess.run([MOC, "run"], input="\n".join(lines), capture_output=True, text=True, timeout=SECONDS)
-    return {cells: cells.is_here(number(answer, "total")) for cells, answer in zip(SETS, ended.stdout.splitlines()[1:], strict=True)}
+    result = subprocess.run([MOC, "run"], input="\n".join(lines), capture_output=True, text=True, timeout=TIME_LIMIT)
+    answers = result.stdout.splitlines()[1:]
+    return {cells: int(cells.is_whole(parse_number(answer, "total"))) for cells, answer in zip(SETS, answers, strict=True)}
 
 
-def is_legal(lanes, seed):
-    """Whether nothing in a crew's answers to a random script is of no order of its lines."""
-    choose = random.Random(seed)
-    script = [(choose.choice(SETS), choose.choice(list(LINES_OF))) for _ in range(LINES)]
-    text = "".join(LINES_OF[kind].format(cells.text) + "\n" for cells, kind in script)
-    ended = subprocess.run([MOC, "crew", str(lanes)], input=text, capture_output=True, text=True, timeout=SECONDS)
-    try:
-        if ended.returncode:
-            raise ValueError(f"status {ended.returncode}, {ended.stderr!r}")
-        *answers, cover = ended.stdout.splitlines()
-        came, left = balance(script, answers), contents(cover)
-        if any(came[cells] != int(left[cells]) for cells in SETS):
-            raise ValueError("the sets that came and did not go are not those of the cover")
-    except ValueError as error:
-        print(f"{lanes} lanes, seed {seed}: {error}", file=sys.stderr)
-        return False
-    return True
+def check_crew(lanes: int, seed: int) -> None:
+    """Runs a crew on a random script. Raises ValueError if no order of its lines gives the same answers."""
+    rng = random.Random(seed)
+    script = [(rng.choice(SETS), rng.choice(list(LINE_FORMATS))) for _ in range(LINES)]
+    text = "".join(LINE_FORMATS[kind].format(cells.text) + "\n" for cells, kind in script)
+    result = subprocess.run([MOC, "crew", str(lanes)], input=text, capture_output=True, text=True, timeout=TIME_LIMIT)
+    if result.returncode:
+        raise ValueError(f"status {result.returncode}, {result.stderr!r}")
+    *answers, cover = result.stdout.splitlines()
+    if net_changes(script, answers) != sets_of(cover):
+        raise ValueError("the sets of the cover are not those that were added and not removed")
 
 
-def main():
-    results = [is_legal(lanes, seed) for lanes in LANES for seed in range(SEEDS)]
-    print(f"{sum(results)} passed, {len(results) - sum(results)} failed")
-    return 0 if all(results) else 1
+def main() -> int:
+    """Runs all crews."""
+    tally = Tally()
+    for lanes in LANES:
+        for seed in range(SEEDS):
+            failure = ""
+            try:
+                check_crew(lanes, seed)
+            except ValueError as error:
+                failure = str(error)
+            tally.check(not failure, f"{lanes} lanes, seed {seed}: {failure}")
+    return tally.finish()
 
 
 if __name__ == "__main__":

@@ -1,12 +1,17 @@
 #!/usr/bin/env python3
-"""Calls the library for C: `tests/c/calls.c` makes each call of `moc.h`, with right, empty, short and wrong arguments, and
-`tests/c/guards.c` with each pointer in turn null, not aligned and overlapping another, under the address and undefined-behaviour sanitizers
-and the one for leaks, and once without; `tests/c/growths.c` makes sets and texts with each growth refused in turn (`tests/refuse.c`). The
-program of `docs/C.md` writes what the page says. The header is read as C99 and as C++, and its codes are compared with those of the crate;
-and each call of it is an export of the library, and each export a call of it, with arguments and an answer of the same types; its structs
-have the fields of the crate's. Guards over calls that only look at their pointers show that these are aligned, those of empty arrays too.
+"""Tests the library for C.
 
-The library is linked anew, by `./moc library`, in a room of its own. The last line printed is `N passed, M failed`."""
+- `tests/c/calls.c` calls each function of `moc.h` with valid, empty, short and invalid arguments. `tests/c/guards.c` calls each function
+  with each of its pointers null, not aligned, and overlapping another pointer. Both run with the sanitizers for addresses, undefined
+  behaviour and leaks, and without them.
+- `tests/c/allocations.c` makes sets and texts while each allocation in turn fails (`tests/fail_allocation.c`).
+- The program of `docs/C.md` prints what the page says.
+- The header compiles as C99 and as C++. Its codes, functions, types and structs agree with those of the crate.
+- Guards pass an aligned address for an empty array that is not aligned. The test replaces the proved functions for this check.
+
+The test links the library with `./moc library` into a temporary folder. The last line printed is `N passed, M failed`."""
+from __future__ import annotations
+
 import itertools
 import os
 import re
@@ -15,85 +20,75 @@ import sys
 import tempfile
 from collections import Counter
 
+from tally import Tally
+
 TOP = os.path.dirname(os.path.dirname(os.path.abspath(__file__)))
 CRATE = os.path.join(TOP, "crates", "moc_c")
-HEADER = os.path.join(CRATE, "include", "moc.h")
 sys.path.insert(0, os.path.join(TOP, "tools"))
-from guards import PROVED, calls_of, source_of  # noqa: E402
+from guards import CLIENT, HEADER, PROVED, RESULT, STORE, Function, guards_source, parse_header  # noqa: E402
 
 CC, CXX = os.environ.get("CC", "cc"), os.environ.get("CXX", "c++")
 WARNINGS = ["-Wall", "-Wextra", "-Wpedantic", "-Werror"]
 SANITIZERS = ["-fsanitize=address,undefined", "-fno-sanitize-recover=all"]
 CODE = re.compile(r"^\s*(?:MOC|pub\(crate\) const) ?_?(\w+)(?:: u32)? = (\d+)", re.MULTILINE)
-# The codes of the guards alone: what is proved has no such pointer, and no code for one.
-OF_GUARDS = [("NULL", "9"), ("MISALIGNED", "80"), ("OVERLAP", "81")]
-# A call or a struct of the header, and an export or a struct of the crate: what it answers, its name, and what it takes or has.
-CALL = re.compile(r"^(bool|void|moc_outcome) (moc_\w+)\(([^;]*)\);", re.MULTILINE)
+# The codes of the header that the crate names otherwise.
+CODE_NAMES = {"OK": "DONE", "HANDLE_IN_USE": "SEAT_TAKEN"}
+# The codes that only guards return. No pointer that a guard passes to a proved function is invalid.
+GUARD_CODES = [("NULL", "9"), ("MISALIGNED", "80"), ("OVERLAP", "81")]
+# The functions and structs of the header, and those of the crate.
+DECLARATION = re.compile(rf"^(bool|void|{RESULT}) (moc_\w+)\(([^;]*)\);", re.MULTILINE)
 STRUCT = re.compile(r"^typedef struct (moc_\w+) \{([^}]*)\}", re.MULTILINE)
 EXPORT = re.compile(r"extern \"C\" fn (moc_\w+)\(([^)]*)\)(?: -> (\w+))?")
-LAID_OUT = re.compile(r"^#\[repr\(C\)\]\n(?:#[^\n]*\n)*pub struct (\w+) \{\n(.*?)^\}", re.MULTILINE | re.DOTALL)
+REPR_C = re.compile(r"^#\[repr\(C\)\]\n(?:#[^\n]*\n)*pub struct (\w+) \{\n(.*?)^\}", re.MULTILINE | re.DOTALL)
 COMMENT = re.compile(r"/\*.*?\*/", re.DOTALL)
-# A row of guards.c: what it shows, at which argument, the call, and its arguments; and one of an overlap: which two, and the call.
+# The rows of guards.c with one invalid pointer: the kind, the number of the argument, the function and its arguments.
 ROW = re.compile(r"^ +(NULL|NONE|ASKEW|WRONG)_AT\((?:code, )?(\d+), (moc_\w+)\(([^()]*)\)", re.MULTILINE)
+# The rows of guards.c with two arguments that overlap.
 OVERLAP = re.compile(r"^ +OVERLAP_AT\((\d+), (\d+), (moc_\w+)\(", re.MULTILINE)
-# Which argument is so in a row, and what the row shows: a wrong desk or seat is each of those that its rows are called with.
-SHOWN = {"NULL": ("NULL", ["NULL"]), "NONE": ("NULL", ["NONE"]), "ASKEW": ("askew", ["ASKEW"]), "WRONG": ("wrong", ["NULL", "ASKEW"])}
+# The invalid argument of each kind of row, and what the row tests. A wrong handle is each of those that its rows are called with.
+KINDS = {"NULL": ("NULL", ["NULL"]), "NONE": ("NULL", ["NONE"]), "ASKEW": ("askew", ["ASKEW"]), "WRONG": ("wrong", ["NULL", "ASKEW"])}
 WRONG = re.compile(r"^ +on_wrong_(desk|seat)\(MOC_(\w+), (?:&no_)?(\w+)\);", re.MULTILINE)
-# The types of the crate as C has them. A `Global` takes no bytes, and a ghost field is none.
-TYPES = {"u8": "uint8_t", "u32": "uint32_t", "u64": "uint64_t", "bool": "bool", "[u64; 8]": "uint64_t[8]", "Outcome": "moc_outcome",
-         "Range": "moc_range", "Desk": "moc_desk", "Seat": "moc_seat", "*mut u8": "void*"}
-# Calls that guards know no answer or argument of: a call of another answer, a pointer with no length behind it, a length by itself,
-# elements of no size or with pointers of their own, a `const` at another place.
-STRANGE = ["int moc_x(moc_desk *desk);", "moc_outcome *moc_x(moc_desk *desk);", "bool moc_x(moc_desk *out, uint8_t order);",
-           "void moc_x(moc_desk *desk);", "moc_outcome moc_x(moc_desk desk);", "moc_outcome moc_x(const uint8_t *text);",
-           "moc_outcome moc_x(const uint8_t *text, uint64_t length);", "moc_outcome moc_x(const uint8_t **texts, size_t count);",
-           "moc_outcome moc_x(size_t length);", "moc_outcome moc_x(void *at, size_t length);",
-           "moc_outcome moc_x(const void *at, size_t length);", "moc_outcome moc_x(const moc_desk *desks, size_t count);",
-           "moc_outcome moc_x(uint8_t const *text, size_t length);", "moc_outcome moc_x(const uint8_t *const text, size_t length);"]
-SECONDS = 300
+# The types of the crate, and their types in C. C has no argument for a `Global`, and no field for a ghost field.
+TYPES = {"u8": "uint8_t", "u32": "uint32_t", "u64": "uint64_t", "bool": "bool", "[u64; 8]": "uint64_t[8]", "CallResult": RESULT,
+         "Range": "moc_range", "Store": STORE, "ClientHandle": CLIENT, "*mut u8": "void*"}
+# Declarations that guards cannot check: another result, a pointer without a length, a length alone, elements without a size or with
+# pointers, and a `const` at another place.
+UNSUPPORTED = [f"int moc_x({STORE} *store);", f"{RESULT} *moc_x({STORE} *store);", f"bool moc_x({STORE} *out, uint8_t order);",
+               f"void moc_x({STORE} *store);", f"{RESULT} moc_x({STORE} store);", f"{RESULT} moc_x(const uint8_t *text);",
+               f"{RESULT} moc_x(const uint8_t *text, uint64_t length);", f"{RESULT} moc_x(const uint8_t **texts, size_t count);",
+               f"{RESULT} moc_x(size_t length);", f"{RESULT} moc_x(void *at, size_t length);",
+               f"{RESULT} moc_x(const void *at, size_t length);", f"{RESULT} moc_x(const {STORE} *stores, size_t count);",
+               f"{RESULT} moc_x(uint8_t const *text, size_t length);", f"{RESULT} moc_x(const uint8_t *const text, size_t length);"]
+TIME_LIMIT = 300
+# The minimal number of failing allocations that `allocations.c` has to report.
+MIN_FAILURES = 20
 
 
-class Tally:
-    """How many checks passed and failed."""
-
-    def __init__(self):
-        self.passed = self.failed = 0
-
-    def add(self, name, holds, told=""):
-        self.passed += bool(holds)
-        self.failed += not holds
-        if not holds:
-            print(f"{name}: failed\n{told}")
-
-    def add_line(self, name, ended):
-        """Adds what a program tells in its last line."""
-        counted = re.search(r"^(\d+) passed, (\d+) failed$", ended.stdout, re.MULTILINE)
-        if counted is None or ended.returncode != (counted[2] != "0"):
-            self.add(name, False, ended.stdout + ended.stderr)
-            return
-        self.passed += int(counted[1])
-        self.failed += int(counted[2])
-        if counted[2] != "0" or ended.stderr:
-            print(f"{name}:\n{ended.stdout}{ended.stderr}")
-
-
-def ran(words, **environment):
-    return subprocess.run(words, stdin=subprocess.DEVNULL, stdout=subprocess.PIPE, stderr=subprocess.PIPE, text=True, timeout=SECONDS,
+def run(command: list[str], **environment: str) -> subprocess.CompletedProcess[str]:
+    """Runs a command with additional environment variables."""
+    return subprocess.run(command, stdin=subprocess.DEVNULL, stdout=subprocess.PIPE, stderr=subprocess.PIPE, text=True, timeout=TIME_LIMIT,
                           env=dict(os.environ, **environment))
 
 
-def read(path):
-    with open(path, encoding="utf-8") as file:
+def read_text(*path: str) -> str:
+    """Returns the text of a file."""
+    with open(os.path.join(*path), encoding="utf-8") as file:
         return file.read()
 
 
-def sources():
-    folder = os.path.join(CRATE, "src")
-    return "\n".join(read(os.path.join(at, it)) for at, _, files in os.walk(folder) for it in files)
+def write_text(path: str, text: str) -> None:
+    """Writes a text into a file."""
+    with open(path, "w", encoding="utf-8") as file:
+        file.write(text)
 
 
-def in_c(kind):
-    """What C has of a type of the crate: nothing, one type, or those of a pointer and a length."""
+def crate_sources() -> str:
+    """Returns the concatenated sources of the crate."""
+    return "\n".join(read_text(folder, name) for folder, _, names in os.walk(os.path.join(CRATE, "src")) for name in names)
+
+
+def types_in_c(kind: str) -> list[str]:
+    """Returns the types in C of an argument or a field of the crate: none, one, or those of a pointer and a length."""
     if kind == "Global":
         return []
     for start, pointer in (("&mut [", "{}*"), ("&[", "const {}*")):
@@ -105,196 +100,218 @@ def in_c(kind):
     return [TYPES[kind]]
 
 
-def exported():
-    """Of each export what it answers and takes, and of each struct what it has, as C has them."""
-    found, text = {}, sources()
-    for name, taken, answer in EXPORT.findall(text):
-        kinds = [it.partition(":")[2].strip() for it in taken.split(",") if it.strip()]
-        found[name] = [TYPES[answer] if answer else "void", *(it for kind in kinds for it in in_c(kind))]
-    for name, fields in LAID_OUT.findall(text):
+def crate_declarations() -> dict[str, list[str]]:
+    """Returns the types in C of each exported function, with its result first, and of the fields of each struct."""
+    declarations, text = {}, crate_sources()
+    for name, arguments, result in EXPORT.findall(text):
+        kinds = [argument.partition(":")[2].strip() for argument in arguments.split(",") if argument.strip()]
+        declarations[name] = [TYPES[result] if result else "void", *(part for kind in kinds for part in types_in_c(kind))]
+    for name, fields in REPR_C.findall(text):
         kinds = re.findall(r"^ +(?:pub )?(?!ghost)\w+: (.*),$", fields, re.MULTILINE)
-        found[f"moc_{name.lower()}"] = ["struct", *(it for kind in kinds for it in in_c(kind))]
-    return found
+        declarations[TYPES.get(name, name)] = ["struct", *(part for kind in kinds for part in types_in_c(kind))]
+    return declarations
 
 
-def without_name(declared):
-    """The type of what the header declares by a name: a pointer to rows of eight is one to an array."""
-    declared = re.sub(r"\(\*\w+\)(\[\d+\])", r"\1*", declared.strip())
-    return re.sub(r" ?\*", "*", re.sub(r"\b\w+$", "", declared).strip().replace(" [", "["))
+def remove_name(declaration: str) -> str:
+    """Returns the type of a declared argument. A pointer to rows of eight numbers is a pointer to an array."""
+    declaration = re.sub(r"\(\*\w+\)(\[\d+\])", r"\1*", declaration.strip())
+    return re.sub(r" ?\*", "*", re.sub(r"\b\w+$", "", declaration).strip().replace(" [", "["))
 
 
-def declared():
-    """The same of the header."""
-    text = COMMENT.sub("", read(HEADER))
-    found = {name: [answer, *map(without_name, taken.split(","))] for answer, name, taken in CALL.findall(text)}
+def header_declarations() -> dict[str, list[str]]:
+    """Returns the types of each function of the header, with its result first, and of the fields of each struct."""
+    text = COMMENT.sub("", read_text(HEADER))
+    declarations = {name: [result, *map(remove_name, arguments.split(","))] for result, name, arguments in DECLARATION.findall(text)}
     for name, fields in STRUCT.findall(text):
-        found[name] = ["struct"]
+        declarations[name] = ["struct"]
         for line in fields.split(";"):
             kind, _, names = line.strip().partition(" ")
-            found[name] += [kind + "*" * it.count("*") for it in names.split(",") if it]
-    return found
+            declarations[name] += [kind + "*" * field.count("*") for field in names.split(",") if field]
+    return declarations
 
 
-def check_header(tally, room):
-    """The header is C99 and C++; its codes are those of the crate, and its calls the exports."""
+def check_header(tally: Tally, folder: str) -> None:
+    """Checks that the header compiles as C99 and as C++, and that it agrees with the crate and with the tests."""
     for compiler, standard, name in ((CC, "c99", "header.c"), (CXX, "c++11", "header.cc")):
-        with open(os.path.join(room, name), "w") as file:
-            file.write('#include "moc.h"\n#include "moc.h"\nint main(void) { return MOC_DONE; }\n')
-        told = ran([compiler, f"-std={standard}", *WARNINGS, f"-I{room}", "-fsyntax-only", os.path.join(room, name)])
-        tally.add(f"the header as {standard}", told.returncode == 0, told.stderr)
-    header, codes = CODE.findall(read(HEADER)), CODE.findall(read(os.path.join(CRATE, "src", "codes.rt")))
-    tally.add("the codes", codes and header == sorted([*codes, *OF_GUARDS], key=lambda it: int(it[1])), f"{header}\n{codes}")
-    here, there = declared(), exported()
-    calls = [it for it in here if here[it][0] != "struct"]
-    tally.add("the calls", calls and sorted(here) == sorted(there), sorted({*here} ^ {*there}))
-    for name in {*here} & {*there}:
-        tally.add(f"the types of {name}", here[name] == there[name], f"{here[name]}\n{there[name]}")
-    tried = read(os.path.join(TOP, "tests", "c", "calls.c"))
-    tally.add("each call is tried", all(f"{it}(" in tried for it in calls), [it for it in calls if f"{it}(" not in tried])
+        write_text(os.path.join(folder, name), '#include "moc.h"\n#include "moc.h"\nint main(void) { return MOC_NULL == 0; }\n')
+        result = run([compiler, f"-std={standard}", *WARNINGS, f"-I{folder}", "-fsyntax-only", os.path.join(folder, name)])
+        tally.check(result.returncode == 0, f"the header does not compile as {standard}\n{result.stderr}")
+    header_codes = CODE.findall(read_text(HEADER))
+    codes = [(CODE_NAMES.get(name, name), number) for name, number in CODE.findall(read_text(CRATE, "src", "codes.rt"))]
+    tally.check(bool(codes), "the crate has no codes")
+    tally.check_equal("the codes of the header", header_codes, sorted([*codes, *GUARD_CODES], key=lambda code: int(code[1])))
+    header, crate = header_declarations(), crate_declarations()
+    functions = [name for name in header if header[name][0] != "struct"]
+    tally.check(bool(functions), "the header has no functions")
+    tally.check_equal("the functions and structs of the header", sorted(header), sorted(crate))
+    for name in {*header} & {*crate}:
+        tally.check_equal(f"the types of {name}", header[name], crate[name])
+    tests = read_text(TOP, "tests", "c", "calls.c")
+    tally.check_equal("the functions that calls.c does not call", [name for name in functions if f"{name}(" not in tests], [])
 
 
-def check_rows(tally):
-    """tests/c/guards.c has a row with each pointer of each call null, and not aligned; one with no elements for each array; and three for
-    each two arguments that may not overlap, or one where these are handles. It opens and closes none."""
-    text, rows, wanted, overlaps = read(os.path.join(TOP, "tests", "c", "guards.c")), set(), set(), Counter()
-    for kind, place, name, taken in ROW.findall(text):
-        argument, shown = SHOWN[kind]
-        if taken.split(", ")[int(place)] == argument:
-            rows |= {(it, int(place), name) for it in shown}
+def check_rows(tally: Tally) -> None:
+    """Checks that `tests/c/guards.c` has a row for each invalid pointer.
+
+    Each pointer of each function is null in one row, and not aligned in another. Each array has a row without elements. Two arguments that
+    may not overlap have three rows, or one if both are handles. Handles that are null are opened and closed."""
+    text = read_text(TOP, "tests", "c", "guards.c")
+    rows: set[tuple[str, int, str]] = set()
+    expected: set[tuple[str, int, str]] = set()
+    overlaps: Counter[tuple[str, int, int]] = Counter()
+    for kind, place, name, arguments in ROW.findall(text):
+        argument, tested = KINDS[kind]
+        if arguments.split(", ")[int(place)] == argument:
+            rows |= {(test, int(place), name) for test in tested}
     for handle in ("desk", "seat"):
-        shown = [(code, it) for its, code, it in WRONG.findall(text) if its == handle]
-        tally.add(f"each wrong {handle}", shown == [("MISALIGNED", "askew"), ("NULL", "NULL"), ("NULL", handle)], shown)
-    for name, (answer, *taken) in declared().items():
-        pointers = [at for at, kind in enumerate(taken) if "*" in kind] if answer == "moc_outcome" else []
-        arrays = [at for at in pointers if taken[at + 1:at + 2] == ["size_t"]]
-        wanted |= {("NULL", at, name) for at in pointers} | {("NONE", at, name) for at in arrays}
-        wanted |= {("ASKEW", at, name) for at in pointers if "uint8_t" not in taken[at]}
-        for two in itertools.combinations(pointers, 2):
-            if not all(taken[at].startswith("const ") for at in two):
-                overlaps[name, *two] = 3 if {*two} & {*arrays} else 1
-    tally.add("each pointer is null once, and not aligned", wanted and rows == wanted, sorted(rows ^ wanted))
-    found = Counter((name, int(earlier), int(later)) for earlier, later, name in OVERLAP.findall(text))
-    tally.add("each two overlap", overlaps and found == overlaps, (found - overlaps) + (overlaps - found))
-    others = [name for name, (answer, *_) in declared().items() if answer in ("bool", "void")]
-    tally.add("none is opened and closed", others and all(re.search(rf"{it}\((NULL|no_\w+)\)", text) for it in others), others)
+        wrong = [(code, argument) for kind, code, argument in WRONG.findall(text) if kind == handle]
+        tally.check_equal(f"the calls with a wrong {handle}", wrong, [("MISALIGNED", "askew"), ("NULL", "NULL"), ("NULL", handle)])
+    for name, (result, *types) in header_declarations().items():
+        pointers = [place for place, kind in enumerate(types) if "*" in kind] if result == RESULT else []
+        arrays = [place for place in pointers if types[place + 1:place + 2] == ["size_t"]]
+        expected |= {("NULL", place, name) for place in pointers} | {("NONE", place, name) for place in arrays}
+        expected |= {("ASKEW", place, name) for place in pointers if "uint8_t" not in types[place]}
+        for earlier, later in itertools.combinations(pointers, 2):
+            if not (types[earlier].startswith("const ") and types[later].startswith("const ")):
+                overlaps[name, earlier, later] = 3 if {earlier, later} & {*arrays} else 1
+    tally.check(bool(expected), "no function has a pointer")
+    tally.check_equal("the rows of guards.c that are missing or needless", sorted(rows ^ expected), [])
+    tested_overlaps = Counter((name, int(earlier), int(later)) for earlier, later, name in OVERLAP.findall(text))
+    tally.check(bool(overlaps), "no function has two pointers")
+    differences = (tested_overlaps - overlaps) + (overlaps - tested_overlaps)
+    tally.check_equal("the rows of overlaps that are missing or needless", differences, Counter())
+    others = [name for name, (result, *_) in header_declarations().items() if result in ("bool", "void")]
+    tally.check(bool(others) and all(re.search(rf"{name}\((NULL|no_\w+)\)", text) for name in others),
+                f"guards.c does not open and close null handles: {others}")
 
 
-def check_strange(tally):
-    """No guards are made where one would not look at all pointers."""
-    for line in STRANGE:
-        told = ""
+def check_unsupported(tally: Tally) -> None:
+    """Checks that no guard is generated for a function with a pointer that it could not check."""
+    for line in UNSUPPORTED:
+        source = ""
         try:
-            told = source_of(calls_of(line))
+            source = guards_source(parse_header(line))
         except ValueError:
             pass
-        tally.add(f"no guard of {line}", told == "", told)
+        tally.check_equal(f"the guard of {line}", source, "")
 
 
-def built(tally, room, name, *options):
-    """The program of a source in tests/c, linked with the library, or None."""
-    program = os.path.join(room, name + ("-checked" if options else ""))
-    told = ran([CC, "-std=c99", "-D_POSIX_C_SOURCE=200809L", "-g", "-O1", *WARNINGS, *options, f"-I{room}",
-                os.path.join(TOP, "tests", "c", f"{name}.c"), os.path.join(room, "libploverchaise.a"), "-pthread", "-o", program])
-    tally.add(f"{name} is built", told.returncode == 0, told.stderr)
-    return program if told.returncode == 0 else None
+def compile_test(tally: Tally, folder: str, name: str, *options: str) -> str | None:
+    """Compiles a program of `tests/c` with the library. Returns its path, or None if it does not compile."""
+    program = os.path.join(folder, name + ("-checked" if options else ""))
+    result = run([CC, "-std=c99", "-D_POSIX_C_SOURCE=200809L", "-g", "-O1", *WARNINGS, *options, f"-I{folder}",
+                  os.path.join(TOP, "tests", "c", f"{name}.c"), os.path.join(folder, "libploverchaise.a"), "-pthread", "-o", program])
+    return program if tally.check(result.returncode == 0, f"{name} does not compile\n{result.stderr}") else None
 
 
-def check_calls(tally, room):
-    """With the sanitizers the guards are built anew, so that these look at them too; the linker takes them before those of the library."""
-    guards = os.path.join(room, "guards.c")
-    with open(guards, "w") as file:
-        file.write(source_of(calls_of(read(HEADER))))
+def add_results(tally: Tally, name: str, program: str, **environment: str) -> None:
+    """Runs a program that prints `N passed, M failed`, and adds its counts."""
+    result = run([program], **environment)
+    tally.add_summary(name, result.returncode, result.stdout + result.stderr)
+    if result.stderr:
+        print(f"{name}:\n{result.stderr}")
+
+
+def check_calls(tally: Tally, folder: str) -> None:
+    """Runs `calls.c` and `guards.c`, without and with the sanitizers.
+
+    With the sanitizers the guards are compiled again, so that the sanitizers check them too. The linker prefers these to the guards
+    of the library."""
+    guards = os.path.join(folder, "guards.c")
+    write_text(guards, guards_source(parse_header(read_text(HEADER))))
+    variants: list[list[str]] = [[], [*SANITIZERS, guards]]
     for name in ("calls", "guards"):
-        for options in ([], [*SANITIZERS, guards]):
-            program = built(tally, room, name, *options)
+        for options in variants:
+            program = compile_test(tally, folder, name, *options)
             if program is not None:
-                tally.add_line(program, ran([program], ASAN_OPTIONS="detect_leaks=1"))
+                add_results(tally, os.path.basename(program), program, ASAN_OPTIONS="detect_leaks=1")
 
 
-def stub_of(call):
-    """A proved call that only looks at its arrays: each has to be aligned."""
-    arrays = [it[1] for it in (re.search(r"\*(\w+)", one) for one in call.arguments if not one.startswith(("moc_desk", "moc_seat"))) if it]
-    looks = "".join(f" is_aligned &= (uintptr_t){it} % __alignof__(*{it}) == 0;" for it in arrays)
-    answer = {"moc_outcome": "return (moc_outcome){0, 0, 0};", "bool": "return true;", "void": ""}[call.answer]
-    return f"{call.answer} {PROVED}{call.name}({', '.join(call.arguments)}) {{ calls++;{looks} {answer} }}\n"
+def replacement_of(function: Function) -> str:
+    """Returns a replacement in C of a proved function, which checks only that its arrays are aligned."""
+    handles = (STORE, CLIENT)
+    names = (re.search(r"\*(\w+)", argument) for argument in function.arguments if not argument.startswith(handles))
+    checks = "".join(f" is_aligned &= (uintptr_t){name[1]} % __alignof__(*{name[1]}) == 0;" for name in names if name)
+    statement = {RESULT: f"return ({RESULT}){{0, 0, 0}};", "bool": "return true;", "void": ""}[function.result]
+    return f"{function.result} {PROVED}{function.name}({', '.join(function.arguments)}) {{ calls++;{checks} {statement} }}\n"
 
 
-def on_empty_arrays(call):
-    """The line of a program that makes a call with empty arrays that are not aligned, and counts whether the guard aligned them."""
-    handles = iter(("&other", "&seat"))
-    passed = ["&desk" if one.startswith("moc_desk") else next(handles) if one.startswith("moc_seat") else "askew" if "*" in one else "0"
-              for one in call.arguments]
-    return f"    calls = 0; is_aligned = true; moc_{call.name}({', '.join(passed)}); count(calls == 1 && is_aligned, \"{call.name}\");\n"
+def call_on_empty_arrays(function: Function) -> str:
+    """Returns a line in C that calls a function with empty arrays that are not aligned, and counts whether the guard aligned them."""
+    clients = iter(("&other", "&client"))
+    arguments = ["&store" if argument.startswith(STORE) else next(clients) if argument.startswith(CLIENT)
+                 else "askew" if "*" in argument else "0" for argument in function.arguments]
+    return (f"    calls = 0; is_aligned = true; moc_{function.name}({', '.join(arguments)}); "
+            f"count(calls == 1 && is_aligned, \"{function.name}\");\n")
 
 
-def check_empty_arrays(tally, room):
-    """An empty array that is not aligned goes to the proved call as one that is."""
-    calls = calls_of(read(HEADER))
-    program = os.path.join(room, "empty")
-    with open(program + ".c", "w") as file:
-        file.write("#include <stdio.h>\n" + source_of(calls) + "static int calls, passed, failed;\nstatic bool is_aligned;\n")
-        file.write("static void count(bool holds, const char *name)\n{\n    passed += holds;\n    failed += !holds;\n"
-                   "    if (!holds)\n        printf(\"an empty array of %s is not aligned\\n\", name);\n}\n")
-        file.write("".join(map(stub_of, calls)))
-        file.write("int main(void)\n{\n    static uint64_t at[2];\n    void *askew = (char *)at + 1;\n"
-                   "    moc_desk desk = {at};\n    moc_seat seat = {at}, other = {at};\n")
-        file.write("".join(on_empty_arrays(it) for it in calls if it.answer == "moc_outcome"))
-        file.write('    printf("%d passed, %d failed\\n", passed, failed);\n    return failed != 0;\n}\n')
-    told = ran([CC, "-std=c99", "-Wno-unused", f"-I{room}", program + ".c", "-o", program])
-    tally.add("the program of empty arrays is built", told.returncode == 0, told.stderr)
-    if told.returncode == 0:
-        tally.add_line(program, ran([program]))
+def check_empty_arrays(tally: Tally, folder: str) -> None:
+    """Checks that guards pass an aligned address for an empty array that is not aligned."""
+    functions = parse_header(read_text(HEADER))
+    program = os.path.join(folder, "empty")
+    write_text(program + ".c", "".join([
+        "#include <stdio.h>\n", guards_source(functions), "static int calls, passed, failed;\nstatic bool is_aligned;\n",
+        "static void count(bool holds, const char *name)\n{\n    passed += holds;\n    failed += !holds;\n"
+        "    if (!holds)\n        printf(\"an empty array of %s is not aligned\\n\", name);\n}\n",
+        *map(replacement_of, functions),
+        "int main(void)\n{\n    static uint64_t at[2];\n    void *askew = (char *)at + 1;\n"
+        f"    {STORE} store = {{at}};\n    {CLIENT} client = {{at}}, other = {{at}};\n",
+        *(call_on_empty_arrays(function) for function in functions if function.result == RESULT),
+        '    printf("%d passed, %d failed\\n", passed, failed);\n    return failed != 0;\n}\n']))
+    result = run([CC, "-std=c99", "-Wno-unused", f"-I{folder}", program + ".c", "-o", program])
+    if tally.check(result.returncode == 0, f"the program of empty arrays does not compile\n{result.stderr}"):
+        add_results(tally, "empty arrays", program)
 
 
-def check_page(tally, room):
-    """The program of docs/C.md writes what the page says."""
-    page, program = read(os.path.join(TOP, "docs", "C.md")), os.path.join(room, "page")
-    shown = re.search(r"^```c\n(.*?)^```\n\nIt writes `(.*?)`", page, re.MULTILINE | re.DOTALL)
-    with open(program + ".c", "w") as file:
-        file.write(shown[1])
-    told = ran([CC, "-std=c99", *WARNINGS, f"-I{room}", program + ".c", os.path.join(room, "libploverchaise.a"), "-o", program])
-    tally.add("the page's program is built", told.returncode == 0, told.stderr)
-    if told.returncode == 0:
-        ended = ran([program])
-        tally.add("the page's program", ended.returncode == 0 and ended.stdout == shown[2] + "\n", ended)
+def check_page(tally: Tally, folder: str) -> None:
+    """Checks that the program of `docs/C.md` prints what the page says."""
+    program = os.path.join(folder, "page")
+    shown = re.search(r"^```c\n(.*?)^```\n\nIt (?:writes|prints) `(.*?)`", read_text(TOP, "docs", "C.md"), re.MULTILINE | re.DOTALL)
+    if not tally.check(shown is not None, "docs/C.md has no program with its output") or shown is None:
+        return
+    write_text(program + ".c", shown[1])
+    result = run([CC, "-std=c99", *WARNINGS, f"-I{folder}", program + ".c", os.path.join(folder, "libploverchaise.a"), "-o", program])
+    if tally.check(result.returncode == 0, f"the program of docs/C.md does not compile\n{result.stderr}"):
+        result = run([program])
+        tally.check_equal("the program of docs/C.md", (result.returncode, result.stdout), (0, shown[2] + "\n"))
 
 
-def check_growths(tally, room):
-    """Each growth refused in turn: all comes out the same, and what was refused was tried once more."""
-    program, shim, count = built(tally, room, "growths"), os.path.join(room, "refuse.so"), os.path.join(room, "count")
-    told = ran([CC, "-shared", "-fPIC", "-O1", "-o", shim, os.path.join(TOP, "tests", "refuse.c")])
-    tally.add("the shim is built", told.returncode == 0, told.stderr)
-    if program is None or told.returncode:
+def check_failing_allocations(tally: Tally, folder: str) -> None:
+    """Runs `allocations.c` while each allocation in turn fails, and checks that it succeeds after at most one repetition of a call."""
+    program = compile_test(tally, folder, "allocations")
+    shim, count = os.path.join(folder, "fail_allocation.so"), os.path.join(folder, "count")
+    result = run([CC, "-shared", "-fPIC", "-O1", "-o", shim, os.path.join(TOP, "tests", "fail_allocation.c")])
+    if not tally.check(result.returncode == 0, f"the shim does not compile\n{result.stderr}") or program is None:
         return
 
-    def run(refuse):
-        return ran([program], LD_PRELOAD=shim, REFUSE=str(refuse), COUNT=count)
+    def run_with_failure(path: str, allocation: int) -> subprocess.CompletedProcess[str]:
+        return run([path], LD_PRELOAD=shim, FAIL_ALLOCATION=str(allocation), ALLOCATION_COUNT=count)
 
-    whole = run(0)
-    tally.add("growths with none refused", whole.returncode == 0 and whole.stdout == "0\n", whole)
-    refused = 0
-    for number in range(1, int(read(count)) + 1):
-        ended = run(number)
-        tally.add(f"growth {number}", ended.returncode == 0 and ended.stdout in ("0\n", "1\n"), ended)
-        refused += ended.stdout == "1\n"
-    tally.add("refusals show", refused > 20, refused)
+    result = run_with_failure(program, 0)
+    tally.check_equal("allocations.c without a failing allocation", (result.returncode, result.stdout), (0, "0\n"))
+    failures = 0
+    for allocation in range(1, int(read_text(count)) + 1):
+        result = run_with_failure(program, allocation)
+        is_expected = result.returncode == 0 and result.stdout in ("0\n", "1\n")
+        tally.check(is_expected, f"allocations.c with failing allocation {allocation}: {result}")
+        failures += result.stdout == "1\n"
+    tally.check(failures > MIN_FAILURES, f"allocations.c reports only {failures} failures")
 
 
-def main():
+def main() -> int:
+    """Links the library, and runs all checks."""
     tally = Tally()
-    with tempfile.TemporaryDirectory() as room:
-        if subprocess.run([os.path.join(TOP, "moc"), "library", room], stdout=sys.stderr).returncode:
-            print("the library is not built\n0 passed, 1 failed")
-            return 1
-        check_header(tally, room)
-        check_rows(tally)
-        check_strange(tally)
-        check_calls(tally, room)
-        check_empty_arrays(tally, room)
-        check_page(tally, room)
-        check_growths(tally, room)
-    print(f"{tally.passed} passed, {tally.failed} failed")
-    return int(tally.failed > 0)
+    with tempfile.TemporaryDirectory() as folder:
+        status = subprocess.run([os.path.join(TOP, "moc"), "library", folder], stdout=sys.stderr).returncode
+        if tally.check(status == 0, "the library is not built"):
+            check_header(tally, folder)
+            check_rows(tally)
+            check_unsupported(tally)
+            check_calls(tally, folder)
+            check_empty_arrays(tally, folder)
+            check_page(tally, folder)
+            check_failing_allocations(tally, folder)
+    return tally.finish()
 
 
 if __name__ == "__main__":

@@ -1,14 +1,19 @@
 #!/usr/bin/env python3
-"""Runs what the pages and the program's help show, and compares what comes back with what they say.
+"""Runs the examples of the pages and of the program's help, and compares their output with what the texts say.
 
-In a block `console` each line that begins with `$` is a command of bash, and the lines up to the next one are all that
-it writes, faults too; the commands of the blocks under one heading run in turn in one shell and one folder. A block
-`python` is a program, and the block `text` behind it is all that it writes; the Python package of the checkout is on its
-path, and where it asks for numpy, that has to be installed for this Python or the system's, else it is left out. If the
-commands of a page make a picture that the page shows, both have to have the same bytes. The help
-of each word begins with the line that the list of words has for it, is 80 columns wide at most, and has an example, a
-command and what it writes. The program `moc` lies where the environment's MOC says. The last line printed is
+- In a block `console`, each line that begins with `$` is a command for bash, and the lines up to the next command are its complete output
+  with all error messages. The commands under one heading run in one shell and one folder. On the pages of CONTINUED_PAGES, all commands of
+  the page run in one shell and one folder, and then its programs in this folder.
+- A block `python` is a program, and the block `text` after it is its complete output. The program can import the Python package of the
+  checkout. A program that imports numpy needs numpy in this Python or in the system's; otherwise the script skips it.
+- If the commands of a page write a picture that the page shows, both have the same bytes.
+- The help of each subcommand begins with the line that the list of subcommands has for it. It has at most 80 columns. It has an example,
+  which is a command with its output.
+
+The environment variable MOC has the path of the program; the default is the program of the checkout. The last line printed is
 `N passed, M failed`."""
+from __future__ import annotations
+
 import itertools
 import os
 import re
@@ -16,169 +21,188 @@ import shlex
 import subprocess
 import sys
 import tempfile
+from collections.abc import Iterator
+from typing import NamedTuple
 
 from python import python_with
+from tally import Tally
 
 TOP = os.path.dirname(os.path.dirname(os.path.abspath(__file__)))
 MOC = os.environ.get("MOC", os.path.join(TOP, "crates", "moc_cli", "out", "moc_cli"))
-PAGES = ["README.md", "docs/RECIPES.md", "docs/FORMATS.md", "docs/PYTHON.md"]
+PAGES = ["README.md", "docs/TUTORIAL.md", "docs/RECIPES.md", "docs/FORMATS.md", "docs/COMMANDS.md", "docs/SCRIPTS.md", "docs/PYTHON.md"]
+# Pages whose sections use the files and shell functions of the sections before.
+CONTINUED_PAGES = ["docs/TUTORIAL.md"]
 PACKAGE = os.path.join(TOP, "python")
-SECONDS = 60
-COLUMNS = 80
-END = "--- the end of what this command writes ---"
-# The line in a help text that names the stream of its example, and the number of the other stream.
+TIME_LIMIT = 60
+MAX_COLUMNS = 80
+# The minimal number of checks of the help texts.
+MIN_HELP_CHECKS = 40
+END = "--- end of the output of this command ---"
+# The line of a help text that names the stream of its example, and the number of the other stream.
 OTHER_STREAM = {"prints": 2, "writes to standard error": 1}
 
 
-def blocks(page):
-    """The code blocks of a page, each with its section's heading, its language and its lines."""
-    heading, language, lines = "", None, []
+class Block(NamedTuple):
+    """A code block of a page: the heading of its section, its language and its lines."""
+
+    heading: str
+    language: str
+    lines: list[str]
+
+
+class Example(NamedTuple):
+    """A command and its output."""
+
+    command: str
+    output: str
+
+
+def parse_blocks(page: str) -> Iterator[Block]:
+    """Returns the code blocks of a page. Raises ValueError if a block has no end."""
+    heading, language = "", ""
+    lines: list[str] = []
     for line in page.splitlines():
-        if language is None and line.startswith("#"):
+        if not language and line.startswith("#"):
             heading = line
-        elif language is None and re.fullmatch("```[a-z]+", line):
+        elif not language and re.fullmatch("```[a-z]+", line):
             language, lines = line[3:], []
-        elif language is not None and line == "```":
-            yield heading, language, lines
-            language = None
-        elif language is not None:
+        elif language and line == "```":
+            yield Block(heading, language, lines)
+            language = ""
+        elif language:
             lines.append(line)
-    assert language is None, f"a block under {heading} has no end"
+    if language:
+        raise ValueError(f"a block under {heading} has no end")
 
 
-def commands(lines):
-    """The commands of a console, each with what it writes."""
-    told = []
+def parse_commands(lines: list[str]) -> list[Example]:
+    """Returns the commands of a console block."""
+    examples: list[Example] = []
     for line in lines:
         if line.startswith("$ "):
-            told.append((line[2:], []))
+            examples.append(Example(line[2:], ""))
         else:
-            told[-1][1].append(line)
-    return told
+            command, output = examples.pop()
+            examples.append(Example(command, f"{output}{line}\n"))
+    return examples
 
 
-def outputs(folder, script):
-    """What each of the commands writes, run in turn by one shell."""
-    text = "".join(f"{command}\nprintf '%s\\n' '{END}'\n" for command in script)
+def run_commands(folder: str, commands: list[str]) -> list[str]:
+    """Runs the commands in one shell, and returns the output of each."""
+    script = "".join(f"{command}\nprintf '%s\\n' '{END}'\n" for command in commands)
     path = os.path.join(folder, "bin") + os.pathsep + os.environ["PATH"]
-    ended = subprocess.run(["bash", "-c", text], cwd=folder, env=dict(os.environ, PATH=path), timeout=SECONDS,
-                           stdin=subprocess.DEVNULL, stdout=subprocess.PIPE, stderr=subprocess.STDOUT, text=True)
-    return ended.stdout.split(END + "\n")[:-1]
+    result = subprocess.run(["bash", "-c", script], cwd=folder, env=dict(os.environ, PATH=path), timeout=TIME_LIMIT,
+                            stdin=subprocess.DEVNULL, stdout=subprocess.PIPE, stderr=subprocess.STDOUT, text=True)
+    return result.stdout.split(END + "\n")[:-1]
 
 
-def folder_with_moc(folder):
-    """Puts the program under its name into a folder `bin` of this one."""
+def install_program(folder: str) -> str:
+    """Links the program as `moc` into a folder `bin` of this folder, and returns the folder."""
     os.mkdir(os.path.join(folder, "bin"))
     os.symlink(MOC, os.path.join(folder, "bin", "moc"))
     return folder
 
 
-def compare(name, seen, told):
-    """Whether a command wrote what the page says."""
-    if seen == told:
-        return True
-    print(f"{name}\n  the page says {told!r}\n  it writes {seen!r}", file=sys.stderr)
-    return False
+def consoles(page: str, is_continued: bool = False) -> dict[str, list[Example]]:
+    """Returns the commands of the console blocks of each section, by the headings; of a continued page, all commands as one section."""
+    sections: dict[str, list[Example]] = {}
+    for block in parse_blocks(page):
+        if block.language == "console":
+            sections.setdefault("all sections" if is_continued else block.heading, []).extend(parse_commands(block.lines))
+    return sections
 
 
-def consoles(page):
-    """Of each section with consoles: its heading, and its commands with what they write."""
-    sections = {}
-    for heading, language, lines in blocks(page):
-        if language == "console":
-            sections.setdefault(heading, []).extend(commands(lines))
-    return sections.items()
+def programs(page: str) -> Iterator[Example]:
+    """Returns the Python programs of a page with their output. Raises ValueError if a program has no output."""
+    blocks = list(parse_blocks(page))
+    for block, following in itertools.zip_longest(blocks, blocks[1:], fillvalue=Block("", "", [])):
+        if block.language == "python":
+            if following.language != "text":
+                raise ValueError(f"the page does not show the output of the program under {block.heading}")
+            yield Example("\n".join(block.lines), "".join(line + "\n" for line in following.lines))
 
 
-def programs(page):
-    """Each Python program, and what it writes."""
-    shown = list(blocks(page))
-    for (heading, language, lines), (_, behind, told) in itertools.zip_longest(shown, shown[1:], fillvalue=("", None, [])):
-        if language == "python":
-            assert behind == "text", f"nothing says what the program under {heading} writes"
-            yield "\n".join(lines), "".join(line + "\n" for line in told)
-
-
-def bytes_of(*path):
+def read_bytes(*path: str) -> bytes:
     """Returns the bytes of a file."""
     with open(os.path.join(*path), "rb") as file:
         return file.read()
 
 
-def pictures_of(page):
-    """Returns the pictures that a page shows, by their names in the folder `docs`."""
-    return re.findall(r"^!\[.*\]\(docs/([a-z]+\.svg)\)$", page, re.MULTILINE)
+def picture_names(page: str) -> list[str]:
+    """Returns the names of the pictures in the folder `docs` that a page of the top or of this folder shows."""
+    return re.findall(r"^!\[.*\]\((?:docs/)?([a-z]+\.svg)\)$", page, re.MULTILINE)
 
 
-def checked(page):
-    """What came of each command, picture and program of a page."""
-    made = {}
-    for heading, script in consoles(page):
-        with tempfile.TemporaryDirectory() as folder:
-            seen = outputs(folder_with_moc(folder), [command for command, _ in script])
-            made.update({name: bytes_of(folder, name) for name in pictures_of(page) if name in os.listdir(folder)})
-        for place, (command, told) in enumerate(script):
-            text = "".join(line + "\n" for line in told)
-            yield compare(f"{heading}: {command}", seen[place] if place < len(seen) else None, text)
-    for name in pictures_of(page):
-        yield compare(f"the picture {name}", made.get(name), bytes_of(TOP, "docs", name))
-    for program, told in programs(page):
+def check_page(tally: Tally, page: str, is_continued: bool) -> None:
+    """Checks all commands, pictures and programs of a page."""
+    with tempfile.TemporaryDirectory() as top:
+        folders = (install_program(tempfile.mkdtemp(dir=top)) for _ in itertools.count())
+        check_examples(tally, page, is_continued, itertools.repeat(next(folders)) if is_continued else folders)
+
+
+def check_examples(tally: Tally, page: str, is_continued: bool, folders: Iterator[str]) -> None:
+    """Checks all commands, pictures and programs of a page. Each section and each program takes the next folder."""
+    pictures: dict[str, bytes] = {}
+    for heading, examples in consoles(page, is_continued).items():
+        folder = next(folders)
+        outputs = run_commands(folder, [example.command for example in examples])
+        pictures.update({name: read_bytes(folder, name) for name in picture_names(page) if name in os.listdir(folder)})
+        for example, output in itertools.zip_longest(examples, outputs[:len(examples)]):
+            tally.check_equal(f"{heading}: {example.command}", output, example.output)
+    for name in picture_names(page):
+        tally.check(pictures.get(name) == read_bytes(TOP, "docs", name), f"no command makes the picture {name}")
+    for program, expected in programs(page):
         python = python_with("numpy") if "import numpy" in program else sys.executable
         if python is None:
-            print("a program is left out, since numpy is not installed", file=sys.stderr)
+            print("a program is skipped because numpy is not installed", file=sys.stderr)
             continue
-        with tempfile.TemporaryDirectory() as folder:
-            command = f"PYTHONDONTWRITEBYTECODE=1 PYTHONPATH={shlex.quote(PACKAGE)} {shlex.quote(python)} - <<'EOF'\n{program}\nEOF"
-            seen = outputs(folder_with_moc(folder), [command])
-        yield compare(f"the program\n{program}", seen[0], told)
+        command = f"PYTHONDONTWRITEBYTECODE=1 PYTHONPATH={shlex.quote(PACKAGE)} {shlex.quote(python)} - <<'EOF'\n{program}\nEOF"
+        outputs = run_commands(next(folders), [command])
+        tally.check_equal(f"the program\n{program}", outputs, [expected])
 
 
-def help_of(*words):
-    """The help of the program, or of one of its words."""
-    return subprocess.run([MOC, *words, "--help"], timeout=SECONDS, stdout=subprocess.PIPE, text=True).stdout
+def help_text(*arguments: str) -> str:
+    """Returns the help of the program, or of one of its subcommands."""
+    return subprocess.run([MOC, *arguments, "--help"], timeout=TIME_LIMIT, stdout=subprocess.PIPE, text=True).stdout
 
 
-def example_of(text):
-    """The command of a help text's example, the stream that it writes to, and what it writes there."""
+def parse_example(text: str) -> tuple[Example, str]:
+    """Returns the example of a help text, and the line that names the stream of its output."""
     lines = text.splitlines()
-    behind = lines[lines.index("Example:") + 1:]
-    stream = behind[1] if behind[1:] and behind[1] in OTHER_STREAM else "prints"
-    told = behind[2:] if behind[1:2] == [stream] else []
-    shown = list(itertools.takewhile(lambda line: line.startswith("  "), told))
-    return behind[0].strip(), stream, "".join(line[2:] + "\n" for line in shown)
+    example = lines[lines.index("Example:") + 1:]
+    stream = example[1] if example[1:] and example[1] in OTHER_STREAM else "prints"
+    following = example[2:] if example[1:2] == [stream] else []
+    output = itertools.takewhile(lambda line: line.startswith("  "), following)
+    return Example(example[0].strip(), "".join(line[2:] + "\n" for line in output)), stream
 
 
-def helps():
-    """What came of each help text: of its first line, the length of its lines, and its example."""
-    overview = help_of()
-    listed = re.findall(r"^  ([a-z]+) {2,}(\S.*)$", overview, re.MULTILINE)
-    texts = {(): overview, **{(word,): help_of(word) for word, _ in listed if word != "help"}}
+def check_help(tally: Tally) -> None:
+    """Checks the first line, the line lengths and the example of each help text."""
+    overview = help_text()
+    listed = [(word, about) for word, about in re.findall(r"^  ([a-z]+) {2,}(\S.*)$", overview, re.MULTILINE) if word != "help"]
+    texts = {"moc": overview, **{f"moc {word}": help_text(word) for word, _ in listed}}
     for word, about in listed:
-        if word != "help":
-            first = texts[(word,)].splitlines()[:1]
-            yield compare(f"the first line of moc {word} --help", first, [about])
-    for words, text in texts.items():
-        name = " ".join(["moc", *words, "--help"])
-        wide = [line for line in text.splitlines() if len(line) > COLUMNS]
-        yield compare(f"lines of {name} that are too long", wide, [])
-        command, stream, told = example_of(text)
+        tally.check_equal(f"the first line of moc {word} --help", texts[f"moc {word}"].splitlines()[:1], [about])
+    for name, text in texts.items():
+        tally.check_equal(f"lines of {name} --help that are too long", [line for line in text.splitlines() if len(line) > MAX_COLUMNS], [])
+        example, stream = parse_example(text)
         with tempfile.TemporaryDirectory() as folder:
-            seen = outputs(folder_with_moc(folder), [f"{{ {command}; }} {OTHER_STREAM[stream]}> /dev/null"])
-        yield compare(f"{name}: {command}", seen[0], told)
+            outputs = run_commands(install_program(folder), [f"{{ {example.command}; }} {OTHER_STREAM[stream]}> /dev/null"])
+        tally.check_equal(f"{name} --help: {example.command}", outputs, [example.output])
 
 
-def main():
-    results = list(helps())
-    assert len(results) > 40, "moc --help lists few words"
+def main() -> int:
+    """Checks the help texts and the pages."""
+    tally = Tally()
+    check_help(tally)
+    tally.check(tally.passed + tally.failed > MIN_HELP_CHECKS, "moc --help lists too few subcommands")
     for name in PAGES:
-        with open(os.path.join(TOP, name), encoding="utf-8") as page:
-            text = page.read()
-        found = list(checked(text))
-        assert found, f"nothing is run on {name}"
-        assert name != "README.md" or pictures_of(text), "README shows no picture"
-        results += found
-    print(f"{sum(results)} passed, {len(results) - sum(results)} failed")
-    return 0 if all(results) else 1
+        with open(os.path.join(TOP, name), encoding="utf-8") as file:
+            page = file.read()
+        tally.check(bool(consoles(page) or list(programs(page))), f"{name} has no example")
+        check_page(tally, page, name in CONTINUED_PAGES)
+        tally.check(name != "README.md" or bool(picture_names(page)), "README.md shows no picture")
+    return tally.finish()
 
 
 if __name__ == "__main__":

@@ -1,65 +1,64 @@
 #!/usr/bin/env python3
-"""Installs the Python package from `python/`, without a network, and tests what was installed.
+"""Installs the Python package from `python/` without a network, and tests the installed package.
 
-The library has to lie beside the package: `./moc library` puts it there. The tests are those of `tests/package`. They run without numpy,
-and once more with numpy and healpy where this Python, or the system's, has them; what is not there is told. The last line printed is
+The library has to be in the folder of the package, where `./moc library` puts it. The tests are those of `tests/package`. They run without
+numpy. They run again with numpy and healpy if this Python or the system's has them; a message reports if not. The last line printed is
 `N passed, M failed`."""
+from __future__ import annotations
+
 import os
-import re
 import subprocess
 import sys
 import tempfile
 
+from tally import Tally
+
 TOP = os.path.dirname(os.path.dirname(os.path.abspath(__file__)))
 PACKAGE = os.path.join(TOP, "python")
-# This Python, and the one that Debian's packages are for.
+# This Python, and the one for which Debian's packages are.
 PYTHONS = [sys.executable, "/usr/bin/python3"]
-SECONDS = 600
-LAST = re.compile(r"^(\d+) passed, (\d+) failed$", re.MULTILINE)
+TIME_LIMIT = 600
 INSTALLED = ["__init__.py", "_arrays.py", "_library.py", "cells.py", "errors.py", "libploverchaise.so", "moc.py", "py.typed", "shared.py"]
 
 
-def python_with(module):
-    """A Python that has the module, or None."""
-    return next((it for it in PYTHONS if subprocess.run([it, "-c", f"import {module}"], stderr=subprocess.DEVNULL).returncode == 0), None)
+def python_with(module: str) -> str | None:
+    """Returns the path of a Python that has the module, or None."""
+    for python in PYTHONS:
+        if subprocess.run([python, "-c", f"import {module}"], stderr=subprocess.DEVNULL).returncode == 0:
+            return python
+    return None
 
 
-def install(folder):
-    """Whether pip, which finds nothing in any registry, installs the package into this folder, and nothing besides."""
-    words = [sys.executable, "-m", "pip", "install", "--quiet", "--no-index", "--disable-pip-version-check", "--root-user-action=ignore",
-             "--no-compile", "--target", folder, PACKAGE]
-    if subprocess.run(words, timeout=SECONDS, stdout=sys.stderr).returncode:
-        return False
-    found = sorted(os.listdir(os.path.join(folder, "ploverchaise")))
-    if found != INSTALLED:
-        print(f"pip installed {found}", file=sys.stderr)
-    return found == INSTALLED
+def install(tally: Tally, folder: str) -> bool:
+    """Installs the package with pip into a folder. Returns whether pip succeeds without a registry, and installs the expected files."""
+    command = [sys.executable, "-m", "pip", "install", "--quiet", "--no-index", "--disable-pip-version-check", "--root-user-action=ignore",
+               "--no-compile", "--target", folder, PACKAGE]
+    if subprocess.run(command, timeout=TIME_LIMIT, stdout=sys.stderr).returncode:
+        return tally.check(False, "pip does not install the package")
+    return tally.check_equal("the installed files", sorted(os.listdir(os.path.join(folder, "ploverchaise"))), INSTALLED)
 
 
-def tested(python, folder, *words):
-    """How many tests pass and fail with this Python."""
+def run_tests(tally: Tally, python: str, folder: str, *arguments: str) -> None:
+    """Runs the tests with a Python, and adds their counts."""
     environment = {name: value for name, value in os.environ.items() if name != "PLOVERCHAISE_LIBRARY"}
     environment.update(PYTHONPATH=os.pathsep.join([folder, os.path.join(TOP, "tests")]), PYTHONDONTWRITEBYTECODE="1")
-    ran = subprocess.run([python, "-m", "package.run", *words], env=environment, cwd=folder, timeout=SECONDS,
-                         stdout=subprocess.PIPE, text=True)
-    told = LAST.search(ran.stdout)
-    return (int(told[1]), int(told[2])) if told and not ran.returncode else (0, 1)
+    result = subprocess.run([python, "-m", "package.run", *arguments], env=environment, cwd=folder, timeout=TIME_LIMIT,
+                            stdout=subprocess.PIPE, text=True)
+    tally.add_summary(f"tests with {python}", result.returncode, result.stdout)
 
 
-def main():
+def main() -> int:
+    """Installs the package, and tests it without and with numpy."""
+    tally = Tally()
     with tempfile.TemporaryDirectory() as folder:
-        well = install(folder)
-        results = [(int(well), int(not well))]
-        if well:
-            results.append(tested(sys.executable, folder, "--without-numpy"))
+        if install(tally, folder):
+            run_tests(tally, sys.executable, folder, "--without-numpy")
             numerical = python_with("numpy")
             if numerical is None:
                 print("numpy is not installed: arrays are not tested", file=sys.stderr)
             else:
-                results.append(tested(numerical, folder))
-    passed, failed = map(sum, zip(*results))
-    print(f"{passed} passed, {failed} failed")
-    return 0 if failed == 0 else 1
+                run_tests(tally, numerical, folder)
+    return tally.finish()
 
 
 if __name__ == "__main__":

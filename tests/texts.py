@@ -1,102 +1,205 @@
 #!/usr/bin/env python3
-"""Looks whether texts are where others take them to be, without running anything.
+"""Checks texts that have to agree with other texts, without running the program.
 
-- `always_refused.py` and `plants.py` put wrong lines in place of right ones, a third of them in CI: each right one has to stand in its
-  source, also if its turn is another day.
-- No line of a page is longer than 140 columns, but for the rows of tables, of which no cell is longer than 120.
-- Each line of README's program stands in the first example, which the gate proves and runs.
-- The lines that README shows of its first command are those that CI compares with the program's output.
+- `always_failing.py` and `plants.py` replace correct code with wrong code, and CI tries a third of their cases on each day. Every function
+  and every line that they replace has to be in its source exactly once, also on days when its case is not tried.
+- No line of a page is longer than 140 columns, except rows of tables. No cell of a table is longer than 120 columns.
+- Each relative link of a page leads to a file of the repository, and its anchor to a heading. Anchors are made by GitHub's rules.
+- The name of a page in the text of another page is a link, except on the CALLING pages.
+- Each line of the program in README.md is in the crate `example_library`, which CI proves and runs.
+- The output that README.md shows for its first command is the output that CI compares with the program's.
 
 usage: tests/texts.py
 
 The last line printed is `N passed, M failed`."""
+from __future__ import annotations
+
 import glob
 import os
 import re
 import sys
+import urllib.parse
+from collections.abc import Iterator, Sequence
+
+import always_failing
+import plants
+from tally import Tally
 
 TOP = os.path.dirname(os.path.dirname(os.path.abspath(__file__)))
-sys.path.insert(0, os.path.join(TOP, "tests"))
-import always_refused  # noqa: E402
-import plants  # noqa: E402
+# The maximal number of columns of a line of a page, and of a cell of a table.
+MAX_COLUMNS, MAX_CELL_COLUMNS = 140, 120
+PAGES = ("*.md", "docs/*.md", "docs/reference/*.md", "bench/*.md", "crates/*/CALLING.md", "python/*.md")
+# The first part of a generated page, whose links may lead to headings of the rest.
+HEAD = os.path.join("docs", "DEFINITIONS.head.md")
+# A block of code; code in backquotes; a comment; a link with its target, and a definition of a target.
+BLOCK = re.compile(r"^( *)(```+|~~~+)[^\n]*\n.*?^ *\2[`~]* *$", re.DOTALL | re.MULTILINE)
+CODE = re.compile(r"(?<!`)(`+)(?!`)(.+?)(?<!`)\1(?!`)", re.DOTALL)
+COMMENT = re.compile(r"<!--.*?-->", re.DOTALL)
+LINK = re.compile(r"\[((?:[^][]|\[[^][]*\])*)\]\(\s*<?([^()\s>]*)>?[^()]*\)")
+DEFINED_LINK = re.compile(r"^ {0,3}\[[^]]+\]:\s*<?([^\s>]+)", re.MULTILINE)
+# The target of a link that is not relative.
+ABSOLUTE = re.compile(r"[a-z][a-z0-9+.-]*:|//", re.IGNORECASE)
+HEADING = re.compile(r"^ {0,3}#{1,6} +(.*?)(?: +#+)? *$", re.MULTILINE)
 
-# The most columns of a line of a page, and of a cell of a table.
-MOST_COLUMNS, MOST_OF_CELL = 140, 120
-PAGES = ("README.md", "docs/*.md", "bench/*.md", "crates/*/CALLING.md", "python/*.md")
-
-
-def source(crate, file):
-    with open(os.path.join(TOP, "crates", crate, file), encoding="utf-8") as text:
-        return text.read()
-
-
-def planted_calls():
-    """Each call that is given a body which always refuses, and whether it stands once."""
-    for crate, file, call, answer, _ in always_refused.PLANTS:
-        found = re.findall(rf"^ *pub fn {call}\b", source(crate, f"src/{file}.rt"), re.MULTILINE)
-        yield f"{crate}/{file}: {call} stands once, to answer {answer}", len(found) == 1
+# A statement that has to hold, and whether it holds.
+Check = tuple[str, bool]
 
 
-def planted_lines():
-    """Each line in place of which a wrong one is planted, and whether it stands once."""
-    for it in plants.PLANTS:
-        with open(plants.path_of(TOP, it), encoding="utf-8") as text:
-            yield f"{it.crate}/{it.file}: the line of {it.name} stands once", text.read().count(it.old) == 1
+def read_file(*path: str) -> str:
+    """Returns the text of a file of the repository, or an empty text if the file does not exist."""
+    name = os.path.join(TOP, *path)
+    if not os.path.isfile(name):
+        return ""
+    with open(name, encoding="utf-8") as file:
+        return file.read()
 
 
-def pages():
-    """Each page, and whether its lines are short."""
-    for path in sorted(page for pages in PAGES for page in glob.glob(os.path.join(TOP, pages))):
-        with open(path, encoding="utf-8") as page:
-            long = [number for number, line in enumerate(page, 1) if len(line.rstrip("\n")) > MOST_COLUMNS and not line.startswith("|")]
-        yield f"{os.path.relpath(path, TOP)}: no line is longer than {MOST_COLUMNS} columns, but {long}", not long
+def check_replaced_functions() -> Iterator[Check]:
+    """Checks that each function of `always_failing.py` is in its source once."""
+    for body in always_failing.BODIES:
+        source = read_file("crates", body.crate, "src", f"{body.file}.rt")
+        matches = re.findall(rf"^ *pub fn {body.function}\b", source, re.MULTILINE)
+        yield f"{body.crate}/{body.file}: {body.function} is there once, to always return {body.value}", len(matches) == 1
 
 
-def first_example():
-    """README's first example, and whether the lines that it shows are those that CI compares with the program's."""
-    with open(os.path.join(TOP, "README.md"), encoding="utf-8") as page:
-        text = page.read()
-    with open(os.path.join(TOP, "crates", "moc_cli", "stdout"), encoding="utf-8") as output:
-        shown = "".join(f"    {line}" for line in output)
-    yield "README.md: the lines of the first example are those of moc_cli/stdout", f"\n\n{shown}\n" in text
+def check_replaced_lines() -> Iterator[Check]:
+    """Checks that each line that `plants.py` replaces is in its source once."""
+    for defect in plants.DEFECTS:
+        source = read_file(plants.path_of(TOP, defect))
+        yield f"{defect.crate}/{defect.file}: the line that {defect.name} replaces is there once", source.count(defect.old) == 1
 
 
-def cells(line):
-    """The cells of a row of a table."""
-    return [cell.strip() for cell in re.split(r"(?<!\\)\|", line)[1:-1]]
+def page_names() -> list[str]:
+    """Returns the paths of all pages, from the top of the repository."""
+    return sorted(path for pattern in PAGES for path in glob.glob(pattern, root_dir=TOP))
 
 
-def tables():
-    """Each page, and whether the cells of its tables are short."""
-    for path in sorted(page for pages in PAGES for page in glob.glob(os.path.join(TOP, pages))):
-        with open(path, encoding="utf-8") as page:
-            long = [number for number, line in enumerate(page, 1)
-                    if line.startswith("|") and any(len(cell) > MOST_OF_CELL for cell in cells(line))]
-        yield f"{os.path.relpath(path, TOP)}: no cell is longer than {MOST_OF_CELL} columns, but in {long}", not long
+def check_line_lengths() -> Iterator[Check]:
+    """Checks the lengths of the lines of each page."""
+    for name in page_names():
+        lines = enumerate(read_file(name).splitlines(), 1)
+        long = [number for number, line in lines if len(line) > MAX_COLUMNS and not line.startswith("|")]
+        yield f"{name}: no line is longer than {MAX_COLUMNS} columns; too long: {long}", not long
 
 
-def bare(code):
-    """Code without its comments, blanks and borrows, and without the comma that a layout over several lines puts last."""
+def cells_of(row: str) -> list[str]:
+    """Returns the cells of a row of a table."""
+    return [cell.strip() for cell in re.split(r"(?<!\\)\|", row)[1:-1]]
+
+
+def check_cell_lengths() -> Iterator[Check]:
+    """Checks the lengths of the cells of the tables of each page."""
+    for name in page_names():
+        long = [number for number, line in enumerate(read_file(name).splitlines(), 1)
+                if line.startswith("|") and any(len(cell) > MAX_CELL_COLUMNS for cell in cells_of(line))]
+        yield f"{name}: no cell is longer than {MAX_CELL_COLUMNS} columns; too long in lines {long}", not long
+
+
+def strip_blocks(page: str) -> str:
+    """Returns the text of a page without blocks of code and comments."""
+    return COMMENT.sub("", BLOCK.sub("", page))
+
+
+def anchors_of(page: str) -> set[str]:
+    """Returns the anchors that GitHub gives to the headings of a page.
+
+    An anchor is the text of the heading in lower case, without markup and punctuation, with a hyphen for each space. If an earlier
+    heading has the same anchor, a number follows."""
+    anchors: set[str] = set()
+    for heading in HEADING.findall(strip_blocks(page)):
+        text = LINK.sub(r"\1", heading).replace("`", "")
+        name = anchor = re.sub(r"[^\w\- ]", "", text.lower()).replace(" ", "-")
+        number = 0
+        while anchor in anchors:
+            number += 1
+            anchor = f"{name}-{number}"
+        anchors.add(anchor)
+    return anchors
+
+
+def targets_of(page: str) -> list[str]:
+    """Returns the targets of the relative links of a page."""
+    prose = CODE.sub("X", strip_blocks(page))
+    targets = [target for _, target in LINK.findall(prose)] + DEFINED_LINK.findall(prose)
+    return [target for target in targets if not ABSOLUTE.match(target)]
+
+
+def leads_nowhere(name: str, page: str, target: str) -> bool:
+    """Returns whether there is no file, or no heading, for a relative link of the page with this name."""
+    path, _, anchor = target.partition("#")
+    file = os.path.normpath(os.path.join(os.path.dirname(name), urllib.parse.unquote(path))) if path else name
+    if file.startswith(("..", "/")) or (path and not os.path.exists(os.path.join(TOP, file))) or not target:
+        return True
+    return bool(anchor) and anchor not in anchors_of(page if file == name else read_file(file))
+
+
+def broken_links(name: str, page: str) -> list[str]:
+    """Returns the targets of relative links that lead nowhere, for a page with this name."""
+    return [target for target in targets_of(page) if leads_nowhere(name, page, target)]
+
+
+def check_links() -> Iterator[Check]:
+    """Checks the relative links of each page, and that a page with broken links would be found."""
+    for name in page_names():
+        if name != HEAD:
+            broken = broken_links(name, read_file(name))
+            yield f"{name}: each link leads to a file, and its anchor to a heading; broken: {broken}", not broken
+    heading = "# The `moc_a` crate: *x*, y\n## Same\n## Same\n```text\n# Code\n```\n"
+    valid = "[a](#the-moc_a-crate-x-y) [b](#same) [c](#same-1) [`d`](../README.md#why) [e](https://e.f/#g) `[h](no.md)` [i](../crates)"
+    yield "links that lead somewhere are not broken", not broken_links("docs/PAGE.md", heading + valid)
+    for link in ("[a](NO.md)", "[a\nb](#no)", "[c](#code)", "[d](#same-2)", "![e](no.svg)", "[f](../README.md#no-heading)",
+                 "[g](../../README.md)", "[`h`](README.md)", "[i]: NO.md", "[j]()", "| [k](#Same) |"):
+        yield f"{link!r} is found as a broken link", len(broken_links("docs/PAGE.md", heading + link)) == 1
+
+
+def unlinked_names(name: str, page: str, names: Sequence[str]) -> list[str]:
+    """Returns the pages that the text of a page names without a link, by file name or in capitals. Its own name needs no link."""
+    prose = LINK.sub("", re.sub(r"^ {4}.*", "", strip_blocks(page), flags=re.MULTILINE))
+    files = {os.path.basename(other) for other in names} - {os.path.basename(name)}
+    titles = {file.removesuffix(".md") for file in files if file[1].isupper()}
+    return [word for word in re.findall(r"\b\w+(?:\.head)?(?:\.md\b)?", prose) if word in files | titles]
+
+
+def check_names_of_pages() -> Iterator[Check]:
+    """Checks that the names of pages are links, except on the CALLING pages, and that a name without a link would be found."""
+    names = page_names()
+    for name in names:
+        if not name.endswith("CALLING.md"):
+            unlinked = unlinked_names(name, read_file(name), names)
+            yield f"{name}: each name of a page is a link; without link: {unlinked}", not unlinked
+    for text in ("see GATE", "`docs/GATE.md`", "the README's example", "crates/moc_c/CALLING.md"):
+        yield f"the name of a page without a link is found in {text!r}", len(unlinked_names("docs/PAGE.md", text, names)) == 1
+    for text in ("[GATE](GATE.md)", "[what `GATE.md`\nhas](GATE.md)", "    cat README.md", "```text\nREADME\n```", "INVESTIGATE"):
+        yield f"no name of a page without a link is found in {text!r}", not unlinked_names("docs/PAGE.md", text, names)
+
+
+def check_first_output() -> Iterator[Check]:
+    """Checks that README.md shows the output that CI compares with the program's."""
+    shown = "".join(f"    {line}\n" for line in read_file("crates", "moc_cli", "stdout").splitlines())
+    yield "README.md: the output of the first example is that of moc_cli/stdout", f"\n\n{shown}\n" in read_file("README.md")
+
+
+def strip_layout(code: str) -> str:
+    """Returns code without comments, blanks, borrows, and the comma after the last argument of a call over several lines."""
     return re.sub(r"[\s&]", "", re.sub(r"//.*", "", code)).replace(",)", ")")
 
 
-def shown_lines():
-    """Each line of README's program, and whether it stands in the first example."""
-    example = bare(source("example_library", "src/main.rt"))
-    with open(os.path.join(TOP, "README.md"), encoding="utf-8") as page:
-        (program,) = re.findall(r"^```rust\n(.*?)^```$", page.read(), re.DOTALL | re.MULTILINE)
-    for line in filter(bare, program.splitlines()):
-        yield f"README.md: {line.strip()} stands in the first example", bare(line) in example
+def check_shown_program() -> Iterator[Check]:
+    """Checks that each line of the program in README.md is in the example crate."""
+    example = strip_layout(read_file("crates", "example_library", "src", "main.rt"))
+    programs = re.findall(r"^```rust\n(.*?)^```$", read_file("README.md"), re.DOTALL | re.MULTILINE)
+    yield "README.md: there is one program", len(programs) == 1
+    for line in filter(strip_layout, "".join(programs).splitlines()):
+        yield f"README.md: `{line.strip()}` is in the first example", strip_layout(line) in example
 
 
-def main():
-    passed = failed = 0
-    for what, is_so in (*planted_calls(), *planted_lines(), *pages(), *tables(), *shown_lines(), *first_example()):
-        passed, failed = passed + is_so, failed + (not is_so)
-        if not is_so:
-            print(f"not so: {what}")
-    print(f"{passed} passed, {failed} failed")
-    return 1 if failed else 0
+def main() -> int:
+    """Runs all checks."""
+    tally = Tally()
+    for statement, holds in (*check_replaced_functions(), *check_replaced_lines(), *check_line_lengths(), *check_cell_lengths(),
+                             *check_links(), *check_names_of_pages(), *check_shown_program(), *check_first_output()):
+        tally.check(holds, f"does not hold: {statement}")
+    return tally.finish()
 
 
 if __name__ == "__main__":

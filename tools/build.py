@@ -1,19 +1,21 @@
 #!/usr/bin/env python3
-"""Proves the program and all that it stands on, and builds it; what was proved before is proved again only where it changed.
+"""Proves the program and its libraries, and builds the program. Proves only what changed since the last run.
 
 usage: tools/build.py [--libraries [CRATE..] | --library [FOLDER]]
 
-With `--libraries` it stops before the program; with crates named, at these and those that they stand on. With `--library` it makes no
-program, but the library for C and Python (`library.py`), and puts it into the folder, or else beside the Python package.
+`--libraries` proves only the libraries; with names of crates, only these crates and their libraries. `--library` links the library for C
+and Python (`library.py`) instead of the program, and puts it into the folder, which is by default the folder of the Python package.
 
-A crate is proved as soon as the libraries below it are, in a room of its own (`crates.py`), beside others. Those with the longest chains
-of crates behind them go before the others, which take what they leave of the processors: with more jobs than processors, checks take up to
-twice the time of processors. Progress is told on standard error: how many functions of all crates are checked, and how much of the work is
-done, by the sizes of files.
+Each crate is proved as soon as its libraries are, in a separate workspace (`crates.py`), at the same time as other crates. The crates that
+the longest chains of crates depend on have priority, and the others use the processors that these leave idle. With more jobs than
+processors, checks take up to twice the processor time. The program reports its progress on standard error. A report has the number of
+checked functions, and the finished part of the work, measured by the sizes of files.
 
-MOC_JOBS in the environment is how many jobs all checks have together at most; without it, as many as there are processors, as far as
-memory goes. MOC_CHECK_JOBS is how many one check has at most, 4 without it: fewer take less of the processors, and longer where those
-would be idle."""
+environment: MOC_JOBS is the maximal number of jobs of all checks together. The default is the number of processors, if memory suffices.
+MOC_CHECK_JOBS is the maximal number of jobs of one check. The default is 4; fewer jobs take less processor time, and take longer if
+processors are idle."""
+from __future__ import annotations
+
 import argparse
 import contextlib
 import fcntl
@@ -25,215 +27,276 @@ import subprocess
 import sys
 import threading
 import time
+from collections.abc import Iterator
 
 import library
-from crates import PARTS, crates_of, files_of, folder_of, is_current, libraries_below, make_room, take_back
+from crates import SOURCE_FOLDERS, folder_of, is_current, libraries_of_crates, make_workspace, read_crates, save_results, stat_files
 
 PROGRAM = "moc_cli"
-# More jobs seldom help one check.
-MOST_JOBS = max(1, int(os.environ.get("MOC_CHECK_JOBS") or 4))
-# How much of the longest chain of crates stands behind one that counts as long.
-LONG_CHAIN = 0.8
-# How far a process may give way to others.
-MOST_NICE = 19
-# How much memory a job of a check may take.
+# The maximal number of jobs of one check. A check seldom profits from more.
+MAX_CHECK_JOBS = max(1, int(os.environ.get("MOC_CHECK_JOBS") or 4))
+# A crate has priority if the work that depends on it is at least this part of the longest chain.
+PRIORITY_SHARE = 0.8
+MAX_NICENESS = 19
+# The memory that a job of a check may use, in bytes.
 JOB_MEMORY = 2_500_000_000
-# How many seconds lie between two lines of progress at least.
-PACE = 10
-# The file that a check leaves for the proof of a function.
-FUNCTION = re.compile(r"(?<!\.TheImpl)\.Proof\.oantt$")
-# What a check says of all that is well.
-WELL = re.compile(r"^(struct|enum|impl|fn) \S+: proved|: modules loaded=|^so far: ")
+# The time between two reports of progress, in seconds.
+REPORT_INTERVAL = 10
+# The file that a check writes for the proof of a function.
+FUNCTION_FILE = re.compile(r"(?<!\.TheImpl)\.Proof\.oantt$")
+# The lines of a check that report no error.
+SUCCESS_LINE = re.compile(r"^(struct|enum|impl|fn) \S+: proved|: modules loaded=|^so far: ")
 
 
-def size_of(crate):
-    """How much there is to prove, as far as the sizes of files tell."""
-    return sum(it.st_size for it in files_of(crate, *PARTS))
+def size_of(crate: str) -> int:
+    """Returns the size of the sources of a crate in bytes, which estimates the work of its proofs."""
+    return sum(status.st_size for status in stat_files(crate, *SOURCE_FOLDERS))
 
 
-def free_memory():
-    with open("/proc/meminfo") as file:
-        return int(re.search(r"MemAvailable:\s+(\d+)", file.read())[1]) * 1024
+def available_memory() -> int:
+    """Returns the number of bytes that a program can allocate without swapping."""
+    with open("/proc/meminfo", encoding="utf-8") as file:
+        available = re.search(r"MemAvailable:\s+(\d+)", file.read())
+    if available is None:
+        raise OSError("the system does not report its available memory")
+    return int(available[1]) * 1024
+
+
+def report(text: str) -> None:
+    """Prints a line on standard error."""
+    print(f"moc: {text}", file=sys.stderr, flush=True)
 
 
 class Progress:
-    """How many functions are checked, and how much of the work is done."""
+    """The number of checked functions, and the finished part of the work.
 
-    def __init__(self, sizes):
-        self.sizes, self.numbers, self.checked, self.at_work = sizes, {}, {}, {}
-        self.begun = time.monotonic()
-        self.turn = threading.Lock()
+    Attributes
+    ----------
+    sizes : dict of str to int
+        The size of each crate.
+    totals : dict of str to int
+        The number of functions of each crate, if it is known.
+    checked : dict of str to int
+        The number of checked functions of each crate.
+    active : dict of str to str
+        The crates that are being proved, and the folders of the results of their checks.
+    """
 
-    def minutes(self):
-        seconds = int(time.monotonic() - self.begun)
+    def __init__(self, sizes: dict[str, int]) -> None:
+        self.sizes = sizes
+        self.totals: dict[str, int] = {}
+        self.checked: dict[str, int] = {}
+        self.active: dict[str, str] = {}
+        self.start = time.monotonic()
+        self.lock = threading.Lock()
+
+    def elapsed(self) -> str:
+        """Returns the elapsed time in minutes and seconds."""
+        seconds = int(time.monotonic() - self.start)
         return f"{seconds // 60}:{seconds % 60:02}"
 
     @contextlib.contextmanager
-    def of(self, crate, folder):
-        """Tells of a crate that it is at work, in this folder."""
-        with self.turn:
-            self.at_work[crate] = os.path.join(folder, "out", "incremental")
+    def follow(self, crate: str, folder: str) -> Iterator[None]:
+        """Follows the proof of a crate in this folder, as a context."""
+        with self.lock:
+            self.active[crate] = os.path.join(folder, "out", "incremental")
         try:
             yield
         finally:
-            with self.turn:
-                self.look()
-                del self.at_work[crate]
-                self.numbers[crate] = self.checked[crate]
+            with self.lock:
+                self.count()
+                del self.active[crate]
+                self.totals[crate] = self.checked[crate]
 
-    def look(self):
-        """Counts what the checks at work have left: a file for each function."""
-        for crate, kept in self.at_work.items():
-            self.checked[crate] = sum(
-                bool(FUNCTION.search(it)) for _, _, files in os.walk(kept) for it in files)
+    def count(self) -> None:
+        """Counts the files of functions that the active checks wrote."""
+        for crate, results in self.active.items():
+            self.checked[crate] = sum(bool(FUNCTION_FILE.search(name)) for _, _, names in os.walk(results) for name in names)
 
-    def share(self, crate):
-        """How much of a crate is done."""
-        checked, number = self.checked.get(crate, 0), self.numbers.get(crate)
-        return 0 if number is None else 1 if checked >= number else checked / number
+    def finished_share(self, crate: str) -> float:
+        """Returns the finished part of a crate, from 0 to 1."""
+        checked, total = self.checked.get(crate, 0), self.totals.get(crate)
+        if total is None:
+            return 0
+        return 1 if checked >= total else checked / total
 
-    def tell(self):
-        with self.turn:
-            self.look()
-            done = sum(size * self.share(crate) for crate, size in self.sizes.items()) / sum(self.sizes.values())
-            say(f"{sum(self.checked.values())} functions checked, {done:.0%} of the work, {self.minutes()}: {', '.join(self.at_work)}")
+    def report(self) -> None:
+        """Reports the progress."""
+        with self.lock:
+            self.count()
+            finished = sum(size * self.finished_share(crate) for crate, size in self.sizes.items()) / sum(self.sizes.values())
+            report(f"{sum(self.checked.values())} functions checked, {finished:.0%} of the work, {self.elapsed()}: "
+                   f"{', '.join(self.active)}")
 
     @contextlib.contextmanager
-    def told(self):
-        """Tells it every few seconds."""
+    def reports(self) -> Iterator[None]:
+        """Reports the progress every few seconds, as a context."""
         ended = threading.Event()
 
-        def tell_often():
-            while not ended.wait(PACE):
-                self.tell()
+        def report_often() -> None:
+            while not ended.wait(REPORT_INTERVAL):
+                self.report()
 
-        teller = threading.Thread(target=tell_often)
-        teller.start()
+        reporter = threading.Thread(target=report_often)
+        reporter.start()
         try:
             yield
         finally:
             ended.set()
-            teller.join()
+            reporter.join()
 
 
-def say(text):
-    print(f"moc: {text}", file=sys.stderr, flush=True)
+def run_rt(folder: str, arguments: list[str], crate: str, progress: Progress, niceness: int = 0) -> bool:
+    """Runs `rt` in the folder of a crate, and prints its errors if it fails.
 
+    Parameters
+    ----------
+    folder : str
+        The folder of the crate.
+    arguments : list of str
+        The arguments of `rt`.
+    crate : str
+        The crate.
+    progress : Progress
+        Receives the number of functions of the crate.
+    niceness : int
+        The niceness of the process.
 
-def rt(folder, words, crate, progress, niceness=0):
-    """Runs rt in a crate's folder, and says what is not well where it fails."""
-    ran = subprocess.Popen(["nice", "-n", str(niceness), "rt", *words], cwd=folder, stdin=subprocess.DEVNULL,
-                           stdout=subprocess.PIPE, stderr=subprocess.STDOUT, text=True)
-    said = []
-    for line in ran.stdout:
-        said.append(line)
-        counted = re.match(r"so far: \d+ of (\d+) functions", line)
-        if counted:
-            progress.numbers[crate] = int(counted[1])
-    if ran.wait():
-        print("".join(it for it in said if not WELL.search(it)), file=sys.stderr)
-    return ran.returncode == 0
+    Returns
+    -------
+    bool
+        Whether the exit status is 0.
+    """
+    lines = []
+    with subprocess.Popen(["nice", "-n", str(niceness), "rt", *arguments], cwd=folder, stdin=subprocess.DEVNULL,
+                          stdout=subprocess.PIPE, stderr=subprocess.STDOUT, text=True) as process:
+        for line in process.stdout or ():
+            lines.append(line)
+            total = re.match(r"so far: \d+ of (\d+) functions", line)
+            if total:
+                progress.totals[crate] = int(total[1])
+    if process.returncode:
+        print("".join(line for line in lines if not SUCCESS_LINE.search(line)), file=sys.stderr)
+    return process.returncode == 0
 
 
 class Build:
-    """The libraries that are still to be proved, and those that are done."""
+    """A run of the proofs of crates.
 
-    def __init__(self, rooms, wanted):
-        below = libraries_below(crates_of())
-        needed = {*wanted, *(it for crate in wanted for it in below[crate])}
-        self.below = {it: below[it] for it in below if it in needed}
-        libraries = [it for it in self.below if it != PROGRAM]
-        self.rooms, self.left = rooms, libraries[:]
-        sizes = {it: size_of(it) for it in self.below}
-        self.behind = {}
-        for it in reversed(self.below):
-            self.behind[it] = sizes[it] + max((self.behind[one] for one in self.behind if it in self.below[one]), default=0)
+    Parameters
+    ----------
+    workspaces : str
+        The folder of the workspaces.
+    targets : list of str
+        The crates to prove, with all their libraries.
+    """
+
+    def __init__(self, workspaces: str, targets: list[str]) -> None:
+        libraries = libraries_of_crates(read_crates())
+        needed = {*targets, *(library for crate in targets for library in libraries[crate])}
+        self.libraries = {crate: libraries[crate] for crate in libraries if crate in needed}
+        crates = [crate for crate in self.libraries if crate != PROGRAM]
+        self.workspaces, self.remaining = workspaces, crates[:]
+        sizes = {crate: size_of(crate) for crate in self.libraries}
+        # The work of the longest chain of crates that starts with a crate, where each depends on the one before it.
+        self.chain_work: dict[str, int] = {}
+        for crate in reversed(self.libraries):
+            dependents = (self.chain_work[other] for other in self.chain_work if crate in self.libraries[other])
+            self.chain_work[crate] = sizes[crate] + max(dependents, default=0)
         self.progress = Progress(sizes)
-        self.running, self.done, self.failed = {}, set(), False
-        for it in libraries:
-            if self.done.issuperset(below[it]) and is_current(it, below[it]):
-                self.left.remove(it)
-                self.done.add(it)
-                self.progress.numbers[it] = 0
-        self.turn = threading.Condition()
-        cores = len(os.sched_getaffinity(0))
-        self.most = int(os.environ.get("MOC_JOBS") or min(cores, max(1, free_memory() // JOB_MEMORY)))
+        self.running: dict[str, int] = {}
+        self.finished: set[str] = set()
+        self.failed = False
+        for crate in crates:
+            if self.finished.issuperset(libraries[crate]) and is_current(crate, libraries[crate]):
+                self.remaining.remove(crate)
+                self.finished.add(crate)
+                self.progress.totals[crate] = 0
+        self.changed = threading.Condition()
+        processors = len(os.sched_getaffinity(0))
+        self.max_jobs = int(os.environ.get("MOC_JOBS") or min(processors, max(1, available_memory() // JOB_MEMORY)))
 
-    def prove(self, crate, jobs, niceness):
-        """Proves a library in a room of its own, and keeps what was proved there also where something is not."""
-        room, well = os.path.join(self.rooms, crate), False
+    def prove(self, crate: str, jobs: int, niceness: int) -> None:
+        """Proves a library in a workspace, and saves the proofs, also if some proofs fail."""
+        workspace, is_proved = os.path.join(self.workspaces, crate), False
         try:
-            folder = make_room(room, crate, self.below[crate])
-            with self.progress.of(crate, folder):
-                well = rt(folder, ["lib", "--jobs", str(jobs)], crate, self.progress, niceness)
-            take_back(room, crate)
-            shutil.rmtree(room, ignore_errors=True)
+            folder = make_workspace(workspace, crate, self.libraries[crate])
+            with self.progress.follow(crate, folder):
+                is_proved = run_rt(folder, ["lib", "--jobs", str(jobs)], crate, self.progress, niceness)
+            save_results(workspace, crate)
+            shutil.rmtree(workspace, ignore_errors=True)
         finally:
-            with self.turn:
+            with self.changed:
                 del self.running[crate]
-                self.failed |= not well
-                self.done.add(crate)
-                self.turn.notify_all()
+                self.failed |= not is_proved
+                self.finished.add(crate)
+                self.changed.notify_all()
 
-    def start_ready(self):
-        """Starts libraries that need not wait. Those with a long chain behind them share the jobs that one for each of the others
-        leaves, and the less stands behind another the more it gives way."""
-        ready = sorted((it for it in self.left if self.done.issuperset(self.below[it])), key=lambda it: -self.behind[it])
-        most = max((self.behind[it] for it in (*ready, *self.running)), default=0)
-        for at, crate in enumerate(ready):
-            idle = self.most - sum(self.running.values())
+    def start_ready(self) -> None:
+        """Starts the proofs of libraries whose own libraries are proved.
+
+        Each library without priority gets one job. The libraries with priority share all other jobs. A library on which less work depends
+        has a higher niceness."""
+        ready = sorted((crate for crate in self.remaining if self.finished.issuperset(self.libraries[crate])),
+                       key=lambda crate: -self.chain_work[crate])
+        longest = max((self.chain_work[crate] for crate in (*ready, *self.running)), default=0)
+        for position, crate in enumerate(ready):
+            idle = self.max_jobs - sum(self.running.values())
             if idle == 0:
                 break
-            others = ready[at + 1:]
-            long = sum(self.behind[it] >= LONG_CHAIN * most for it in others)
-            share = math.ceil((idle - (len(others) - long)) / (long + 1))
-            jobs = max(1, min(MOST_JOBS, share)) if self.behind[crate] >= LONG_CHAIN * most else 1
-            self.left.remove(crate)
+            others = ready[position + 1:]
+            priority_count = sum(self.chain_work[other] >= PRIORITY_SHARE * longest for other in others)
+            share = math.ceil((idle - (len(others) - priority_count)) / (priority_count + 1))
+            jobs = max(1, min(MAX_CHECK_JOBS, share)) if self.chain_work[crate] >= PRIORITY_SHARE * longest else 1
+            self.remaining.remove(crate)
             self.running[crate] = jobs
-            niceness = round(MOST_NICE * (1 - self.behind[crate] / most))
+            niceness = round(MAX_NICENESS * (1 - self.chain_work[crate] / longest))
             threading.Thread(target=self.prove, args=(crate, jobs, niceness)).start()
 
-    def libraries(self):
-        with self.turn:
-            while (self.left and not self.failed) or self.running:
+    def prove_libraries(self) -> bool:
+        """Proves all libraries that are not current. Returns whether all are proved."""
+        with self.changed:
+            while (self.remaining and not self.failed) or self.running:
                 if not self.failed:
                     self.start_ready()
-                self.turn.wait()
+                self.changed.wait()
         return not self.failed
 
-    def program(self):
-        """Proves and builds the program itself, and has it say a number."""
+    def build_program(self) -> bool:
+        """Proves and builds the program, and runs it once. Returns whether the program succeeds."""
         folder = folder_of(PROGRAM)
-        with self.progress.of(PROGRAM, folder):
-            return rt(folder, ["run", "--jobs", str(min(MOST_JOBS, self.most)), "--", "uniq", "0", "0"], PROGRAM, self.progress)
+        with self.progress.follow(PROGRAM, folder):
+            jobs = min(MAX_CHECK_JOBS, self.max_jobs)
+            return run_rt(folder, ["run", "--jobs", str(jobs), "--", "uniq", "0", "0"], PROGRAM, self.progress)
 
 
-def main():
-    words = argparse.ArgumentParser(description="Proves the program and builds it.")
-    kinds = words.add_mutually_exclusive_group()
-    kinds.add_argument("--libraries", nargs="*", metavar="CRATE")
-    kinds.add_argument("--library", nargs="?", const=library.FOLDER, metavar="FOLDER")
-    given = words.parse_args()
-    wanted = [library.CRATE] if given.library is not None else given.libraries or [PROGRAM]
-    is_program = given.library is None and given.libraries is None
+def main() -> int:
+    """Proves and builds what the command line selects."""
+    parser = argparse.ArgumentParser(description="Proves the program and builds it.")
+    kinds = parser.add_mutually_exclusive_group()
+    kinds.add_argument("--libraries", nargs="*", metavar="CRATE", help="prove only the libraries, or only these crates and their libraries")
+    kinds.add_argument("--library", nargs="?", const=library.FOLDER, metavar="FOLDER", help="link the library for C and Python")
+    options = parser.parse_args()
+    targets = [library.CRATE] if options.library is not None else options.libraries or [PROGRAM]
+    with_program = options.library is None and options.libraries is None
     out = os.path.join(folder_of(PROGRAM), "out")
-    rooms = os.path.join(out, "rooms")
+    workspaces = os.path.join(out, "workspaces")
     os.makedirs(out, exist_ok=True)
-    with open(os.path.join(out, "lock"), "w") as lock:
+    with open(os.path.join(out, "lock"), "w", encoding="utf-8") as lock:
         fcntl.flock(lock, fcntl.LOCK_EX)
-        shutil.rmtree(rooms, ignore_errors=True)
-        build = Build(rooms, wanted)
-        with build.progress.told():
-            well = build.libraries() and (not is_program or build.program())
-        shutil.rmtree(rooms, ignore_errors=True)
-        if well and given.library is not None:
-            well = library.put(given.library)
-    if not is_program or not well:
-        return 0 if well else 1
+        shutil.rmtree(workspaces, ignore_errors=True)
+        build = Build(workspaces, targets)
+        with build.progress.reports():
+            succeeded = build.prove_libraries() and (not with_program or build.build_program())
+        shutil.rmtree(workspaces, ignore_errors=True)
+        if succeeded and options.library is not None:
+            succeeded = library.link(options.library)
+    if not with_program or not succeeded:
+        return 0 if succeeded else 1
     program = os.path.join(out, PROGRAM)
-    # (newer than all sources, also where nothing had to be built)
+    # The program has to be newer than all sources, also if nothing had to be built.
     os.utime(program)
-    say(f"proved and built after {build.progress.minutes()}: {os.path.relpath(program)}")
+    report(f"proved and built after {build.progress.elapsed()}: {os.path.relpath(program)}")
     return 0
 
 

@@ -1,113 +1,134 @@
-"""The crates of the repository, and rooms to prove them in.
+"""Reads the list of crates, and makes workspaces in which crates are proved side by side.
 
-`rt` lets one command at a time work in a crate's folder and in those of all libraries below it, so two crates of one tree are proved
-one after the other. A room has a crate by itself, with what was proved of it before, and the libraries below it as they were built."""
+While `rt` works on a crate, it locks the folder of the crate and the folders of all its libraries. So two crates of one tree are proved one
+after the other. A workspace has one crate, with the results of its last proof, and the last builds of its libraries."""
+from __future__ import annotations
+
 import os
 import shutil
 
 TOP = os.path.dirname(os.path.dirname(os.path.abspath(__file__)))
-# The parts of a crate that the prover reads.
-PARTS = ("src", "specs", "proofs")
+# The folders of a crate that the prover reads.
+SOURCE_FOLDERS = ("src", "specs", "proofs")
 
 
-def folder_of(crate, top=TOP):
+def folder_of(crate: str, top: str = TOP) -> str:
+    """Returns the folder of a crate."""
     return os.path.join(top, "crates", crate)
 
 
-def files_of(crate, *parts):
-    """What is known of each file of these parts of a crate."""
-    folders = [os.path.join(folder_of(crate), it) for it in parts]
-    return [os.stat(os.path.join(at, it)) for folder in folders for at, _, files in os.walk(folder) for it in files]
+def stat_files(crate: str, *folders: str) -> list[os.stat_result]:
+    """Returns the status of each file in these folders of a crate."""
+    paths = [os.path.join(folder_of(crate), folder) for folder in folders]
+    return [os.stat(os.path.join(parent, name)) for path in paths for parent, _, names in os.walk(path) for name in names]
 
 
-def crates_of(top=TOP):
-    """The crates in the order of crates.txt, each with what its line names."""
-    found = {}
-    with open(os.path.join(top, "crates.txt")) as file:
-        for line in file:
-            if ":" in line.partition("#")[0]:
-                found[name_of(line)] = line.partition("#")[0].partition(":")[2].split()
-    return found
-
-
-def name_of(line):
-    """The crate that a line of crates.txt is of: its first word, behind which a static library says so."""
+def crate_name(line: str) -> str:
+    """Returns the crate of a line of `crates.txt`, which is its first word. After it, the line of a static library has one more word."""
     return line.partition("#")[0].partition(":")[0].partition(" ")[0].strip()
 
 
-def libraries_below(crates):
-    """Each crate, with the libraries of the repository that it stands on, lowest first."""
-    below = {}
+def read_crates(top: str = TOP) -> dict[str, list[str]]:
+    """Returns the crates in the order of `crates.txt`, each with the libraries that its line names."""
+    crates = {}
+    with open(os.path.join(top, "crates.txt"), encoding="utf-8") as file:
+        for line in file:
+            if ":" in line.partition("#")[0]:
+                crates[crate_name(line)] = line.partition("#")[0].partition(":")[2].split()
+    return crates
 
-    def walk(name):
-        if name not in below:
-            own = [it for it in crates[name] if it in crates]
-            below[name] = list(dict.fromkeys(it for one in own for it in [*walk(one), one]))
-        return below[name]
+
+def libraries_of_crates(crates: dict[str, list[str]]) -> dict[str, list[str]]:
+    """Returns each crate with all libraries of the repository that it depends on, each after the libraries that it depends on itself."""
+    libraries: dict[str, list[str]] = {}
+
+    def visit(name: str) -> list[str]:
+        if name not in libraries:
+            direct = [library for library in crates[name] if library in crates]
+            libraries[name] = list(dict.fromkeys(indirect for library in direct for indirect in [*visit(library), library]))
+        return libraries[name]
 
     for name in crates:
-        walk(name)
-    return below
+        visit(name)
+    return libraries
 
 
-def link_or_copy(source, to):
-    """Links what a check replaces and never writes into: built libraries and proved modules. All else is copied."""
+def link_or_copy(source: str, target: str) -> str:
+    """Links a file that checks replace and never write into, which is a built library or a proved module. Copies any other file."""
     if "/out/rlib/" in source or source.endswith(".oantt"):
         try:
-            return os.link(source, to)
+            os.link(source, target)
+            return target
         except OSError:
-            # (the room is on another disk)
+            # The workspace is on another file system.
             pass
-    return shutil.copy2(source, to)
+    shutil.copy2(source, target)
+    return target
 
 
-def make_room(room, crate, below):
-    """Makes a room for a crate, whose proofs go on there from what is kept, and returns the crate's folder in it."""
-    os.makedirs(os.path.join(room, "crates"))
-    with open(os.path.join(TOP, "crates.txt")) as file, open(os.path.join(room, "crates.txt"), "w") as to:
-        to.writelines(it for it in file if name_of(it) in (*below, crate))
-    shutil.copy(os.path.join(TOP, "HANDLES"), room)
-    for name in (*below, crate):
-        for part in (*PARTS, "out/rlib", *["out/incremental"] * (name == crate)):
+def make_workspace(workspace: str, crate: str, libraries: list[str]) -> str:
+    """Makes a workspace for a crate, where a check starts from the results of the last one.
+
+    Parameters
+    ----------
+    workspace : str
+        The folder to make.
+    crate : str
+        The crate.
+    libraries : list of str
+        All libraries of the repository that the crate depends on.
+
+    Returns
+    -------
+    str
+        The folder of the crate in the workspace.
+    """
+    os.makedirs(os.path.join(workspace, "crates"))
+    with open(os.path.join(TOP, "crates.txt"), encoding="utf-8") as file, \
+            open(os.path.join(workspace, "crates.txt"), "w", encoding="utf-8") as target:
+        target.writelines(line for line in file if crate_name(line) in (*libraries, crate))
+    shutil.copy(os.path.join(TOP, "HANDLES"), workspace)
+    for name in (*libraries, crate):
+        for part in (*SOURCE_FOLDERS, "out/rlib", *["out/incremental"] * (name == crate)):
             source = os.path.join(folder_of(name), part)
             if os.path.isdir(source):
-                shutil.copytree(source, os.path.join(folder_of(name, room), part), copy_function=link_or_copy)
-    return folder_of(crate, room)
+                shutil.copytree(source, os.path.join(folder_of(name, workspace), part), copy_function=link_or_copy)
+    return folder_of(crate, workspace)
 
 
-def stamp_of(crate, top=TOP):
-    """The file that `rt` writes last when it builds a library."""
+def stamp_of(crate: str, top: str = TOP) -> str:
+    """Returns the path of the file that `rt` writes last when it builds a library."""
     return os.path.join(folder_of(crate, top), "out", "rlib", "stamp")
 
 
-def archive_of(crate, top=TOP):
-    """The file that `rt` makes of a static library, which has no stamp."""
+def archive_of(crate: str, top: str = TOP) -> str:
+    """Returns the path of the archive that `rt` makes from a static library, which has no stamp."""
     return os.path.join(folder_of(crate, top), "out", f"lib{crate}.a")
 
 
-def take_back(room, crate):
-    """Brings what was proved in a room, and the library that was built there, back into the crate's own folder."""
-    if os.path.exists(archive_of(crate, room)):
+def save_results(workspace: str, crate: str) -> None:
+    """Moves the proofs and the library that were made in a workspace into the folder of the crate."""
+    if os.path.exists(archive_of(crate, workspace)):
         os.makedirs(os.path.dirname(archive_of(crate)), exist_ok=True)
-        os.replace(archive_of(crate, room), archive_of(crate))
+        os.replace(archive_of(crate, workspace), archive_of(crate))
     for part in ("incremental", "rlib"):
-        made, kept = (os.path.join(folder_of(crate, at), "out", part) for at in (room, TOP))
-        if os.path.isdir(made):
-            shutil.rmtree(kept, ignore_errors=True)
-            os.makedirs(os.path.dirname(kept), exist_ok=True)
-            os.rename(made, kept)
+        new, old = (os.path.join(folder_of(crate, top), "out", part) for top in (workspace, TOP))
+        if os.path.isdir(new):
+            shutil.rmtree(old, ignore_errors=True)
+            os.makedirs(os.path.dirname(old), exist_ok=True)
+            os.rename(new, old)
     stamp = stamp_of(crate)
     if os.path.exists(stamp):
-        # (the library may be a link to one that was built earlier, of the same text)
+        # The library may be a link to an earlier one of the same source. The new stamp makes it newer than its sources.
         shutil.copyfile(stamp, f"{stamp}.new")
         os.replace(f"{stamp}.new", stamp)
 
 
-def is_current(crate, below):
-    """Whether the library was built, and no source of it and no library below it is newer."""
+def is_current(crate: str, libraries: list[str]) -> bool:
+    """Returns whether the library of a crate was built after the last change of its sources and of its libraries."""
     built = next(filter(os.path.exists, (stamp_of(crate), archive_of(crate))), None)
     if built is None:
         return False
     time = os.stat(built).st_mtime
-    return all(it.st_mtime <= time for it in files_of(crate, *PARTS)) and all(
-        os.path.exists(stamp_of(it)) and os.stat(stamp_of(it)).st_mtime <= time for it in below)
+    return all(status.st_mtime <= time for status in stat_files(crate, *SOURCE_FOLDERS)) and all(
+        os.path.exists(stamp_of(library)) and os.stat(stamp_of(library)).st_mtime <= time for library in libraries)

@@ -1,57 +1,73 @@
-"""The library for C and Python, linked of what is proved: the crate `moc_c` with all that it stands on, behind guards in C (`guards.py`),
-and the toolchain's heap."""
+"""Links the library for C and Python.
+
+Its parts are the proved crate `moc_c`, the libraries of this crate, the guards in C (`guards.py`) and the toolchain's heap."""
+from __future__ import annotations
+
 import os
 import shutil
 import subprocess
 import sys
 import tempfile
 
-from crates import TOP, archive_of, folder_of
-from guards import PROVED, calls_of, source_of
+from crates import TOP, archive_of
+from guards import HEADER, PROVED, Function, guards_source, parse_header
 
 CRATE = "moc_c"
-# Beside the Python package, which is installed with it.
+# The folder of the Python package, which is installed with the library.
 FOLDER = os.path.join(TOP, "python", "ploverchaise")
-HEADER = os.path.join(folder_of(CRATE), "include", "moc.h")
 SHARED, STATIC = "libploverchaise.so", "libploverchaise.a"
 
 
-def heap():
-    """The calls of malloc, realloc and free, which the toolchain has in C."""
+def heap() -> str:
+    """Returns the path of the toolchain's archive that calls malloc, realloc and free."""
     page = subprocess.run(["rt", "doc"], check=True, stdout=subprocess.PIPE, text=True).stdout.strip()
     return os.path.join(os.path.dirname(page), "c", "liblibc_c.a")
 
 
-def inputs(calls):
-    """The files that the commands read: the guards, the names that they have for the proved calls, and what the shared library shows."""
-    return {"guards.c": source_of(calls), "renamed": "".join(f"moc_{it.name} {PROVED}{it.name}\n" for it in calls),
-            "shown": f"{{ global: {' '.join(f'moc_{it.name};' for it in calls)} local: *; }};\n"}
+def input_files(functions: list[Function]) -> dict[str, str]:
+    """Returns the files that the commands read: the guards, the new names of the proved functions, and the exported names."""
+    exported = " ".join(f"moc_{function.name};" for function in functions)
+    return {"guards.c": guards_source(functions),
+            "renamed": "".join(f"moc_{function.name} {PROVED}{function.name}\n" for function in functions),
+            "exported": f"{{ global: {exported} local: *; }};\n"}
 
 
-def commands():
-    """The commands that make the libraries in the folder where they run, and what each reads."""
+def commands() -> list[tuple[list[str], str]]:
+    """Returns the commands that link the libraries in the current folder, each with its standard input."""
     compiler, parts = os.environ.get("CC", "cc"), ["proved.a", heap()]
+    additions = "".join(f"addlib {part}\n" for part in parts)
     return [([compiler, "-std=c99", "-O2", "-fPIC", f"-I{os.path.dirname(HEADER)}", "-c", "guards.c"], ""),
             (["objcopy", "--redefine-syms=renamed", archive_of(CRATE), "proved.a"], ""),
-            ([compiler, "-shared", "-o", SHARED, f"-Wl,-soname,{SHARED}", "-Wl,-z,defs,-z,now", "-Wl,--version-script=shown", "guards.o",
-              "-Wl,--whole-archive", *parts, "-Wl,--no-whole-archive"], ""),
-            (["ar", "-M"], f"create {STATIC}\naddmod guards.o\n" + "".join(f"addlib {it}\n" for it in parts) + "save\nend\n")]
+            ([compiler, "-shared", "-o", SHARED, f"-Wl,-soname,{SHARED}", "-Wl,-z,defs,-z,now", "-Wl,--version-script=exported",
+              "guards.o", "-Wl,--whole-archive", *parts, "-Wl,--no-whole-archive"], ""),
+            (["ar", "-M"], f"create {STATIC}\naddmod guards.o\n{additions}save\nend\n")]
 
 
-def put(folder):
-    """Links the libraries and puts them and their header into a folder, each whole; answers whether that went well."""
-    with open(HEADER) as file:
-        calls = calls_of(file.read())
+def link(folder: str) -> bool:
+    """Links the libraries, and puts them and their header into a folder.
+
+    Parameters
+    ----------
+    folder : str
+        The folder. Each file in it is replaced as a whole.
+
+    Returns
+    -------
+    bool
+        Whether all commands succeeded. If not, the folder is unchanged.
+    """
+    with open(HEADER, encoding="utf-8") as file:
+        functions = parse_header(file.read())
     os.makedirs(folder, exist_ok=True)
-    with tempfile.TemporaryDirectory(dir=folder, prefix=".library") as room:
-        for name, text in inputs(calls).items():
-            with open(os.path.join(room, name), "w") as file:
+    with tempfile.TemporaryDirectory(dir=folder, prefix=".library") as work:
+        for name, text in input_files(functions).items():
+            with open(os.path.join(work, name), "w", encoding="utf-8") as file:
                 file.write(text)
-        for words, said in commands():
-            if subprocess.run(words, cwd=room, input=said, text=True).returncode:
+        for command, standard_input in commands():
+            if subprocess.run(command, cwd=work, input=standard_input, text=True).returncode:
                 return False
-        shutil.copyfile(HEADER, os.path.join(room, os.path.basename(HEADER)))
+        shutil.copyfile(HEADER, os.path.join(work, os.path.basename(HEADER)))
         for name in (SHARED, STATIC, os.path.basename(HEADER)):
-            os.replace(os.path.join(room, name), os.path.join(folder, name))
+            os.replace(os.path.join(work, name), os.path.join(folder, name))
             print(f"moc: {os.path.join(folder, name)}", file=sys.stderr)
     return True

@@ -1,12 +1,14 @@
 #!/usr/bin/env python3
-"""Tells which functions and lemma files of a crate are dear to prove.
+"""Reports which functions and which files of lemmas of a crate are expensive to prove.
 
 usage: tools/proof_costs.py [--top N] [--test] CRATE..
 
-Each crate, with `--test` also its tests, is proved from nothing, by one job, over the libraries below it as they were built last
-(`./moc`, or `rt lib`). The prover leaves a file for each module that it checked; the time between two of them is what the later one
-cost. A function has several modules: `Lts` is the part that the borrow checker writes, `Proof` what the tactics find, `Answers` what
-`proofs/` says. Nothing that is kept of the crate is read or changed. Other work on the machine makes the seconds more."""
+Proves each crate from scratch with one job, over the last builds of its libraries (`./moc`, or `rt lib`). With `--test` it also proves
+the tests of the crate. The prover writes a file for each module that it checks, and the time between two files is the cost of the later
+module. A function has several modules: the borrow checker writes `Lts`, the tactics write `Proof`, and `Answers` has the manual proof in
+`proofs/`. The results of earlier proofs are neither read nor changed. Other programs on the machine increase the times."""
+from __future__ import annotations
+
 import argparse
 import collections
 import os
@@ -16,83 +18,105 @@ import subprocess
 import sys
 import tempfile
 
-from crates import PARTS as SOURCES, crates_of, folder_of, libraries_below
+from crates import SOURCE_FOLDERS, folder_of, libraries_of_crates, read_crates
 
-# The modules of a function, or of a derived impl, behind its own name.
+# The modules of a function or of a derived impl block, after its name.
 PARTS = re.compile(
     r"^(Lts|Proof|Met|Goals|Answers|Tie|Statement|Code|Key|Carried|Kinds|Invariants|Named|Reads|Given|View|Mir|Symbol"
     r"|The\w+|Layout|Derivation|Open|Facts|decls)")
-# What is told apart of a function's cost; the rest is one figure.
-TOLD = ("Lts", "Proof", "Answers")
+# The parts of the cost of a function that are reported. The other parts are added up.
+REPORTED_PARTS = ("Lts", "Proof", "Answers")
+
+# The seconds of each part of each function.
+Costs = dict[str, dict[str, float]]
 
 
-def rattle():
-    """The prover, which lies beside rt, and the folder of its toolchain."""
-    kit = os.path.dirname(os.path.dirname(os.path.realpath(shutil.which("rt"))))
-    return os.path.join(kit, "bin", "rattle"), kit
+def find_prover() -> tuple[str, str]:
+    """Returns the paths of the prover, which is in the folder of `rt`, and of its toolchain."""
+    rt = shutil.which("rt")
+    if rt is None:
+        raise FileNotFoundError("rt is not installed")
+    toolchain = os.path.dirname(os.path.dirname(os.path.realpath(rt)))
+    return os.path.join(toolchain, "bin", "rattle"), toolchain
 
 
-def words_of(crate, named, below, kept):
-    """The words of a check of the crate, by one job, that keeps its work in a folder."""
-    program, kit = rattle()
-    libraries = {it: os.path.join(folder_of(it), "out", "rlib", f"{it}.rlib") for it in below}
+def check_command(crate: str, dependencies: list[str], libraries: list[str], results: str) -> list[str]:
+    """Returns the command that checks a crate with one job.
+
+    Parameters
+    ----------
+    crate : str
+        The crate.
+    dependencies : list of str
+        The libraries that its line in `crates.txt` names.
+    libraries : list of str
+        All libraries of the repository that it depends on.
+    results : str
+        The folder for the results of the check.
+    """
+    program, toolchain = find_prover()
+    archives = {library: os.path.join(folder_of(library), "out", "rlib", f"{library}.rlib") for library in libraries}
     root = "lib" if os.path.exists(os.path.join(folder_of(crate), "src", "lib.rt")) else "main"
-    words = [program, "check", "--crate-name", crate, f"src/{root}.rt"]
-    for name in ["std", *named]:
-        words += ["--extern", f"{name}={libraries.get(name, f'{kit}/rlibs/{name}.rlib')}"]
-    words += ["-L", f"dependency={kit}/rlibs"]
-    for it in libraries.values():
-        words += ["-L", f"dependency={os.path.dirname(it)}"]
-    return [*words, "--antt-project", f"{kit}/rattle/logic/antt-project.json", "--logic-built", f"{kit}/logic_built",
-            "--links", f"{crate}=", "--jobs", "1", "--incremental", kept]
+    command = [program, "check", "--crate-name", crate, f"src/{root}.rt"]
+    for name in ["std", *dependencies]:
+        command += ["--extern", f"{name}={archives.get(name, f'{toolchain}/rlibs/{name}.rlib')}"]
+    command += ["-L", f"dependency={toolchain}/rlibs"]
+    for archive in archives.values():
+        command += ["-L", f"dependency={os.path.dirname(archive)}"]
+    return [*command, "--antt-project", f"{toolchain}/rattle/logic/antt-project.json", "--logic-built", f"{toolchain}/logic_built",
+            "--links", f"{crate}=", "--jobs", "1", "--incremental", results]
 
 
-def costs(crate, kept):
-    """The seconds of each module that the check left, by what it is a module of and by its part."""
-    files = sorted((os.stat(os.path.join(at, it)).st_mtime_ns, it) for at, _, names in os.walk(kept)
-                   for it in names if it.endswith(".oantt"))
-    found, last = collections.defaultdict(collections.Counter), files[0][0] if files else 0
+def measure_costs(crate: str, results: str) -> Costs:
+    """Returns the costs of the functions of a crate, from the times of the files that its check wrote."""
+    files = sorted((os.stat(os.path.join(parent, name)).st_mtime_ns, name) for parent, _, names in os.walk(results)
+                   for name in names if name.endswith(".oantt"))
+    costs: Costs = collections.defaultdict(lambda: collections.defaultdict(float))
+    last = files[0][0] if files else 0
     for time, file in files:
-        steps = re.sub(rf"^Rattle-{crate}(-proofs|-specs)?\.?", "", file.removesuffix(".oantt")).split(".")
-        own = len(steps)
-        while own > 1 and PARTS.match(steps[own - 1]):
-            own -= 1
-        part = steps[own] if own < len(steps) else ""
-        found["::".join(steps[:own])][part if part in TOLD else ""] += (time - last) / 1e9
+        names = re.sub(rf"^Rattle-{crate}(-proofs|-specs)?\.?", "", file.removesuffix(".oantt")).split(".")
+        length = len(names)
+        while length > 1 and PARTS.match(names[length - 1]):
+            length -= 1
+        part = names[length] if length < len(names) else ""
+        seconds = (time - last) / 1e9
+        costs["::".join(names[:length])][part if part in REPORTED_PARTS else ""] += seconds
         last = time
-    return found
+    return costs
 
 
-def tell(crate, given, named, below):
-    with tempfile.TemporaryDirectory(prefix="proof-costs-") as room:
-        for part in SOURCES:
+def report_costs(crate: str, options: argparse.Namespace, dependencies: list[str], libraries: list[str]) -> bool:
+    """Checks a crate, prints its costs, and returns whether the exit status of the check is 0."""
+    with tempfile.TemporaryDirectory(prefix="proof-costs-") as folder:
+        for part in SOURCE_FOLDERS:
             source = os.path.join(folder_of(crate), part)
             if os.path.isdir(source):
-                shutil.copytree(source, os.path.join(room, part))
-        kept = os.path.join(room, "kept")
-        os.mkdir(kept)
-        words = words_of(crate, named, below, kept) + ["--test"] * given.test
-        ran = subprocess.run(words, cwd=room, stdin=subprocess.DEVNULL, stdout=subprocess.PIPE,
-                             stderr=subprocess.STDOUT, text=True)
-        verdict = re.findall(r"^logic=\S+", ran.stdout, re.MULTILINE) or [f"no verdict: {ran.stdout.strip()[-400:]}"]
-        found = costs(crate, kept)
-    whole = sum(sum(parts.values()) for parts in found.values())
-    share = {it: sum(parts[it] for parts in found.values()) for it in TOLD}
-    print(f"{crate}: {whole:.0f} s; " + ", ".join(f"{it} {share[it]:.0f}" for it in TOLD) + f"; {verdict[0]}")
-    for name, parts in sorted(found.items(), key=lambda it: -sum(it[1].values()))[:given.top]:
-        print(f"{sum(parts.values()):7.1f}  {name}  " + " ".join(f"{it} {parts[it]:.1f}" for it in TOLD if parts[it] >= 0.1))
-    return ran.returncode == 0
+                shutil.copytree(source, os.path.join(folder, part))
+        results = os.path.join(folder, "results")
+        os.mkdir(results)
+        command = check_command(crate, dependencies, libraries, results) + ["--test"] * options.test
+        check = subprocess.run(command, cwd=folder, stdin=subprocess.DEVNULL, stdout=subprocess.PIPE, stderr=subprocess.STDOUT, text=True)
+        verdicts = re.findall(r"^logic=\S+", check.stdout, re.MULTILINE) or [f"no verdict: {check.stdout.strip()[-400:]}"]
+        costs = measure_costs(crate, results)
+    total = sum(sum(parts.values()) for parts in costs.values())
+    totals = {part: sum(parts.get(part, 0) for parts in costs.values()) for part in REPORTED_PARTS}
+    print(f"{crate}: {total:.0f} s; " + ", ".join(f"{part} {totals[part]:.0f}" for part in REPORTED_PARTS) + f"; {verdicts[0]}")
+    for name, parts in sorted(costs.items(), key=lambda item: -sum(item[1].values()))[:options.top]:
+        details = " ".join(f"{part} {parts[part]:.1f}" for part in REPORTED_PARTS if parts.get(part, 0) >= 0.1)
+        print(f"{sum(parts.values()):7.1f}  {name}  {details}")
+    return check.returncode == 0
 
 
-def main():
-    words = argparse.ArgumentParser(description="Tells which functions of a crate are dear to prove.")
-    words.add_argument("--top", type=int, default=20)
-    words.add_argument("--test", action="store_true")
-    words.add_argument("names", nargs="+", metavar="CRATE")
-    given = words.parse_args()
-    crates = crates_of()
-    below = libraries_below(crates)
-    return 0 if all([tell(it, given, crates[it], below[it]) for it in given.names]) else 1
+def main() -> int:
+    """Reports the costs of the crates that the command line names."""
+    parser = argparse.ArgumentParser(description="Reports which functions of a crate are expensive to prove.")
+    parser.add_argument("--top", type=int, default=20, help="the number of functions to report")
+    parser.add_argument("--test", action="store_true", help="also prove the tests of the crate")
+    parser.add_argument("names", nargs="+", metavar="CRATE", help="the crates")
+    options = parser.parse_args()
+    crates = read_crates()
+    libraries = libraries_of_crates(crates)
+    return 0 if all([report_costs(name, options, crates[name], libraries[name]) for name in options.names]) else 1
 
 
 if __name__ == "__main__":

@@ -1,5 +1,5 @@
-/* Calls each function of moc.h, with right, empty, short and wrong arguments. What is expected comes from the worked examples of MOC 2.0's
-   forms and of HEALPix's numberings. The last line printed is `N passed, M failed`. Built and run by library.py. */
+/* Calls each function of moc.h with valid, empty, short and invalid arguments. The expected results are from the examples of the formats of
+   MOC 2.0 and of the numberings of HEALPix. The last line printed is `N passed, M failed`. library.py builds and runs the program. */
 #include "checks.h"
 #include "moc.h"
 
@@ -37,7 +37,7 @@ static moc_outcome uniq(const char *text)
     return moc_read_uniq(&desk, bytes(text), strlen(text));
 }
 
-/* The key of the set of an ASCII text. */
+/* Reads an ASCII text, and returns the identifier of its set. */
 static uint64_t set(const char *text)
 {
     moc_outcome made = ascii(text);
@@ -45,7 +45,7 @@ static uint64_t set(const char *text)
     return made.first;
 }
 
-/* Whether a text was made, and is this one. */
+/* Returns whether a call made this text. */
 static bool made(moc_outcome outcome, const char *text)
 {
     static uint8_t copy[1 << 16];
@@ -54,7 +54,7 @@ static bool made(moc_outcome outcome, const char *text)
            && memcmp(copy, text, length) == 0;
 }
 
-/* Whether the set at a key is the one that an ASCII text says. */
+/* Returns whether the set with an identifier is equal to the set of an ASCII text. */
 static bool same(uint64_t key, const char *text)
 {
     return is(moc_same(&desk, key, set(text)), MOC_DONE, 1, 0);
@@ -74,7 +74,7 @@ static void texts(void)
     REFUSED(moc_write_ascii(&desk, 99, 30), MOC_NO_SUCH_SET, 99);
     REFUSED(moc_write_json(&desk, 99, 8), MOC_NO_SUCH_SET, 99);
     REFUSED(moc_write_uniq(&desk, UINT64_MAX), MOC_NO_SUCH_SET, UINT64_MAX);
-    /* The text of before is kept, and a short buffer is as it was. */
+    /* The previous text still exists, and a short buffer is unchanged. */
     memset(some, 'x', sizeof some);
     REFUSED(moc_text(&desk, some, sizeof some), MOC_NO_ROOM, 28);
     CHECK(memcmp(some, "xxxx", 4) == 0);
@@ -299,7 +299,7 @@ static void numbers(void)
     REFUSED(moc_touching(1, cells, 2, touching, 1), MOC_LENGTHS_DIFFER, 0);
     REFUSED(moc_touching(0, eighteen, 1, touching, 1), MOC_NO_SUCH_CELL, 0);
 
-    /* As healpy 1.16 has them. */
+    /* The expected values are those of healpy 1.16. */
     const uint64_t four[] = {11, 7, 3, UINT64_MAX, 0, 5, 8, UINT64_MAX}, zero[] = {4, UINT64_MAX, 3, 2, 1, UINT64_MAX, 5, 8};
     TELLS(moc_neighbours(0, two, 2, touching, 2), 0);
     CHECK(memcmp(touching[0], zero, sizeof zero) == 0 && memcmp(touching[1], four, sizeof four) == 0);
@@ -318,7 +318,7 @@ static void keys(void)
     REFUSED(moc_free(&desk, key), MOC_NO_SUCH_SET, key);
     REFUSED(moc_count(&desk, key), MOC_NO_SUCH_SET, key);
     TELLS(moc_count(&desk, other), BASE);
-    /* A key is never given again. */
+    /* An identifier is never reused. */
     TELLS(moc_empty(&desk), other + 1);
     REFUSED(moc_free(&desk, UINT64_MAX), MOC_NO_SUCH_SET, UINT64_MAX);
 }
@@ -330,7 +330,7 @@ static void *work(void *given)
     return full.code == MOC_DONE && moc_complement(other, full.first).code == MOC_DONE ? other : NULL;
 }
 
-/* A desk that a thread is handed, and hands back by its end. */
+/* Passes a store to a thread, and uses it again after the thread ended. */
 static void threads(void)
 {
     moc_desk other;
@@ -348,7 +348,7 @@ static moc_outcome line(moc_seat *seat, const char *text)
     return moc_map_apply(seat, bytes(text), strlen(text));
 }
 
-/* Whether the last line that was done has this answer. */
+/* Returns whether this is the answer to the last line. */
 static bool answered(moc_seat *seat, const char *text)
 {
     uint8_t copy[256];
@@ -372,7 +372,7 @@ static void lines(moc_seat *seat)
     CHECK(answers(seat, "add @0 1/47;keep 0/0-5;degrade 0",
                   "changed 288230376151711744 ; changed 288230376151711744 ; changed 216172782113783808\n"));
     CHECK(answers(seat, "invert", "changed 3458764513820540928\n"));
-    /* A refused line leaves the map and the answer; a short buffer is as it was. */
+    /* A line with an error changes neither the map nor the answer. A short buffer is unchanged. */
     REFUSED(line(seat, "grow 0/0"), MOC_LINE_UNKNOWN_WORD, 0);
     REFUSED(line(seat, ""), MOC_LINE_EMPTY_COMMAND, 0);
     REFUSED(line(seat, "invert ; ; invert"), MOC_LINE_EMPTY_COMMAND, 0);
@@ -414,7 +414,7 @@ static void seats(void)
     REFUSED(moc_map_join(&first, &fourth), MOC_NO_CLIENT, 0);
     TELLS(moc_map_answer(&second, none, 0), 0);
     CHECK(answers(&second, "remove 0/4-11", "changed 2305843009213693952\n"));
-    /* The map goes on without the seat that began it. */
+    /* The map still exists after the handle that created it was closed. */
     moc_seat_close(first);
     moc_outcome key = moc_map_set(&third, &desk);
     CHECK(key.code == MOC_DONE && same(key.first, "0/2-3") && same(start, "0/0"));
@@ -433,7 +433,7 @@ struct worker {
     unsigned number, torn, refused;
 };
 
-/* Does a line, again where another client holds a part. */
+/* Executes a line, and repeats it while another client holds a part. */
 static void insist(struct worker *worker, const char *said)
 {
     moc_outcome outcome;
@@ -442,7 +442,8 @@ static void insist(struct worker *worker, const char *said)
     worker->refused += outcome.code != MOC_DONE;
 }
 
-/* Puts two cells in different parts of the sky in and out as one, looks that never one is there alone, and adds cells of its own. */
+/* Adds and removes two cells in different parts of the sky together. Checks that the map never has only one of them. Also adds other
+   cells. */
 static void *share(void *given)
 {
     struct worker *worker = given;
@@ -459,7 +460,7 @@ static void *share(void *given)
     return worker;
 }
 
-/* Two threads with a seat each at one map: no line is seen in pieces, and nothing is lost. */
+/* Runs two threads, each with a handle of one map. Lines are atomic, and no change is lost. */
 static void sharing(void)
 {
     struct worker workers[2] = {{.number = 0}, {.number = 1}};

@@ -1,4 +1,4 @@
-/* What calls of moc.h tell, compared, for the programs here. */
+/* Compares the results of functions of moc.h with expected results, for the test programs of this folder. */
 #ifndef CHECKS_H
 #define CHECKS_H
 
@@ -22,7 +22,7 @@ static bool is(moc_outcome outcome, uint32_t code, uint64_t first, uint64_t seco
     return outcome.code == code && outcome.first == first && outcome.second == second;
 }
 
-/* Prints how many checks passed and failed; the status of the program. */
+/* Prints the numbers of checks that passed and failed, and returns the exit status of the program. */
 static int report(void)
 {
     printf("%u passed, %u failed\n", passed, failed);

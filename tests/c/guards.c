@@ -1,15 +1,16 @@
-/* Calls each function of moc.h with each of its pointers null, not aligned, and overlapping another one that it takes, with desks and seats
-   that are none, and with no elements at such pointers. What is expected stands at the head of moc.h. The last line printed is `N passed, M
-   failed`. Built and run by library.py, which looks that no pointer of a call is left out, and no two of them. */
+/* Calls each function of moc.h with each of its pointers null, not aligned, and overlapping another pointer, with null handles, and with
+   empty arrays at such pointers. The start of moc.h has the expected results. The last line printed is `N passed, M failed`. library.py
+   builds and runs the program, and checks that it tests each pointer and each two pointers of each function. */
 #include "checks.h"
 #include "moc.h"
 
 #include <string.h>
 
-/* A desk with one set, all of the sky at key 0, and its text; a seat at a map of it, with a reply; and one on which nobody sits. */
+/* A store with one set, the whole sky with identifier 0, and its text; a handle of a map of this set, with an answer; and a handle without
+   a client. */
 static moc_desk desk;
 static moc_seat seat, other;
-/* What calls read, and may write. */
+/* The arrays that calls read, and may write. */
 static struct {
     moc_range ranges[1];
     uint64_t cells[1], rows[1][8];
@@ -17,15 +18,15 @@ static struct {
     uint8_t bytes[1], faces[1];
 } at;
 
-/* Two pieces of memory, and what each is to hold: one of numbers, all of them 17; and one of zeros, but for a desk at byte 32, with one
-   set, all of the sky, and its text, and two seats at bytes 96 and 104, the first at a map of it with a client for the second. */
+/* Two memory areas, and their expected contents. In the first one, all numbers are 17. The second one has a store at byte 32, with one set,
+   the whole sky, and its text; two handles at bytes 96 and 104, the first of a map with a client for the second; and zeros elsewhere. */
 typedef union {
     uint64_t words[32];
     moc_desk desks[32];
     moc_seat seats[32];
 } memory;
 static memory room, house, room_kept, house_kept;
-/* They are seen as arrays of many types. */
+/* The areas as arrays of different types. */
 #define SEEN(type, name, in) static type *const name = (void *)&in
 SEEN(uint64_t, words, room);
 SEEN(uint32_t, halves, room);
@@ -38,7 +39,7 @@ SEEN(moc_range, its_ranges, house);
 SEEN(uint64_t, its_words, house);
 SEEN(uint8_t, its_bytes, house);
 
-/* Whether all is as it was: what lies on the desk but its keys, who sits where, and what calls may write. */
+/* Returns whether nothing has changed: the sets of the store, the clients of the handles, and the arrays that calls may write. */
 static bool is_kept(void)
 {
     static const uint8_t text[] = "0/0-11\n", reply[] = "cover 0/0-11\n";
@@ -60,18 +61,18 @@ static bool is_done(moc_outcome outcome)
     return outcome.code == MOC_DONE && is_kept();
 }
 
-/* Of a call with a wrong pointer: its code, and which argument is told; and that nothing is done. */
+/* Checks that a call with an invalid pointer returns this code and this argument, and changes nothing. */
 #define WRONG_AT(code, argument, call) CHECK(is(call, code, argument, 0) && is_kept())
-/* The same of one that is null, of one that is not aligned, and of two arguments that overlap. */
+/* Check a call with a null pointer, with a pointer that is not aligned, and with two arguments that overlap. */
 #define NULL_AT(argument, call) WRONG_AT(MOC_NULL, argument, call)
 #define ASKEW_AT(argument, call) WRONG_AT(MOC_MISALIGNED, argument, call)
 #define OVERLAP_AT(earlier, later, call) WRONG_AT(MOC_OVERLAP, later, call)
-/* Of a call whose arguments adjoin: it is done, and what it wrote is as it was for the next one. */
+/* Checks that a call with adjacent arguments succeeds, and restores the memory that it wrote for the next call. */
 #define APART(call) CHECK(is_done(call))
-/* Of a call with no elements at a null pointer, which is this argument: what it tells. */
+/* Checks the result of a call with an empty array at a null pointer, which is this argument. */
 #define NONE_AT(argument, call, code, first, second) CHECK(is(call, code, first, second))
 
-/* Calls on a desk that is none: null or zeroed, or not aligned; and the code of it. */
+/* Calls functions with a store that is null, zeroed or not aligned, and checks the code. */
 static void on_wrong_desk(uint32_t code, moc_desk *wrong)
 {
     WRONG_AT(code, 0, moc_empty(wrong));
@@ -111,7 +112,7 @@ static void on_wrong_desk(uint32_t code, moc_desk *wrong)
     WRONG_AT(code, 1, moc_map_set(&seat, wrong));
 }
 
-/* The same of seats. */
+/* Calls functions with a handle that is null, zeroed or not aligned, and checks the code. */
 static void on_wrong_seat(uint32_t code, moc_seat *wrong)
 {
     WRONG_AT(code, 0, moc_map_begin(wrong, &desk, 0, 1));
@@ -122,7 +123,7 @@ static void on_wrong_seat(uint32_t code, moc_seat *wrong)
     WRONG_AT(code, 0, moc_map_set(wrong, &desk));
 }
 
-/* Arrays that are to have elements, at a null pointer. */
+/* Calls functions with arrays that have elements and a null pointer. */
 static void without_arrays(void)
 {
     NULL_AT(1, moc_from_ranges(&desk, NULL, 1));
@@ -157,7 +158,7 @@ static void without_arrays(void)
     NULL_AT(1, moc_map_answer(&seat, NULL, 1));
 }
 
-/* The first null pointer is told, and before all else that is wrong. */
+/* Checks that the first null pointer is reported, before any other error. */
 static void before_all_else(void)
 {
     NULL_AT(0, moc_contains_all(NULL, 99, NULL, 1, NULL, 2));
@@ -173,7 +174,7 @@ static void before_all_else(void)
     NULL_AT(1, moc_map_apply(&other, NULL, 1));
 }
 
-/* Pointers that are not aligned for a desk, a seat, a number of 64 bits, a range or a row. */
+/* Calls functions with pointers that are not aligned for a store, a handle, a number of 64 bits, a range or a row. */
 static void not_aligned(void *askew)
 {
     on_wrong_desk(MOC_MISALIGNED, askew);
@@ -200,7 +201,7 @@ static void not_aligned(void *askew)
     ASKEW_AT(1, moc_neighbours(0, askew, 1, at.rows, 1));
     ASKEW_AT(3, moc_neighbours(0, at.cells, 1, askew, 1));
 
-    /* Before all that is wrong but a null pointer, and the first of them. */
+    /* The first pointer that is not aligned is reported, before any other error except a null pointer. */
     ASKEW_AT(2, moc_from_cells(&desk, 30, askew, 1));
     ASKEW_AT(2, moc_contains_all(&desk, 99, askew, 1, askew, 2));
     ASKEW_AT(1, moc_nest_to_ring(30, askew, 1, askew, 2));
@@ -212,7 +213,7 @@ static void not_aligned(void *askew)
     NULL_AT(2, moc_ranges(askew, 0, NULL, 1));
 }
 
-/* The same of numbers of 32 bits; bytes lie anywhere. */
+/* Calls functions with pointers that are not aligned for a number of 32 bits. Bytes need no alignment. */
 static void not_aligned_halves(void *askew)
 {
     ASKEW_AT(5, moc_nest_to_face_xy(0, at.cells, 1, at.faces, 1, askew, 1, at.ys, 1));
@@ -224,8 +225,8 @@ static void not_aligned_halves(void *askew)
     APART(moc_map_answer(&seat, askew, 13));
 }
 
-/* What a call writes over another array: at the same place, over its first element and its last; and before and behind it. The number 17 is
-   a cell of order 1, a NUNIQ number and a pixel. */
+/* Calls functions whose output overlaps another array: at the same address, at its first element, and at its last element. Also calls them
+   with adjacent arrays. The number 17 is a cell of order 1, a NUNIQ number and a pixel. */
 static void written_over_arrays(void)
 {
     OVERLAP_AT(2, 4, moc_contains_all(&desk, 0, words + 4, 2, bytes + 32, 2));
@@ -310,7 +311,7 @@ static void written_over_arrays(void)
     APART(moc_neighbours(1, words + 24, 2, rows + 1, 2));
 }
 
-/* A desk or a seat is written as well: arrays over it, and beside it. */
+/* Calls functions with arrays that overlap a store or a handle, which calls also write, and with adjacent arrays. */
 static void over_handles(void)
 {
     OVERLAP_AT(0, 1, moc_from_ranges(desks + 4, its_ranges + 2, 1));
@@ -370,8 +371,8 @@ static void over_handles(void)
     APART(moc_map_join(seats + 12, seats + 13));
 }
 
-/* The first argument that overlaps one before it is told, before all else that is wrong but pointers that are null or not aligned. Lengths
-   that no memory has hide none. No elements overlap nothing. */
+/* Checks that the first argument that overlaps an earlier one is reported, before any other error except pointers that are null or not
+   aligned. Impossible lengths do not hide an overlap. An empty array overlaps nothing. */
 static void overlaps_and_others(void)
 {
     CHECK(is(moc_nest_to_face_xy(30, words + 4, 2, bytes, 3, halves, 4, halves + 8, 5), MOC_OVERLAP, 5, 0) && is_kept());
@@ -398,7 +399,7 @@ static void overlaps_and_others(void)
     CHECK(is(moc_ranges(&desk, 0, askew, 0), MOC_NO_ROOM, 1, 0) && is_kept());
 }
 
-/* No elements at a null pointer: the key of a set that is made comes next, so no call of before has made one. */
+/* Calls functions with empty arrays at null pointers. New sets have the next identifiers, so no earlier call made a set. */
 static void empty_arrays(void)
 {
     NONE_AT(1, moc_from_ranges(&desk, NULL, 0), MOC_DONE, 1, 0);
@@ -470,7 +471,7 @@ int main(void)
     on_wrong_seat(MOC_NULL, &no_seat);
     without_arrays();
     before_all_else();
-    /* Where numbers lie, and where there are zeros. */
+    /* Pointers into the area of numbers and into the area of zeros. */
     for (size_t i = 1; i < 8; i++) {
         not_aligned(bytes + 16 + i);
         not_aligned(its_bytes + 160 + i);
@@ -481,7 +482,7 @@ int main(void)
     over_handles();
     overlaps_and_others();
     empty_arrays();
-    /* A further client still waits, and the seat of another is free. */
+    /* One more client is available, and the handle of another has no client. */
     CHECK(is(moc_map_join(&seat, &other), MOC_DONE, 0, 0));
     moc_seat_close(house.seats[13]);
     moc_seat_close(house.seats[12]);

@@ -1,1 +1,1 @@
-"""Tests of the Python package, which `tests/python.py` runs; expected values are the worked ones of the standards, or Python's own."""
+"""Tests of the Python package, which `tests/python.py` runs. The expected values are examples of the standards, or computed by Python."""

@@ -1,7 +1,11 @@
-"""What the tests of the Python package share."""
+"""Functions and classes that the tests of the Python package share."""
+from __future__ import annotations
+
 import random
 import threading
 import unittest
+from collections.abc import Callable, Iterable
+from typing import Any, TypeVar
 
 from ploverchaise import MOC, MocError
 
@@ -9,42 +13,45 @@ PIXELS = 12 * 4**29
 BASE = 4**29
 NUMBERS = random.Random(2005)
 
+Value = TypeVar("Value")
 
-def cells_in(order, count):
-    """So many random cells of an order, some of them again and again."""
+
+def random_cells(order: int, count: int) -> list[int]:
+    """Returns this number of random cells of an order. A cell may occur more than once."""
     return [NUMBERS.randrange(12 * 4**order) for _ in range(count)]
 
 
-def runs(numbers):
-    """The ranges (from, to) of a set of numbers, rising."""
-    found = []
+def sorted_ranges(numbers: Iterable[int]) -> list[tuple[int, int]]:
+    """Returns the sorted ranges of a set of numbers, each with its first number and the number after its last one."""
+    ranges: list[tuple[int, int]] = []
     for number in sorted(numbers):
-        if found and found[-1][1] == number:
-            found[-1] = (found[-1][0], number + 1)
+        if ranges and ranges[-1][1] == number:
+            ranges[-1] = (ranges[-1][0], number + 1)
         else:
-            found.append((number, number + 1))
-    return found
+            ranges.append((number, number + 1))
+    return ranges
 
 
 class TestCase(unittest.TestCase):
-    """A test that may want a fault, with its name and its place."""
+    """A test with assertions about errors and coverages."""
 
-    def assertFault(self, name, place, call, *arguments, **named):
+    def assertFault(self, name: str, place: tuple[int, ...], call: Callable[..., Any], *arguments: Any, **named: Any) -> None:
+        """Checks that a call raises a MocError with this name and this position."""
         with self.assertRaises(MocError) as caught:
             call(*arguments, **named)
         self.assertEqual((caught.exception.name, caught.exception.place), (name, place))
 
-    def in_threads(self, each, work):
-        """Runs the work with each of these on a thread of its own; a failure of one fails the test."""
+    def run_threads(self, values: Iterable[Value], work: Callable[[Value], object]) -> None:
+        """Runs the work with each value on a separate thread. The test fails if one of them raises an exception."""
         failures = []
 
-        def guarded(one):
+        def run(value: Value) -> None:
             try:
-                work(one)
+                work(value)
             except BaseException as failure:
                 failures.append(failure)
 
-        threads = [threading.Thread(target=guarded, args=(one,)) for one in each]
+        threads = [threading.Thread(target=run, args=(value,)) for value in values]
         for thread in threads:
             thread.start()
         for thread in threads:
@@ -52,6 +59,7 @@ class TestCase(unittest.TestCase):
         if failures:
             raise failures[0]
 
-    def assertRanges(self, moc, ranges):
+    def assertRanges(self, moc: MOC, ranges: list[tuple[int, int]]) -> None:
+        """Checks that a coverage has exactly these ranges of pixels."""
         self.assertIsInstance(moc, MOC)
         self.assertEqual(moc.ranges(), ranges)

@@ -1,23 +1,39 @@
-"""Runs the tests of the Python package that lies on the path, and prints how many passed and failed.
+"""Runs the tests of the Python package that is in the search path, and prints `N passed, M failed`.
 
 usage: python3 -m package.run [--without-numpy]
 
-With `--without-numpy` there is no numpy for them, also where it is installed. Tests that are left out are told, and count for nothing."""
+With `--without-numpy` the tests cannot import numpy, also if it is installed. Skipped tests are reported, and not counted."""
+from __future__ import annotations
+
 import os
 import sys
 import unittest
+from typing import Any
+
+from tally import Tally
 
 
-def main():
+def test_id(test: unittest.TestCase) -> str:
+    """Returns the name of a test. A part of a test has the name of the whole test."""
+    whole: unittest.TestCase = getattr(test, "test_case", test)
+    return whole.id()
+
+
+def main() -> int:
+    """Runs all tests."""
     if "--without-numpy" in sys.argv:
-        sys.modules["numpy"] = None
+        # The value `None` makes the import of a module fail.
+        modules: dict[str, Any] = sys.modules
+        modules["numpy"] = None
     here = os.path.dirname(os.path.abspath(__file__))
-    found = unittest.defaultTestLoader.discover(here, top_level_dir=os.path.dirname(here))
-    ran = unittest.TextTestRunner(stream=sys.stderr, verbosity=0).run(found)
-    # (what fails before a test begins, as a module that cannot be read, counts as one test that fails)
-    failed = len({getattr(test, "test_case", test).id() for test, _ in (*ran.failures, *ran.errors)})
-    print(f"{ran.testsRun - len(ran.skipped) - failed} passed, {failed} failed")
+    tests = unittest.defaultTestLoader.discover(here, top_level_dir=os.path.dirname(here))
+    result = unittest.TextTestRunner(stream=sys.stderr, verbosity=0).run(tests)
+    # A module that cannot be imported counts as one failed test.
+    failed = len({test_id(test) for test, _ in (*result.failures, *result.errors)})
+    tally = Tally()
+    tally.passed, tally.failed = result.testsRun - len(result.skipped) - failed, failed
+    return tally.finish()
 
 
 if __name__ == "__main__":
-    main()
+    sys.exit(main())

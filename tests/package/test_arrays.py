@@ -1,33 +1,40 @@
-"""Arrays of numpy: what goes in, and what comes back in kind."""
+"""Arrays of numpy as arguments and as results."""
+from __future__ import annotations
+
 import sys
 import unittest
+from typing import Any
 
 from ploverchaise import MOC, _arrays, get_all_neighbours, neighbours, nest2ring, nest2uniq, pix2xyf, ring2nest, uniq2nest
 
-from .common import NUMBERS, PIXELS, TestCase, cells_in
+from .common import NUMBERS, PIXELS, TestCase, random_cells
 
+numpy: Any = None
 try:
-    import numpy
+    import numpy as numpy_module
+    numpy = numpy_module
 except ImportError:
-    numpy = None
+    pass
 
 
 class WithoutNumpy(TestCase):
-    """The package alone."""
+    """The package without numpy."""
 
-    def test_it_asks_for_no_numpy(self):
+    def test_numpy_is_optional(self) -> None:
         if numpy is None:
             with self.assertRaises(ImportError):
                 MOC.full().to_depth29_ranges
         modules = [name for name in sys.modules if name.startswith("ploverchaise")]
         self.assertFalse([name for name in modules if hasattr(sys.modules[name], "numpy")])
 
-    def test_answers_come_in_kind(self):
-        for given, told in ((3, 0), ([3, 0], [0, 13]), ((3, 0), [0, 13]), (range(2), [13, 5]), ({3}, [0]), (iter([3]), [0]), ([], [])):
-            answer = nest2ring(2, given)
-            self.assertEqual((answer, type(answer)), (told, type(told)))
-        for given in ([], MOC()._bounds(), *([numpy.zeros(0, "int64")] if numpy else [])):
-            address, count = _arrays.numbers_of(given).as_passed
+    def test_results_have_the_type_of_arguments(self) -> None:
+        arguments: list[tuple[Any, Any]] = [(3, 0), ([3, 0], [0, 13]), ((3, 0), [0, 13]), (range(2), [13, 5]), ({3}, [0]), (iter([3]), [0]),
+                                            ([], [])]
+        for argument, expected in arguments:
+            result = nest2ring(2, argument)
+            self.assertEqual((result, type(result)), (expected, type(expected)))
+        for argument in ([], MOC()._bounds(), *([numpy.zeros(0, "int64")] if numpy else [])):
+            address, count = _arrays.numbers_of(argument).as_passed
             self.assertEqual((address != 0, count), (True, 0))
         self.assertIs(MOC.full().contains(7), True)
         self.assertEqual(MOC.full().contains([7]), [True])
@@ -35,13 +42,14 @@ class WithoutNumpy(TestCase):
 
 @unittest.skipUnless(numpy, "numpy is not installed")
 class WithNumpy(TestCase):
-    """Arrays."""
+    """The package with numpy."""
 
-    def assertArray(self, found, told, dtype):
-        numpy.testing.assert_array_equal(found, told)
-        self.assertEqual(found.dtype, dtype)
+    def assertArray(self, actual: Any, expected: Any, dtype: str) -> None:
+        """Checks the elements and the type of an array."""
+        numpy.testing.assert_array_equal(actual, expected)
+        self.assertEqual(actual.dtype, dtype)
 
-    def test_kinds_of_numbers(self):
+    def test_types_of_numbers(self) -> None:
         for kind in ("int8", "uint8", "int32", "uint32", "int64", "uint64", ">i8", ">u4"):
             self.assertArray(nest2ring(2, numpy.array([0, 1, 2, 3, 16, 18], kind)), [13, 5, 4, 0, 28, 27], "int64")
         for kind in ("float64", "bool", "object", "U2"):
@@ -49,20 +57,20 @@ class WithNumpy(TestCase):
                 nest2ring(2, numpy.array([1, 0], kind))
         self.assertArray(nest2ring(2, numpy.array([])), [], "int64")
 
-    def test_arrays_that_are_views(self):
-        cells = numpy.array(cells_in(29, 600))
-        wanted = ring2nest(2**29, cells.tolist())
-        self.assertArray(ring2nest(2**29, cells[::-1]), wanted[::-1], "int64")
-        self.assertArray(ring2nest(2**29, cells[1::3]), wanted[1::3], "int64")
+    def test_views_of_arrays(self) -> None:
+        cells = numpy.array(random_cells(29, 600))
+        expected = ring2nest(2**29, cells.tolist())
+        self.assertArray(ring2nest(2**29, cells[::-1]), expected[::-1], "int64")
+        self.assertArray(ring2nest(2**29, cells[1::3]), expected[1::3], "int64")
         records = numpy.zeros(600, numpy.dtype([("name", "S3"), ("cell", ">i8")]))
         records["cell"] = cells
-        self.assertArray(ring2nest(2**29, records["cell"]), wanted, "int64")
+        self.assertArray(ring2nest(2**29, records["cell"]), expected, "int64")
         shifted = numpy.frombuffer(b"." + cells.tobytes(), "i8", offset=1)
-        self.assertArray(ring2nest(2**29, shifted), wanted, "int64")
+        self.assertArray(ring2nest(2**29, shifted), expected, "int64")
         self.assertTrue(_arrays.numbers_of(shifted).numbers.flags.aligned)
         bits = numpy.frombuffer(b"." + cells.tobytes(), numpy.uint8)[1:].view(numpy.uint64)
         self.assertFalse(bits.flags.aligned)
-        self.assertArray(ring2nest(2**29, bits), wanted, "int64")
+        self.assertArray(ring2nest(2**29, bits), expected, "int64")
         self.assertArray(MOC.full().contains(bits), [True] * 600, "bool")
         self.assertEqual(MOC.from_healpix_cells(bits, 29), MOC.from_healpix_cells(cells, 29))
         pairs = numpy.frombuffer(b"." + numpy.array([[3, 7], [9, 20]]).tobytes(), numpy.uint8)[1:].view(numpy.uint64).reshape(2, 2)
@@ -70,9 +78,9 @@ class WithNumpy(TestCase):
         self.assertEqual(MOC.from_ranges(pairs), MOC.from_ranges([(3, 7), (9, 20)]))
         frozen = cells.copy()
         frozen.flags.writeable = False
-        self.assertArray(ring2nest(2**29, frozen), wanted, "int64")
+        self.assertArray(ring2nest(2**29, frozen), expected, "int64")
 
-    def test_shapes(self):
+    def test_shapes(self) -> None:
         cells = numpy.arange(24).reshape(2, 3, 4)
         self.assertEqual(nest2ring(2, cells).shape, (2, 3, 4))
         self.assertEqual(neighbours(cells, 1).shape, (2, 3, 4, 8))
@@ -83,21 +91,21 @@ class WithNumpy(TestCase):
         self.assertEqual((one, type(one)), (0, numpy.int64))
         self.assertArray(neighbours(numpy.int64(3), 2), [0, 1, 2, 4, 6, 8, 9, 12], "int64")
 
-    def test_neighbours_that_are_not_there(self):
+    def test_missing_neighbours(self) -> None:
         self.assertArray(neighbours(numpy.array([0, 1]), 1), [[1, 2, 3, 17, 19, 22, 23, 35], [0, 2, 3, 6, 7, 22, 23, -1]], "int64")
         self.assertArray(get_all_neighbours(2, numpy.int64(1)), [0, 2, 3, 7, 6, -1, 23, 22], "int64")
         self.assertArray(get_all_neighbours(1, numpy.array([0, 4])), list(zip(
             [4, -1, 3, 2, 1, -1, 5, 8], [11, 7, 3, -1, 0, 5, 8, -1])), "int64")
 
-    def test_pairs_and_triples(self):
-        cells = numpy.array(cells_in(20, 500))
+    def test_pairs_and_triples(self) -> None:
+        cells = numpy.array(random_cells(20, 500))
         nsides, back = uniq2nest(nest2uniq(2**20, cells))
         self.assertArray(nsides, [2**20] * 500, "int64")
         self.assertArray(back, cells, "int64")
-        for found, told in zip(pix2xyf(2**20, cells), pix2xyf(2**20, cells.tolist())):
-            self.assertArray(found, told, "int64")
+        for actual, expected in zip(pix2xyf(2**20, cells), pix2xyf(2**20, cells.tolist())):
+            self.assertArray(actual, expected, "int64")
 
-    def test_faults_have_their_places(self):
+    def test_errors_have_positions(self) -> None:
         self.assertFault("NoSuchCell", (1,), nest2ring, 2, numpy.array([0, -1, 48]))
         self.assertFault("NoSuchCell", (3,), neighbours, numpy.array([[0, 1], [2, 48]]), 1)
         self.assertFault("NoSuchCell", (1,), get_all_neighbours, 2, numpy.array([0, 48]))
@@ -108,8 +116,8 @@ class WithNumpy(TestCase):
             with self.assertRaises(ValueError):
                 MOC.from_ranges(numpy.zeros(shape, "int64"))
 
-    def test_sets_there_and_back(self):
-        cells = numpy.array(cells_in(8, 2000))
+    def test_sets_as_arrays(self) -> None:
+        cells = numpy.array(random_cells(8, 2000))
         moc = MOC.from_healpix_cells(cells, 8)
         self.assertEqual(moc, MOC.from_healpix_cells(cells.tolist(), 8))
         self.assertEqual(moc, MOC.from_healpix_cells(cells, numpy.full(2000, 8)))
@@ -121,15 +129,15 @@ class WithNumpy(TestCase):
         self.assertEqual((MOC().to_depth29_ranges.shape, MOC().uniq_hpx.shape), ((0, 2), (0,)))
         self.assertEqual(MOC.from_ranges(MOC().to_depth29_ranges), MOC())
 
-    def test_contains_beside_searching(self):
+    def test_contains_and_search(self) -> None:
         for count in (0, 1, 30, 30_000):
-            moc = MOC.from_healpix_cells(cells_in(9, count), 9)
+            moc = MOC.from_healpix_cells(random_cells(9, count), 9)
             bounds = moc.to_depth29_ranges.astype("int64").reshape(-1)
             for length in (0, 1, 2000, 600_000):
                 inside = bounds[:length] + NUMBERS.randrange(-1, 2)
-                pixels = numpy.concatenate([numpy.array(cells_in(29, length), "int64"), inside, [0, PIXELS - 1, PIXELS, -1]])
+                pixels = numpy.concatenate([numpy.array(random_cells(29, length), "int64"), inside, [0, PIXELS - 1, PIXELS, -1]])
                 numpy.random.default_rng(count).shuffle(pixels)
-                wanted = numpy.searchsorted(bounds, pixels, side="right") % 2 == 1
-                self.assertArray(moc.contains(pixels), wanted, "bool")
-                self.assertArray(moc.contains(numpy.sort(pixels)), wanted[numpy.argsort(pixels)], "bool")
-            self.assertEqual(moc.contains(pixels[:3000].tolist()), wanted[:3000].tolist())
+                expected = numpy.searchsorted(bounds, pixels, side="right") % 2 == 1
+                self.assertArray(moc.contains(pixels), expected, "bool")
+                self.assertArray(moc.contains(numpy.sort(pixels)), expected[numpy.argsort(pixels)], "bool")
+            self.assertEqual(moc.contains(pixels[:3000].tolist()), expected[:3000].tolist())

@@ -1,7 +1,11 @@
-"""Faults: each with its name and its place; what is no number at all; and want of memory."""
+"""Errors: their names and positions, arguments of invalid types, and allocation failures."""
+from __future__ import annotations
+
 import pickle
 import subprocess
 import sys
+from collections.abc import Callable, Sequence
+from typing import Any
 
 from ploverchaise import MOC, MocError, get_all_neighbours, neighbours, nest2ring, nest2uniq, pix2xyf, ring2nest, uniq2nest
 
@@ -18,7 +22,7 @@ JSON = [
     ('{"0":[1],"2":[5,6,1.5]}', "NotWhole", (1, 2)), ('{"1":[0,48]}', "CellTooLarge", (0, 1)),
 ]
 UNIQ = [("4\nx\n", "BadByte", (2,)), ("4\n\n3", "NotUniq", (3,)), ("4611686018427387904", "NotUniq", (1,))]
-# Makes complements, of 200,000 ranges each, until no memory is left: then says so, and whether all that were made are as they were.
+# Makes complements of 200,000 ranges each until an allocation fails. Prints the error, and whether all complements are unchanged.
 UNTIL_NO_MEMORY = """
 import resource
 from ploverchaise import MOC
@@ -35,25 +39,27 @@ except MemoryError as error:
 """
 
 
-class Faults(TestCase):
-    """What is refused, and where."""
+class Errors(TestCase):
+    """Errors and their positions."""
 
-    def test_texts(self):
-        for form, rows in (("ascii", ASCII), ("json", JSON), ("uniq", UNIQ)):
+    def test_texts(self) -> None:
+        formats: list[tuple[str, Sequence[tuple[str, str, tuple[int, ...]]]]] = [("ascii", ASCII), ("json", JSON), ("uniq", UNIQ)]
+        for text_format, rows in formats:
             for text, name, place in rows:
-                with self.subTest(form=form, text=text):
-                    self.assertFault(name, place, MOC.from_string, text, form)
+                with self.subTest(format=text_format, text=text):
+                    self.assertFault(name, place, MOC.from_string, text, text_format)
         self.assertFault("CellTooLarge", (0, 1), MOC.from_json, {"1": [0, 48]})
 
-    def test_ranges(self):
+    def test_ranges(self) -> None:
         self.assertFault("Backwards", (0,), MOC.from_ranges, [(5, 4)])
         self.assertFault("PixelTooLarge", (1,), MOC.from_ranges, [(0, 1), (0, PIXELS + 1)])
         self.assertFault("Backwards", (2,), MOC.from_ranges, [(0, 1), (1, 2), (-1, 3), (2, 1)])
-        for ranges in ([(1, 2, 3)], [(1,)], [3]):
+        invalid: list[Any] = [[(1, 2, 3)], [(1,)], [3]]
+        for ranges in invalid:
             with self.assertRaises((TypeError, ValueError)):
                 MOC.from_ranges(ranges)
 
-    def test_cells(self):
+    def test_cells(self) -> None:
         self.assertFault("NoSuchCell", (2,), MOC.from_healpix_cells, [0, 47, 48, 49], 1)
         self.assertFault("NoSuchCell", (1,), MOC.from_healpix_cells, [0, -1], 29)
         self.assertFault("NoSuchCell", (3,), MOC.from_healpix_cells, [0, 47, 11, 12], [0, 1, 0, 0])
@@ -62,7 +68,7 @@ class Faults(TestCase):
         with self.assertRaises(ValueError):
             MOC.from_healpix_cells([0, 1], [0])
 
-    def test_numbers(self):
+    def test_numbers(self) -> None:
         for call in (nest2ring, ring2nest, nest2uniq, pix2xyf, get_all_neighbours):
             self.assertFault("NoSuchCell", (1,), call, 2, [47, 48, 0])
             self.assertFault("NoSuchCell", (0,), call, 2, -1)
@@ -70,53 +76,61 @@ class Faults(TestCase):
         self.assertFault("NoSuchCell", (2,), neighbours, [0, 1, 48], 1)
         self.assertFault("NotUniq", (2,), uniq2nest, [4, 2**62 - 1, 3])
 
-    def test_orders(self):
+    def test_orders(self) -> None:
         moc = MOC.from_string("0/0")
-        calls = [moc.degrade_to_order, MOC.new_empty, lambda order: neighbours([0], order), lambda order: moc.to_string(max_order=order),
-                 lambda order: MOC.from_healpix_cells([0], order), lambda order: MOC.from_depth29_ranges(order, [])]
+        calls: list[Callable[[int], object]] = [
+            moc.degrade_to_order, MOC.new_empty, lambda order: neighbours([0], order), lambda order: moc.to_string(max_order=order),
+            lambda order: MOC.from_healpix_cells([0], order), lambda order: MOC.from_depth29_ranges(order, [])]
         for call in calls:
             for order in (-1, 30, 255, 256, 2**64):
                 self.assertFault("NoSuchOrder", (order,), call, order)
         self.assertFault("NoSuchOrder", (30,), MOC.from_healpix_cells, [0, 0], [0, 30])
 
-    def test_stated_order_is_too_coarse(self):
+    def test_stated_order_is_too_coarse(self) -> None:
         moc = MOC.from_string("1/1-2 4 2/12-14 21 23 25 8/")
-        for form in ("ascii", "json"):
-            self.assertFault("TooCoarse", (), moc.to_string, form, max_order=1)
+        for text_format in ("ascii", "json"):
+            self.assertFault("TooCoarse", (), moc.to_string, text_format, max_order=1)
 
-    def test_no_whole_numbers(self):
-        for given in (1.5, [1.5], ["1"], "12", [None], None, [[1, 2], [3, 4]]):
-            for call in (lambda given: nest2ring(2, given), MOC.full().contains, MOC.from_uniq):
-                with self.subTest(given=given), self.assertRaises(TypeError):
-                    call(given)
-        for text in (5, None, ["0/0"]):
+    def test_arguments_that_are_not_integers(self) -> None:
+        arguments: list[Any] = [1.5, [1.5], ["1"], "12", [None], None, [[1, 2], [3, 4]]]
+        calls: list[Callable[[Any], object]] = [lambda numbers: nest2ring(2, numbers), MOC.full().contains, MOC.from_uniq]
+        for argument in arguments:
+            for call in calls:
+                with self.subTest(argument=argument), self.assertRaises(TypeError):
+                    call(argument)
+        texts: list[Any] = [5, None, ["0/0"]]
+        for text in texts:
             with self.assertRaises(TypeError):
                 MOC.from_string(text)
+        fraction: Any = 1.5
         with self.assertRaises(TypeError):
-            1.5 in MOC.full()
+            _ = fraction in MOC.full()
         with self.assertRaises(TypeError):
-            MOC.full().degrade_to_order(1.5)
+            MOC.full().degrade_to_order(fraction)
 
-    def test_forms(self):
-        for call in (lambda: MOC.from_string("", "fits"), lambda: MOC().to_string("fits"), lambda: MOC().serialize("fits")):
+    def test_formats(self) -> None:
+        calls: list[Callable[[], object]] = [lambda: MOC.from_string("", "fits"), lambda: MOC().to_string("fits"),
+                                             lambda: MOC().serialize("fits")]
+        for call in calls:
             with self.assertRaises(ValueError):
                 call()
 
-    def test_a_refusal_leaves_all_as_it_was(self):
+    def test_errors_leave_sets_unchanged(self) -> None:
         moc = MOC.from_string("0/0 1/4-5")
         self.assertFault("BadByte", (3,), MOC.from_string, "5/7x")
         self.assertFault("TooCoarse", (), moc.to_string, max_order=0)
         self.assertEqual(str(moc), "0/0 1/4-5")
 
-    def test_want_of_memory(self):
-        ran = subprocess.run([sys.executable, "-c", UNTIL_NO_MEMORY], stdout=subprocess.PIPE, text=True, timeout=60)
-        self.assertEqual(ran.stdout, "no memory is left for a coverage True True\n")
+    def test_allocation_failures(self) -> None:
+        result = subprocess.run([sys.executable, "-c", UNTIL_NO_MEMORY], stdout=subprocess.PIPE, text=True, timeout=60)
+        self.assertEqual(result.stdout, "no memory is left for a coverage True True\n")
 
-    def test_errors_are_values(self):
-        with self.assertRaises(ValueError) as caught:
+    def test_errors_are_value_errors(self) -> None:
+        self.assertTrue(issubclass(MocError, ValueError))
+        with self.assertRaises(MocError) as caught:
             MOC.from_json('{"1":[0,48]}')
         error = caught.exception
         self.assertEqual(str(error), "CellTooLarge: an item is no cell of its order (name 0, item 1)")
-        again = pickle.loads(pickle.dumps(error))
-        self.assertIsInstance(again, MocError)
-        self.assertEqual((again.code, again.name, again.place, str(again)), (error.code, error.name, error.place, str(error)))
+        copy = pickle.loads(pickle.dumps(error))
+        self.assertIsInstance(copy, MocError)
+        self.assertEqual((copy.code, copy.name, copy.place, str(copy)), (error.code, error.name, error.place, str(error)))

@@ -1,13 +1,17 @@
-"""Sets: worked values, and random sets beside Python's own."""
+"""Sets: examples, and comparisons of random sets with those of Python."""
+from __future__ import annotations
+
 import copy
 import pickle
 import xml.etree.ElementTree
+from collections.abc import Callable, Iterator
+from typing import Any
 
 from ploverchaise import MOC, nest2ring
 
-from .common import BASE, NUMBERS, PIXELS, TestCase, cells_in, runs
+from .common import BASE, NUMBERS, PIXELS, TestCase, random_cells, sorted_ranges
 
-# Texts of the ASCII form, with the set's text where no order is stated, and its deepest order.
+# ASCII texts, the text of the set without a MOC order, and the deepest order of its cells.
 ASCII = [
     ("", "", 0), ("8/", "", 0), ("0/0 1/3", "0/0", 0), ("2/0-3", "1/0", 1), ("2/0-3,1/1 1/2,3", "0/0", 0),
     ("1/1-2 4 2/12-14 21 23 25 8/", "1/1-2 4 2/12-14 21 23 25", 2), ("1/1 2 4\n2/12-14 21 23 25 \n8/", "1/1-2 4 2/12-14 21 23 25", 2),
@@ -15,17 +19,17 @@ ASCII = [
 ]
 
 
-class Worked(TestCase):
-    """Worked values."""
+class Examples(TestCase):
+    """Examples."""
 
-    def test_ascii_is_read_and_written(self):
-        for text, told, deepest in ASCII:
+    def test_ascii(self) -> None:
+        for text, expected, deepest in ASCII:
             with self.subTest(text=text):
                 moc = MOC.from_string(text)
-                self.assertEqual((moc.to_string(), str(moc), moc.max_order), (told, told, deepest))
+                self.assertEqual((moc.to_string(), str(moc), moc.max_order), (expected, expected, deepest))
                 self.assertEqual(MOC.from_string(text.encode()), moc)
 
-    def test_stated_orders_are_written(self):
+    def test_moc_orders(self) -> None:
         moc = MOC.from_string("1/1-2 4 2/12-14 21 23 25")
         self.assertEqual(moc.to_string(max_order=8), "1/1-2 4 2/12-14 21 23 25 8/")
         self.assertEqual(moc.to_string("json", max_order=8), '{"1":[1,2,4],"2":[12,13,14,21,23,25],"8":[]}')
@@ -33,35 +37,35 @@ class Worked(TestCase):
         self.assertEqual(MOC().to_string("json"), "{}")
         self.assertEqual(MOC.from_string("1/0-3").to_string(max_order=2), "0/0 2/")
 
-    def test_json_is_read_and_written(self):
+    def test_json(self) -> None:
         moc = MOC.from_json('{"10":[],"2":[5],"1":[1]}')
         self.assertEqual(moc.to_string("json", max_order=10), '{"1":[1],"10":[]}')
         self.assertEqual(moc, MOC.from_json({"2": [5], "1": [1]}))
         self.assertEqual(moc.serialize(), {"1": [1]})
         self.assertEqual(moc.serialize("str"), "1/1")
 
-    def test_uniq_is_read_and_written(self):
+    def test_uniq(self) -> None:
         self.assertEqual(MOC.from_string("16\n17\n\n18\n19", "uniq").to_string(), "0/0")
         moc = MOC.from_string("1/1-2 4 2/12-14 21 23 25")
         self.assertEqual(moc.to_string("uniq").split("\n"), ["17", "18", "20", "76", "77", "78", "85", "87", "89"])
         self.assertEqual(MOC.from_uniq([17, 18, 20, 76, 77, 78, 85, 87, 89]), moc)
         self.assertEqual(MOC().to_string("uniq"), "")
 
-    def test_ranges_are_joined(self):
+    def test_ranges_are_merged(self) -> None:
         moc = MOC.from_ranges([(4, 8), (8, 9), (0, 4)])
         self.assertRanges(moc, [(0, 9)])
         self.assertEqual(moc.to_string(), "28/0-1 29/8")
         self.assertRanges(MOC.from_ranges([(7, 7)]), [])
         self.assertRanges(MOC.from_ranges(iter([(0, 8)])) ^ MOC.from_ranges([(4, 12)]), [(0, 4), (8, 12)])
 
-    def test_cells_of_sets(self):
+    def test_cells_of_sets(self) -> None:
         self.assertEqual(MOC.from_ranges([(3, 9)]).cells(), [(28, 1), (29, 3), (29, 8)])
         rest = (~MOC.from_ranges([(0, 1)])).cells()
         self.assertEqual((len(rest), rest[0], rest[-1]), (98, (0, 1), (29, 3)))
         self.assertRanges(MOC.from_healpix_cells([47], 1), [(3386706919782612992, PIXELS)])
         self.assertEqual(MOC.full().cells(), [(0, cell) for cell in range(12)])
 
-    def test_operations(self):
+    def test_operations(self) -> None:
         a, b = MOC.from_string("0/0 1/4-5"), MOC.from_json({"1": [3, 4, 6, 7], "2": [20, 32]})
         self.assertEqual(str(a | b), "0/0-1 2/32")
         self.assertEqual(str(a & b), "1/3-4 2/20")
@@ -72,7 +76,7 @@ class Worked(TestCase):
         self.assertEqual(a.sky_fraction, 0.125)
         self.assertEqual(a.count_common(b), 9 * BASE // 16)
 
-    def test_degrading(self):
+    def test_degrading(self) -> None:
         self.assertRanges(MOC.from_ranges([(3, 4)]).degrade_to_order(28), [(0, 4)])
         self.assertEqual(str(MOC.from_string("0/0 1/4-5").degrade_to_order(0)), "0/0-1")
         self.assertRanges(MOC.from_depth29_ranges(28, [(3, 4)]), [(0, 4)])
@@ -80,33 +84,33 @@ class Worked(TestCase):
         self.assertRanges(MOC.from_healpix_cells([3], 29, max_depth=28), [(0, 4)])
         self.assertRanges(MOC.from_healpix_cells([3, 2], [29, 28], max_depth=28), [(0, 4), (8, 12)])
 
-    def test_cells_of_several_orders(self):
+    def test_cells_of_several_orders(self) -> None:
         self.assertEqual(str(MOC.from_healpix_cells([0, 4, 5, 20], [0, 1, 1, 2])), "0/0 1/4-5")
         self.assertEqual(str(MOC.from_healpix_cells(7, 1)), "1/7")
 
-    def test_generators_keep_their_order(self):
+    def test_generators_keep_their_order(self) -> None:
         moc = MOC.from_ranges([(3, 9)])
         self.assertEqual(moc.contains(pixel for pixel in (8, 0, 3, 9)), [True, False, True, False])
         self.assertEqual(nest2ring(2, (cell for cell in (3, 0, 18))), [0, 13, 27])
 
-    def test_figures(self):
-        told = MOC.from_string("1/0-3 2/20").describe().split("\n")
-        self.assertEqual(told, ["pixels 306244774661193728", "share 0.088541666666", "ranges 2", "cells 2", "order 0 1", "order 2 1"])
+    def test_statistics(self) -> None:
+        lines = MOC.from_string("1/0-3 2/20").describe().split("\n")
+        self.assertEqual(lines, ["pixels 306244774661193728", "share 0.088541666666", "ranges 2", "cells 2", "order 0 1", "order 2 1"])
 
-    def test_picture_is_svg(self):
+    def test_picture_is_svg(self) -> None:
         picture = MOC.from_string("0/4").draw()
         root = xml.etree.ElementTree.fromstring(picture)
         self.assertEqual(root.tag, "{http://www.w3.org/2000/svg}svg")
-        # (base pixel 4 alone is a diamond at the left edge, and one more at the right)
+        # Base pixel 4 is a diamond at the left edge and another one at the right edge.
         self.assertIn("M0 128l128 128-128 128-128-128z", picture)
         self.assertEqual(MOC.from_string("0/4")._repr_svg_(), picture)
         self.assertNotEqual(MOC().draw(), picture)
 
 
 class Objects(TestCase):
-    """What makes a set an object of Python."""
+    """Sets as objects of Python."""
 
-    def test_empty(self):
+    def test_empty(self) -> None:
         for moc in (MOC(), MOC.new_empty(5), MOC.from_ranges([]), MOC.from_uniq([]), MOC.from_healpix_cells([], 3), ~MOC.full()):
             self.assertRanges(moc, [])
             self.assertTrue(moc.empty())
@@ -114,36 +118,40 @@ class Objects(TestCase):
         self.assertTrue(MOC.full())
         self.assertEqual(MOC.full().count(), PIXELS)
 
-    def test_equal_sets_have_one_hash(self):
+    def test_equal_sets_have_one_hash(self) -> None:
         one, other = MOC.from_string("1/0-3"), MOC.from_string("0/0")
         self.assertEqual(one, other)
         self.assertEqual(len({one, other, MOC.from_string("0/1")}), 2)
         self.assertNotEqual(one, MOC.from_string("0/1"))
         self.assertNotEqual(one, "0/0")
 
-    def test_never_changed(self):
+    def test_sets_are_immutable(self) -> None:
         moc = MOC.from_string("0/0")
         with self.assertRaises(AttributeError):
-            moc.max_order = 3
+            setattr(moc, "max_order", 3)
         with self.assertRaises(AttributeError):
-            moc.name = "mine"
+            setattr(moc, "name", "mine")
         before = moc
         moc |= MOC.from_string("0/1")
         self.assertEqual((str(before), str(moc)), ("0/0", "0/0-1"))
 
-    def test_copies_and_pickles(self):
+    def test_copies_and_pickles(self) -> None:
         moc = MOC.from_string("1/1-2 4 2/12-14 21 23 25 29/77")
-        for made in (copy.copy(moc), copy.deepcopy(moc), pickle.loads(pickle.dumps(moc))):
-            self.assertEqual(made, moc)
+        for other in (copy.copy(moc), copy.deepcopy(moc), pickle.loads(pickle.dumps(moc))):
+            self.assertEqual(other, moc)
         self.assertEqual(pickle.loads(pickle.dumps(MOC())), MOC())
 
-    def test_shown(self):
+    def test_repr(self) -> None:
         self.assertEqual(repr(MOC.from_string("0/0 1/4-5")),
                          "<MOC: 432345564227567616 pixels, 0.125 of the sky, 1 ranges, deepest order 1>")
 
-    def test_other_operands(self):
+    def test_other_operands(self) -> None:
         moc = MOC.from_string("0/0")
-        for call in (lambda: moc | 3, lambda: moc - "0/0", lambda: moc.union("0/0"), lambda: moc.meets({0})):
+        number: Any = 3
+        text: Any = "0/0"
+        cells: Any = {0}
+        calls: list[Callable[[], object]] = [lambda: moc | number, lambda: moc - text, lambda: moc.union(text), lambda: moc.meets(cells)]
+        for call in calls:
             with self.assertRaises(TypeError):
                 call()
         self.assertEqual(moc.union(), moc)
@@ -153,23 +161,24 @@ class Objects(TestCase):
 
 
 class Random(TestCase):
-    """Sets of random cells, beside Python's own sets: of numbers of the order at hand, or of few pixels, each by its number."""
+    """Sets of random cells of one order, compared with sets of their numbers."""
 
-    def pairs(self):
-        """Two sets of cells of one order, as Python's and as here."""
+    def pairs(self) -> Iterator[tuple[int, set[int], set[int], MOC, MOC]]:
+        """Returns orders, each with two sets of its cells, as sets of Python and as coverages."""
         for order in (0, 1, 2, 4, 6, 29):
             for count in (0, 1, 7, 300):
-                some, more = cells_in(order, count), cells_in(order, 100)
+                some, more = random_cells(order, count), random_cells(order, 100)
                 if order == 29:
-                    # (few pixels side by side, at either end of the sky)
+                    # A few adjacent pixels at either end of the sky.
                     some, more = ([at % 200 + (at % 2) * (PIXELS - 200) for at in cells] for cells in (some, more))
                 yield order, set(some), set(more), MOC.from_healpix_cells(some, order), MOC.from_healpix_cells(more, order)
 
-    def assertCells(self, moc, order, cells):
+    def assertCells(self, moc: MOC, order: int, cells: set[int]) -> None:
+        """Checks that a coverage consists of these cells of an order."""
         size = 4**(29 - order)
-        self.assertRanges(moc, [(start * size, end * size) for start, end in runs(cells)])
+        self.assertRanges(moc, [(start * size, end * size) for start, end in sorted_ranges(cells)])
 
-    def test_operations(self):
+    def test_operations(self) -> None:
         for order, a, b, moc_a, moc_b in self.pairs():
             with self.subTest(order=order, cells=len(a)):
                 self.assertCells(moc_a, order, a)
@@ -181,47 +190,47 @@ class Random(TestCase):
                 self.assertEqual(moc_a.covers(moc_b), a >= b)
                 self.assertEqual(moc_a.count_common(moc_b), len(a & b) * 4**(29 - order))
                 self.assertEqual(moc_a == moc_b, a == b)
-                self.assertIn(moc_a & moc_b, moc_a)
+                self.assertTrue((moc_a & moc_b) in moc_a)
                 if order < 7:
                     self.assertCells(~moc_a, order, set(range(12 * 4**order)) - a)
 
-    def test_figures_and_cells(self):
+    def test_counts_and_cells(self) -> None:
         for order, a, _, moc, _ in self.pairs():
             with self.subTest(order=order, cells=len(a)):
                 self.assertEqual(moc.count(), len(a) * 4**(29 - order))
-                self.assertEqual(moc.range_count(), len(runs(a)))
+                self.assertEqual(moc.range_count(), len(sorted_ranges(a)))
                 self.assertEqual(moc.empty(), not a)
                 cells = moc.cells()
                 self.assertEqual(moc.max_order, max((depth for depth, _ in cells), default=0))
                 self.assertEqual(cells, sorted(cells))
                 self.assertEqual({cell for depth, first in cells for shift in [2 * (order - depth)]
                                   for cell in range(first << shift, (first + 1) << shift)}, a)
-                found = set(cells)
+                cell_set = set(cells)
                 for depth, cell in cells:
-                    self.assertFalse(depth and all((depth, cell // 4 * 4 + at) in found for at in range(4)), "four siblings")
+                    self.assertFalse(depth and all((depth, cell // 4 * 4 + at) in cell_set for at in range(4)), "four siblings")
 
-    def test_degraded(self):
+    def test_degrade(self) -> None:
         for order, a, _, moc, _ in self.pairs():
             for coarse in range(0, order, max(1, order // 3)):
                 with self.subTest(order=order, coarse=coarse):
                     self.assertCells(moc.degrade_to_order(coarse), coarse, {cell >> 2 * (order - coarse) for cell in a})
 
-    def test_contains(self):
+    def test_contains(self) -> None:
         for order, a, b, moc, _ in self.pairs():
             size = 4**(29 - order)
             pixels = [cell * size + NUMBERS.randrange(size) for cell in sorted(b) + list(a)] + [PIXELS, 2**64 - 1, 2**64, -1]
-            wanted = [pixel // size in a for pixel in pixels]
-            self.assertEqual(moc.contains(pixels), wanted)
-            self.assertEqual([pixel in moc for pixel in pixels], wanted)
-            self.assertEqual([moc.contains(pixel) for pixel in pixels[:3]], wanted[:3])
+            expected = [pixel // size in a for pixel in pixels]
+            self.assertEqual(moc.contains(pixels), expected)
+            self.assertEqual([pixel in moc for pixel in pixels], expected)
+            self.assertEqual([moc.contains(pixel) for pixel in pixels[:3]], expected[:3])
 
-    def test_texts_are_read_back(self):
+    def test_texts_and_back(self) -> None:
         for _, _, _, moc, other in self.pairs():
-            for form in ("ascii", "json", "uniq"):
+            for text_format in ("ascii", "json", "uniq"):
                 for one in (moc, other, moc ^ other):
-                    self.assertEqual(MOC.from_string(one.to_string(form), form), one)
+                    self.assertEqual(MOC.from_string(one.to_string(text_format), text_format), one)
 
-    def test_made_again(self):
+    def test_ranges_and_cells_and_back(self) -> None:
         for _, _, _, moc, _ in self.pairs():
             self.assertEqual(MOC.from_ranges(reversed(moc.ranges())), moc)
             cells = moc.cells()

@@ -1,5 +1,8 @@
-"""Sets that threads change at the same time."""
+"""Shared maps, which threads change at the same time."""
+from __future__ import annotations
+
 import threading
+from typing import Any
 from unittest import mock
 
 from ploverchaise import MOC, Client, MocError, SharedMap, _library
@@ -7,17 +10,17 @@ from ploverchaise import MOC, Client, MocError, SharedMap, _library
 from .common import BASE, TestCase
 
 THREADS, TURNS = 6, 400
-FAULTS = [
-    ("grow 0/0", "UnknownWord"), ("", "EmptyCommand"), ("invert;", "EmptyCommand"), (";" * 16, "TooManyCommands"), ("invert 3", "WrongCount"),
-    ("degrade x", "BadNumber"), ("add @30 0/0", "OrderTooLarge"), ("near 0 12", "CellTooLarge"), ("add 0/x", "BadByte"), ("add 7", "NoOrder"),
-    ("add 5/7-3", "Backwards"), ("add 5/7-", "Unfinished"), ("add 0/é", "BadByte"),
+ERRORS = [
+    ("grow 0/0", "UnknownWord"), ("", "EmptyCommand"), ("invert;", "EmptyCommand"), (";" * 16, "TooManyCommands"),
+    ("invert 3", "WrongCount"), ("degrade x", "BadNumber"), ("add @30 0/0", "OrderTooLarge"), ("near 0 12", "CellTooLarge"),
+    ("add 0/x", "BadByte"), ("add 7", "NoOrder"), ("add 5/7-3", "Backwards"), ("add 5/7-", "Unfinished"), ("add 0/é", "BadByte"),
 ]
 
 
 class OneThread(TestCase):
-    """What a map answers."""
+    """Calls of one thread."""
 
-    def test_answers(self):
+    def test_answers(self) -> None:
         shared = SharedMap(MOC.from_string("0/0"), 2)
         first, second = shared.client(), shared.client()
         self.assertEqual(len({first.number, second.number}), 2)
@@ -29,98 +32,103 @@ class OneThread(TestCase):
         self.assertEqual(shared.moc(), MOC.from_string("0/0-1"))
         self.assertEqual(second.moc(timeout=0), MOC.from_string("0/0-1"))
 
-    def test_long_answers(self):
+    def test_long_answers(self) -> None:
         moc = MOC.from_healpix_cells(range(0, 3000, 2), 8)
         self.assertEqual(SharedMap(moc).apply("read 0/0-11"), f"cover {moc}")
         self.assertEqual(SharedMap().apply("read 0/0-11"), "cover")
 
-    def test_faults_change_nothing(self):
+    def test_errors_change_nothing(self) -> None:
         shared = SharedMap(MOC.from_string("0/4"))
-        told = shared.apply("count 0/4")
-        for line, name in FAULTS:
+        answer = shared.apply("count 0/4")
+        for line, name in ERRORS:
             with self.subTest(line=line):
                 self.assertFault(name, (), shared.apply, line)
                 self.assertFault(name, (), shared.apply, f"invert ; {line}" if line.strip("; ") else line)
-        self.assertEqual(shared._own.answer(), told)
+        self.assertEqual(shared._own.answer(), answer)
         self.assertEqual(str(shared.moc()), "0/4")
-        for line in (5, None, ["invert"]):
+        invalid: list[Any] = [5, None, ["invert"]]
+        for line in invalid:
             with self.assertRaises(TypeError):
                 shared.apply(line)
 
-    def test_clients_are_counted(self):
-        for clients in (0, 64, -1):
+    def test_clients_are_counted(self) -> None:
+        for count in (0, 64, -1):
             with self.assertRaises(ValueError):
-                SharedMap(clients=clients)
+                SharedMap(clients=count)
         shared = SharedMap(clients=63)
         clients = [shared.client() for _ in range(63)]
-        self.assertEqual(sorted(it.number for it in clients) + [63], list(range(64)))
+        self.assertEqual(sorted(client.number for client in clients) + [63], list(range(64)))
         self.assertFault("NoClient", (), shared.client)
-        # (who is gone is not replaced)
+        # A client that is deleted is not replaced.
         del clients
         self.assertFault("NoClient", (), shared.client)
         with self.assertRaises(TypeError):
             Client()
 
-    def test_a_map_lives_with_its_clients(self):
+    def test_a_map_lives_with_its_clients(self) -> None:
         shared = SharedMap(MOC.full(), 1)
         client = shared.client()
         del shared
         self.assertEqual(client.apply("keep 0/3 ; read 0/0-11"), f"changed {11 * BASE} ; cover 0/3")
         self.assertEqual(str(client.moc()), "0/3")
 
-    def test_a_call_within_a_call(self):
+    def test_a_call_within_a_call(self) -> None:
         client = SharedMap().client()
         with client._call(), self.assertRaises(RuntimeError):
             client.apply("invert")
         self.assertEqual(client.apply("count 0/0"), "total 0")
 
-    def test_seats_that_are_free_or_taken(self):
-        free, other, taken = _library.seat_opened(), _library.seat_opened(), SharedMap(clients=1)._own._seat
-        for name, arguments in (("map_apply", (b"invert",)), ("map_join", (other,))):
+    def test_handles_without_and_with_a_client(self) -> None:
+        free, other = _library.seat_opened(), _library.seat_opened()
+        used = getattr(SharedMap(clients=1)._own, "_seat")
+        calls: list[tuple[str, tuple[Any, ...]]] = [("map_apply", (b"invert",)), ("map_join", (other,))]
+        for name, arguments in calls:
             self.assertFault("NoMap", (), _library.on_seat, name, free, *arguments)
         self.assertFault("NoMap", (), _library.on_seat_and_desk, "map_set", free)
-        self.assertFault("SeatTaken", (), _library.on_seat, "map_join", free, taken)
-        self.assertFault("SeatTaken", (), _library.on_seat_and_desk, "map_begin", taken, 2**64 - 1, 65)
+        self.assertFault("SeatTaken", (), _library.on_seat, "map_join", free, used)
+        self.assertFault("SeatTaken", (), _library.on_seat_and_desk, "map_begin", used, 2**64 - 1, 65)
         self.assertFault("NoSuchSet", (2**64 - 1,), _library.on_seat_and_desk, "map_begin", free, 2**64 - 1, 65)
-        key = MOC()
+        moc = MOC()
         for clients in (0, 65, 255):
-            self.assertFault("BadCount", (clients,), _library.on_seat_and_desk, "map_begin", free, key._key, clients)
+            self.assertFault("BadCount", (clients,), _library.on_seat_and_desk, "map_begin", free, moc._key, clients)
 
 
 class Threads(TestCase):
     """Many threads on one map."""
 
-    def test_no_line_is_torn_and_none_is_lost(self):
+    def test_lines_are_atomic_and_complete(self) -> None:
         shared = SharedMap(clients=THREADS)
 
-        def work(client):
+        def work(client: Client) -> None:
             for turn in range(TURNS):
                 self.assertEqual(client.apply(f"claim 9/{client.number * TURNS + turn}"), "claimed")
                 client.apply("add 3/100 ; add 3/400 ; add 3/700" if turn % 2 else "remove 3/100 ; remove 3/400 ; remove 3/700")
-                told = client.apply("count 3/100 ; count 3/400 ; count 3/700")
-                self.assertIn(told, {f"total {4**26} ; total {4**26} ; total {4**26}", "total 0 ; total 0 ; total 0"})
+                answer = client.apply("count 3/100 ; count 3/400 ; count 3/700")
+                self.assertIn(answer, {f"total {4**26} ; total {4**26} ; total {4**26}", "total 0 ; total 0 ; total 0"})
 
-        self.in_threads([shared.client() for _ in range(THREADS)], work)
+        self.run_threads([shared.client() for _ in range(THREADS)], work)
         shared.apply("remove 3/100 400 700")
         self.assertEqual(shared.moc(), MOC.from_healpix_cells(range(THREADS * TURNS), 9))
 
-    def test_one_client_of_many_threads(self):
+    def test_one_client_of_many_threads(self) -> None:
         client = SharedMap().client()
 
-        def work(number):
+        def work(number: int) -> None:
             for turn in range(TURNS):
                 cell = number * TURNS + turn
                 self.assertEqual(client.apply(f"claim 9/{cell}"), "claimed")
 
-        self.in_threads(range(THREADS), work)
+        self.run_threads(range(THREADS), work)
         self.assertEqual(client.moc().count(), THREADS * TURNS * 4**20)
 
-    def test_a_timeout_ends(self):
-        """If a part stays held, a call tries once with 0 seconds, and again and again until its seconds have passed."""
+    def test_a_timeout_ends(self) -> None:
+        """Checks that a call that needs a held part tries once without a timeout, and repeatedly until its timeout has passed."""
         shared = SharedMap()
         client = shared.client()
-        for call, arguments in ((client.apply, ("invert",)), (shared.apply, ("invert",)), (client.moc, ()), (shared.moc, ())):
-            # (after so many tries, some five seconds of them, the list ends, and so does the call, by another error)
+        calls: list[tuple[Any, tuple[str, ...]]] = [(client.apply, ("invert",)), (shared.apply, ("invert",)), (client.moc, ()),
+                                                    (shared.moc, ())]
+        for call, arguments in calls:
+            # The list ends after about five seconds. Then the call ends with another error.
             busy = [MocError(74, 3, 5)] * 5000
             with mock.patch("ploverchaise.shared.on_seat", side_effect=busy) as line, \
                     mock.patch("ploverchaise.shared.on_seat_and_desk", side_effect=busy) as read:
@@ -129,17 +137,18 @@ class Threads(TestCase):
                 self.assertFault("Busy", (3, 5), call, *arguments, timeout=0.02)
                 self.assertGreater(line.call_count + read.call_count, 2)
 
-    def test_a_set_is_read_while_no_other_call_is_on_the_desk(self):
-        client, made = SharedMap().client(), []
-        thread = threading.Thread(target=lambda: made.append(client.moc()))
+    def test_a_set_is_read_under_the_lock_of_the_store(self) -> None:
+        client = SharedMap().client()
+        sets: list[MOC] = []
+        thread = threading.Thread(target=lambda: sets.append(client.moc()))
         with _library._lock:
             thread.start()
             thread.join(0.2)
-            self.assertEqual(made, [])
+            self.assertEqual(sets, [])
         thread.join()
-        self.assertEqual(made, [MOC()])
+        self.assertEqual(sets, [MOC()])
 
-    def test_busy_is_told(self):
+    def test_busy_is_reported(self) -> None:
         error = MocError(74, 3, 5)
         self.assertEqual((error.name, error.place), ("Busy", (3, 5)))
         self.assertEqual(str(error), "Busy: another client holds a part of the sky (part 3, client 5)")

@@ -1,16 +1,16 @@
-/* Makes sets and texts while one growth is refused (refuse.c): a call that answers MOC_MEMORY leaves all as it was, so the same call once
-   more does what it would have done; a desk or a seat that memory was refused for is none. It prints how many calls were refused; the
-   status is not 0 where anything else is answered. Built and run by library.py. */
+/* Makes sets and texts while one allocation fails (fail_allocation.c). A call that returns MOC_MEMORY changes nothing, so the same call
+   succeeds the next time. If opening a store or a handle fails, it is null. The program prints the number of failed calls. Its exit status
+   is 1 if a call returns anything unexpected. library.py builds and runs the program. */
 #include "moc.h"
 
 #include <stdio.h>
 #include <stdlib.h>
 #include <string.h>
 
-static unsigned refusals;
+static unsigned failures;
 static moc_desk desk;
 
-/* Ends the program where a condition does not hold. */
+/* Ends the program if a condition does not hold. */
 static void need(int line, bool holds)
 {
     if (!holds) {
@@ -20,12 +20,12 @@ static void need(int line, bool holds)
 }
 #define NEED(condition) need(__LINE__, condition)
 
-/* Makes a call, once more where memory was refused, with the sets of before: it then tells this number. */
+/* Makes a call, and repeats it if an allocation failed. The call returns this number. */
 #define DOES(call, number)                                  \
     do {                                                    \
         moc_outcome outcome = call;                         \
         if (outcome.code == MOC_MEMORY) {                   \
-            refusals++;                                     \
+            failures++;                                     \
             NEED(outcome.first == 0 && outcome.second == 0); \
             outcome = call;                                 \
         }                                                   \
@@ -36,14 +36,14 @@ static void open_seat(moc_seat *seat)
 {
     memset(seat, 0xff, sizeof *seat);
     if (!moc_seat_open(seat)) {
-        refusals++;
+        failures++;
         moc_seat_close(*seat);
         NEED(moc_map_answer(seat, NULL, 0).code == MOC_NULL);
         NEED(moc_seat_open(seat));
     }
 }
 
-/* Does a line, which has this answer. */
+/* Executes a line, and checks its answer. */
 static void does(moc_seat *seat, const char *line, const char *answer)
 {
     uint8_t text[128];
@@ -52,7 +52,7 @@ static void does(moc_seat *seat, const char *line, const char *answer)
     NEED(memcmp(text, answer, strlen(answer)) == 0);
 }
 
-/* Two seats at the map of set 5; its set is the next one on the desk. */
+/* Shares the map of set 5 between two handles, and reads its set into the store. */
 static void share(void)
 {
     moc_seat first, second;
@@ -76,7 +76,7 @@ int main(void)
     uint8_t text[64];
     memset(&desk, 0xff, sizeof desk);
     if (!moc_open(&desk)) {
-        refusals++;
+        failures++;
         moc_close(desk);
         NEED(moc_empty(&desk).code == MOC_NULL);
         NEED(moc_open(&desk));
@@ -109,7 +109,7 @@ int main(void)
     DOES(moc_describe(&desk, 3, MOC_NONE), 60);
     moc_outcome picture = moc_draw(&desk, 3);
     if (picture.code == MOC_MEMORY) {
-        refusals++;
+        failures++;
         picture = moc_draw(&desk, 3);
     }
     NEED(picture.code == MOC_DONE && picture.first > 0);
@@ -122,6 +122,6 @@ int main(void)
     NEED(moc_ranges(&desk, 0, out, 1000).first == 1000 && memcmp(out, ranges, sizeof out) == 0);
     share();
     moc_close(desk);
-    printf("%u\n", refusals);
+    printf("%u\n", failures);
     return 0;
 }
