@@ -17,7 +17,7 @@ struct FailingReader {
 impl Source for FailingReader {
     ghost use Rattle.std.specs.Prelude.{None, [], false};
 
-    ghost reading = { λ _. record { delivered = []; program_end = false; left = None } };
+    ghost reading = { λ _. record { delivered = []; ended = false; left = None } };
 
     ghost mark = { λ s. s.is_marked };
 
