@@ -1,9 +1,9 @@
 #!/usr/bin/env python3
 """Tests the library for C.
 
-- `tests/c/calls.c` calls each function of `moc.h` with valid, empty, short and invalid arguments. `tests/c/guards.c` calls each function
-  with each of its pointers null, not aligned, and overlapping another pointer. Both run with the sanitizers for addresses, undefined
-  behaviour and leaks, and without them.
+- `tests/c/calls.c` calls each function of `ploverchaise.h` with valid, empty, short and invalid arguments. `tests/c/guards.c` calls each
+  function with each of its pointers null, not aligned, and overlapping another pointer; `guard_rows.py` makes these calls from
+  `ploverchaise.h`. Both run with the sanitizers for addresses, undefined behaviour and leaks, and without them.
 - `tests/c/allocations.c` makes sets and texts while each allocation in turn fails (`tests/fail_allocation.c`).
 - The program of `docs/C.md` prints what the page says.
 - The header compiles as C99 and as C++. Its codes, functions, types and structs agree with those of the crate.
@@ -12,49 +12,40 @@
 The test links the library with `./moc library` into a temporary folder. The last line printed is `N passed, M failed`."""
 from __future__ import annotations
 
-import itertools
 import os
 import re
 import subprocess
 import sys
 import tempfile
-from collections import Counter
 
+from guard_rows import make_rows
 from tally import Tally
 
 TOP = os.path.dirname(os.path.dirname(os.path.abspath(__file__)))
 CRATE = os.path.join(TOP, "crates", "moc_c")
 sys.path.insert(0, os.path.join(TOP, "tools"))
-from guards import CLIENT, HEADER, PROVED, RESULT, STORE, Function, guards_source, parse_header  # noqa: E402
+from guards import CLIENT, HEADER, ID_FUNCTIONS, PROVED, RESULT, STORE, TEXTS, WRITTEN  # noqa: E402
+from guards import Function, guards_source, parse_header, proved_declaration  # noqa: E402
 
 CC, CXX = os.environ.get("CC", "cc"), os.environ.get("CXX", "c++")
 WARNINGS = ["-Wall", "-Wextra", "-Wpedantic", "-Werror"]
 SANITIZERS = ["-fsanitize=address,undefined", "-fno-sanitize-recover=all"]
 CODE = re.compile(r"^\s*(?:MOC|pub\(crate\) const) ?_?(\w+)(?:: u32)? = (\d+)", re.MULTILINE)
-# The codes of the header that the crate names otherwise.
-CODE_NAMES = {"OK": "DONE", "HANDLE_IN_USE": "SEAT_TAKEN"}
 # The codes that only guards return. No pointer that a guard passes to a proved function is invalid.
 GUARD_CODES = [("NULL", "9"), ("MISALIGNED", "80"), ("OVERLAP", "81")]
 # The functions and structs of the header, and those of the crate.
-DECLARATION = re.compile(rf"^(bool|void|{RESULT}) (moc_\w+)\(([^;]*)\);", re.MULTILINE)
+DECLARATION = re.compile(rf"^(?:MOC_CHECKED )?(bool|void|{RESULT}) (moc_\w+)\(([^;]*)\);", re.MULTILINE)
 STRUCT = re.compile(r"^typedef struct (moc_\w+) \{([^}]*)\}", re.MULTILINE)
 EXPORT = re.compile(r"extern \"C\" fn (moc_\w+)\(([^)]*)\)(?: -> (\w+))?")
 REPR_C = re.compile(r"^#\[repr\(C\)\]\n(?:#[^\n]*\n)*pub struct (\w+) \{\n(.*?)^\}", re.MULTILINE | re.DOTALL)
 COMMENT = re.compile(r"/\*.*?\*/", re.DOTALL)
-# The rows of guards.c with one invalid pointer: the kind, the number of the argument, the function and its arguments.
-ROW = re.compile(r"^ +(NULL|NONE|ASKEW|WRONG)_AT\((?:code, )?(\d+), (moc_\w+)\(([^()]*)\)", re.MULTILINE)
-# The rows of guards.c with two arguments that overlap.
-OVERLAP = re.compile(r"^ +OVERLAP_AT\((\d+), (\d+), (moc_\w+)\(", re.MULTILINE)
-# The invalid argument of each kind of row, and what the row tests. A wrong handle is each of those that its rows are called with.
-KINDS = {"NULL": ("NULL", ["NULL"]), "NONE": ("NULL", ["NONE"]), "ASKEW": ("askew", ["ASKEW"]), "WRONG": ("wrong", ["NULL", "ASKEW"])}
-WRONG = re.compile(r"^ +on_wrong_(desk|seat)\(MOC_(\w+), (?:&no_)?(\w+)\);", re.MULTILINE)
 # The types of the crate, and their types in C. C has no argument for a `Global`, and no field for a ghost field.
 TYPES = {"u8": "uint8_t", "u32": "uint32_t", "u64": "uint64_t", "bool": "bool", "[u64; 8]": "uint64_t[8]", "CallResult": RESULT,
          "Range": "moc_range", "Store": STORE, "ClientHandle": CLIENT, "*mut u8": "void*"}
 # Declarations that guards cannot check: another result, a pointer without a length, a length alone, elements without a size or with
 # pointers, and a `const` at another place.
 UNSUPPORTED = [f"int moc_x({STORE} *store);", f"{RESULT} *moc_x({STORE} *store);", f"bool moc_x({STORE} *out, uint8_t order);",
-               f"void moc_x({STORE} *store);", f"{RESULT} moc_x({STORE} store);", f"{RESULT} moc_x(const uint8_t *text);",
+               f"void moc_x({STORE} store);", f"{RESULT} moc_x({STORE} store);", f"{RESULT} moc_x(const uint8_t *text);",
                f"{RESULT} moc_x(const uint8_t *text, uint64_t length);", f"{RESULT} moc_x(const uint8_t **texts, size_t count);",
                f"{RESULT} moc_x(size_t length);", f"{RESULT} moc_x(void *at, size_t length);",
                f"{RESULT} moc_x(const void *at, size_t length);", f"{RESULT} moc_x(const {STORE} *stores, size_t count);",
@@ -118,10 +109,25 @@ def remove_name(declaration: str) -> str:
     return re.sub(r" ?\*", "*", re.sub(r"\b\w+$", "", declaration).strip().replace(" [", "["))
 
 
-def header_declarations() -> dict[str, list[str]]:
-    """Returns the types of each function of the header, with its result first, and of the fields of each struct."""
+def functions_in(text: str) -> dict[str, list[str]]:
+    """Returns the types of each function that a text in C declares, with its result first."""
+    return {name: [result, *map(remove_name, arguments.split(","))] for result, name, arguments in DECLARATION.findall(text)}
+
+
+def proved_functions() -> list[Function]:
+    """Returns the functions of the header that are guards of proved functions."""
+    return [function for function in parse_header(read_text(HEADER)) if function.name not in (*TEXTS, *WRITTEN)]
+
+
+def proved_prototype(function: Function) -> str:
+    """Returns the declaration of a proved function without its attribute."""
+    return proved_declaration(function).partition(" __attribute__")[0].rstrip(";\n")
+
+
+def proved_declarations() -> dict[str, list[str]]:
+    """Returns the types of each proved function, as the guards declare it, by its name in the crate, and of the fields of each struct."""
     text = COMMENT.sub("", read_text(HEADER))
-    declarations = {name: [result, *map(remove_name, arguments.split(","))] for result, name, arguments in DECLARATION.findall(text)}
+    declarations = functions_in("".join(f"{proved_prototype(function)};\n".replace(PROVED, "moc_") for function in proved_functions()))
     for name, fields in STRUCT.findall(text):
         declarations[name] = ["struct"]
         for line in fields.split(";"):
@@ -133,55 +139,34 @@ def header_declarations() -> dict[str, list[str]]:
 def check_header(tally: Tally, folder: str) -> None:
     """Checks that the header compiles as C99 and as C++, and that it agrees with the crate and with the tests."""
     for compiler, standard, name in ((CC, "c99", "header.c"), (CXX, "c++11", "header.cc")):
-        write_text(os.path.join(folder, name), '#include "moc.h"\n#include "moc.h"\nint main(void) { return MOC_NULL == 0; }\n')
+        write_text(os.path.join(folder, name), '#include "ploverchaise.h"\n' * 2 + "int main(void) { return MOC_NULL == 0; }\n")
         result = run([compiler, f"-std={standard}", *WARNINGS, f"-I{folder}", "-fsyntax-only", os.path.join(folder, name)])
         tally.check(result.returncode == 0, f"the header does not compile as {standard}\n{result.stderr}")
     header_codes = CODE.findall(read_text(HEADER))
-    codes = [(CODE_NAMES.get(name, name), number) for name, number in CODE.findall(read_text(CRATE, "src", "codes.rt"))]
+    codes = CODE.findall(read_text(CRATE, "src", "codes.rt"))
     tally.check(bool(codes), "the crate has no codes")
     tally.check_equal("the codes of the header", header_codes, sorted([*codes, *GUARD_CODES], key=lambda code: int(code[1])))
-    header, crate = header_declarations(), crate_declarations()
-    functions = [name for name in header if header[name][0] != "struct"]
+    declared, crate = proved_declarations(), crate_declarations()
+    tally.check_equal("the proved functions and structs", sorted(declared), sorted(crate))
+    for name in {*declared} & {*crate}:
+        tally.check_equal(f"the types of {name}", declared[name], crate[name])
+    contracts = re.findall(r'extern "C" fn moc_(\w+)\((.*?)\n\{', crate_sources(), re.DOTALL)
+    makers = {name for name, contract in contracts if re.search(r"\b(Makes\w*|Reads\w*|StoresMapSet) ", contract)}
+    tally.check_equal("the functions that make coverages", makers, ID_FUNCTIONS)
+    functions, tests = parse_header(read_text(HEADER)), read_text(TOP, "tests", "c", "calls.c")
     tally.check(bool(functions), "the header has no functions")
-    tally.check_equal("the functions and structs of the header", sorted(header), sorted(crate))
-    for name in {*header} & {*crate}:
-        tally.check_equal(f"the types of {name}", header[name], crate[name])
-    tests = read_text(TOP, "tests", "c", "calls.c")
-    tally.check_equal("the functions that calls.c does not call", [name for name in functions if f"{name}(" not in tests], [])
+    names = [f"moc_{function.name}" for function in functions]
+    tally.check_equal("the functions that calls.c does not call", [name for name in names if f"{name}(" not in tests], [])
 
 
-def check_rows(tally: Tally) -> None:
-    """Checks that `tests/c/guards.c` has a row for each invalid pointer.
-
-    Each pointer of each function is null in one row, and not aligned in another. Each array has a row without elements. Two arguments that
-    may not overlap have three rows, or one if both are handles. Handles that are null are opened and closed."""
-    text = read_text(TOP, "tests", "c", "guards.c")
-    rows: set[tuple[str, int, str]] = set()
-    expected: set[tuple[str, int, str]] = set()
-    overlaps: Counter[tuple[str, int, int]] = Counter()
-    for kind, place, name, arguments in ROW.findall(text):
-        argument, tested = KINDS[kind]
-        if arguments.split(", ")[int(place)] == argument:
-            rows |= {(test, int(place), name) for test in tested}
-    for handle in ("desk", "seat"):
-        wrong = [(code, argument) for kind, code, argument in WRONG.findall(text) if kind == handle]
-        tally.check_equal(f"the calls with a wrong {handle}", wrong, [("MISALIGNED", "askew"), ("NULL", "NULL"), ("NULL", handle)])
-    for name, (result, *types) in header_declarations().items():
-        pointers = [place for place, kind in enumerate(types) if "*" in kind] if result == RESULT else []
-        arrays = [place for place in pointers if types[place + 1:place + 2] == ["size_t"]]
-        expected |= {("NULL", place, name) for place in pointers} | {("NONE", place, name) for place in arrays}
-        expected |= {("ASKEW", place, name) for place in pointers if "uint8_t" not in types[place]}
-        for earlier, later in itertools.combinations(pointers, 2):
-            if not (types[earlier].startswith("const ") and types[later].startswith("const ")):
-                overlaps[name, earlier, later] = 3 if {earlier, later} & {*arrays} else 1
-    tally.check(bool(expected), "no function has a pointer")
-    tally.check_equal("the rows of guards.c that are missing or needless", sorted(rows ^ expected), [])
-    tested_overlaps = Counter((name, int(earlier), int(later)) for earlier, later, name in OVERLAP.findall(text))
-    tally.check(bool(overlaps), "no function has two pointers")
-    differences = (tested_overlaps - overlaps) + (overlaps - tested_overlaps)
-    tally.check_equal("the rows of overlaps that are missing or needless", differences, Counter())
-    others = [name for name, (result, *_) in header_declarations().items() if result in ("bool", "void")]
-    tally.check(bool(others) and all(re.search(rf"{name}\((NULL|no_\w+)\)", text) for name in others),
+def write_rows(tally: Tally, folder: str) -> None:
+    """Writes the calls with invalid pointers for `tests/c/guards.c`, and checks that it opens and closes null handles."""
+    text, functions = read_text(TOP, "tests", "c", "guards.c"), functions_in(COMMENT.sub("", read_text(HEADER)))
+    with_result = {name: types for name, (result, *types) in functions.items() if result == RESULT}
+    tally.check(any("*" in kind for types in with_result.values() for kind in types), "no function has a pointer")
+    write_text(os.path.join(folder, "guard_rows.h"), make_rows(with_result, {f"moc_{name}" for name in ID_FUNCTIONS}))
+    others = [name for name, (result, *_) in functions.items() if result in ("bool", "void")]
+    tally.check(bool(others) and all(f"{name}(NULL)" in text for name in others),
                 f"guards.c does not open and close null handles: {others}")
 
 
@@ -230,16 +215,16 @@ def check_calls(tally: Tally, folder: str) -> None:
 def replacement_of(function: Function) -> str:
     """Returns a replacement in C of a proved function, which checks only that its arrays are aligned."""
     handles = (STORE, CLIENT)
-    names = (re.search(r"\*(\w+)", argument) for argument in function.arguments if not argument.startswith(handles))
+    names = (re.search(r"\*(\w+)", argument) for argument in function.arguments if not argument.removeprefix("const ").startswith(handles))
     checks = "".join(f" is_aligned &= (uintptr_t){name[1]} % __alignof__(*{name[1]}) == 0;" for name in names if name)
     statement = {RESULT: f"return ({RESULT}){{0, 0, 0}};", "bool": "return true;", "void": ""}[function.result]
-    return f"{function.result} {PROVED}{function.name}({', '.join(function.arguments)}) {{ calls++;{checks} {statement} }}\n"
+    return f"{proved_prototype(function)} {{ calls++;{checks} {statement} }}\n"
 
 
 def call_on_empty_arrays(function: Function) -> str:
     """Returns a line in C that calls a function with empty arrays that are not aligned, and counts whether the guard aligned them."""
     clients = iter(("&other", "&client"))
-    arguments = ["&store" if argument.startswith(STORE) else next(clients) if argument.startswith(CLIENT)
+    arguments = ["&store" if STORE in argument else next(clients) if argument.startswith(CLIENT)
                  else "askew" if "*" in argument else "0" for argument in function.arguments]
     return (f"    calls = 0; is_aligned = true; moc_{function.name}({', '.join(arguments)}); "
             f"count(calls == 1 && is_aligned, \"{function.name}\");\n")
@@ -253,10 +238,10 @@ def check_empty_arrays(tally: Tally, folder: str) -> None:
         "#include <stdio.h>\n", guards_source(functions), "static int calls, passed, failed;\nstatic bool is_aligned;\n",
         "static void count(bool holds, const char *name)\n{\n    passed += holds;\n    failed += !holds;\n"
         "    if (!holds)\n        printf(\"an empty array of %s is not aligned\\n\", name);\n}\n",
-        *map(replacement_of, functions),
+        *map(replacement_of, proved_functions()),
         "int main(void)\n{\n    static uint64_t at[2];\n    void *askew = (char *)at + 1;\n"
         f"    {STORE} store = {{at}};\n    {CLIENT} client = {{at}}, other = {{at}};\n",
-        *(call_on_empty_arrays(function) for function in functions if function.result == RESULT),
+        *(call_on_empty_arrays(function) for function in proved_functions() if function.result == RESULT),
         '    printf("%d passed, %d failed\\n", passed, failed);\n    return failed != 0;\n}\n']))
     result = run([CC, "-std=c99", "-Wno-unused", f"-I{folder}", program + ".c", "-o", program])
     if tally.check(result.returncode == 0, f"the program of empty arrays does not compile\n{result.stderr}"):
@@ -305,7 +290,7 @@ def main() -> int:
         status = subprocess.run([os.path.join(TOP, "moc"), "library", folder], stdout=sys.stderr).returncode
         if tally.check(status == 0, "the library is not built"):
             check_header(tally, folder)
-            check_rows(tally)
+            write_rows(tally, folder)
             check_unsupported(tally)
             check_calls(tally, folder)
             check_empty_arrays(tally, folder)

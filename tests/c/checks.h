@@ -1,8 +1,8 @@
-/* Compares the results of functions of moc.h with expected results, for the test programs of this folder. */
+/* Compares the results of functions of ploverchaise.h with expected results, for the test programs of this folder. */
 #ifndef CHECKS_H
 #define CHECKS_H
 
-#include "moc.h"
+#include "ploverchaise.h"
 
 #include <stdio.h>
 
@@ -17,9 +17,9 @@ static void check(int line, const char *text, bool holds)
 }
 #define CHECK(condition) check(__LINE__, #condition, condition)
 
-static bool is(moc_outcome outcome, uint32_t code, uint64_t first, uint64_t second)
+static bool is(moc_result result, uint32_t code, uint64_t first, uint64_t second)
 {
-    return outcome.code == code && outcome.first == first && outcome.second == second;
+    return result.code == code && result.first == first && result.second == second;
 }
 
 /* Prints the numbers of checks that passed and failed, and returns the exit status of the program. */

@@ -8,8 +8,8 @@ use Rattle.moc_lists.specs.RangeList.{NumberSet}
 use Rattle.moc_c.specs.Buffers.{cells_error, set_of_cells_or_error, success_unless, first_error_at, lengths_error, numbers_error, uniqs_error}
 use Rattle.moc_c.specs.CallResults.{success, result_of}
 use Rattle.moc_c.specs.declared.call_result.CallResult.{CallResult}
-use Rattle.moc_c.specs.declared.fault.CallFault.{CallFault}
-use Rattle.moc_c.specs.declared.fault.CallFault.TheVariants as fault
+use Rattle.moc_c.specs.declared.error.CallError.{CallError}
+use Rattle.moc_c.specs.declared.error.CallError.TheVariants as error
 
 module _ (test : ℕ → Bool) where
   pub failing_none : (at : ℕ) (xs : List ℕ) → ((k : ℕ) → k < length xs → test (get_or xs k 0) ≡ true) → first_error_at test at xs ≡ None
@@ -28,7 +28,7 @@ abbrev is_index : ℕ → ℕ → Bool
 is_index order x = nat_lt x (cell_count order)
 
 -- the set of cells that have this error, if they have one
-abbrev numbers_say : Option CallFault → ℕ → List ℕ → Result NumberSet CallFault
+abbrev numbers_say : Option CallError → ℕ → List ℕ → Result NumberSet CallError
 numbers_say f order xs = option_map_or (λ e. Err e) f (Ok (pixels_of (map (cell_number order) xs)))
 
 index_true : (order x : ℕ) → x < cell_count order → is_index order x ≡ true
@@ -42,15 +42,15 @@ uniq_true x low high = grind (arith, nat_tests)
 
 pub cells_none : (order : ℕ) (xs : List ℕ) → ((k : ℕ) → k < length xs → get_or xs k 0 < cell_count order) → cells_error order xs ≡ None
 cells_none order xs h =
-    ap (option_map (λ at. fault.NoSuchCell at)) (failing_none (is_index order) 0 xs (λ k lt. index_true order (get_or xs k 0) (h k lt)))
+    ap (option_map (λ at. error.NoSuchCell at)) (failing_none (is_index order) 0 xs (λ k lt. index_true order (get_or xs k 0) (h k lt)))
 
 pub cells_some : (order : ℕ) (xs : List ℕ) (i : ℕ) → i < length xs → ((k : ℕ) → k < i → get_or xs k 0 < cell_count order) → cell_count order ≤ get_or xs i 0
-    → cells_error order xs ≡ Some (fault.NoSuchCell i)
+    → cells_error order xs ≡ Some (error.NoSuchCell i)
 cells_some order xs i lt h fails =
-    ap (option_map (λ at. fault.NoSuchCell at)) (failing_some (is_index order) 0 xs i lt (λ k below. index_true order (get_or xs k 0) (h k below)) (index_false order (get_or xs i 0) fails)) ∙ ap (λ n. Some (fault.NoSuchCell n)) (omega arith)
+    ap (option_map (λ at. error.NoSuchCell at)) (failing_some (is_index order) 0 xs i lt (λ k below. index_true order (get_or xs k 0) (h k below)) (index_false order (get_or xs i 0) fails)) ∙ ap (λ n. Some (error.NoSuchCell n)) (omega arith)
 
 pub uniqs_none : (xs : List ℕ) → ((k : ℕ) → k < length xs → (4 ≤ get_or xs k 0) × (get_or xs k 0 < 2 ^ 62)) → uniqs_error xs ≡ None
-uniqs_none xs h = ap (option_map (λ at. fault.NotUniq at)) (failing_none is_uniq 0 xs (λ k lt. uniq_true (get_or xs k 0) (h k lt).0 (h k lt).1))
+uniqs_none xs h = ap (option_map (λ at. error.NotUniq at)) (failing_none is_uniq 0 xs (λ k lt. uniq_true (get_or xs k 0) (h k lt).0 (h k lt).1))
 
 not_both : (x : ℕ) → ((4 ≤ x) × (x < 2 ^ 62) → ⊥) → is_uniq x ≡ false
 not_both x h = elim (nat_le 4 x) as (λ b. nat_le 4 x ≡ b → is_uniq x ≡ false) [
@@ -62,9 +62,9 @@ not_both x h = elim (nat_le 4 x) as (λ b. nat_le 4 x ≡ b → is_uniq x ≡ fa
 ] refl
 
 pub uniqs_some : (xs : List ℕ) (i : ℕ) → i < length xs → ((k : ℕ) → k < i → (4 ≤ get_or xs k 0) × (get_or xs k 0 < 2 ^ 62))
-    → ((4 ≤ get_or xs i 0) × (get_or xs i 0 < 2 ^ 62) → ⊥) → uniqs_error xs ≡ Some (fault.NotUniq i)
+    → ((4 ≤ get_or xs i 0) × (get_or xs i 0 < 2 ^ 62) → ⊥) → uniqs_error xs ≡ Some (error.NotUniq i)
 uniqs_some xs i lt h fails =
-    ap (option_map (λ at. fault.NotUniq at)) (failing_some is_uniq 0 xs i lt (λ k below. uniq_true (get_or xs k 0) (h k below).0 (h k below).1) (not_both (get_or xs i 0) fails)) ∙ ap (λ n. Some (fault.NotUniq n)) (omega arith)
+    ap (option_map (λ at. error.NotUniq at)) (failing_some is_uniq 0 xs i lt (λ k below. uniq_true (get_or xs k 0) (h k below).0 (h k below).1) (not_both (get_or xs i 0) fails)) ∙ ap (λ n. Some (error.NotUniq n)) (omega arith)
 
 -- a valid order and equal lengths leave the errors of the numbers
 pub numbers_left : (order : ℕ) (xs ls : List ℕ) → order ≤ 29 → lengths_error (length xs) ls ≡ None → numbers_error order xs ls ≡ cells_error order xs
@@ -81,7 +81,7 @@ three_lengths n a b d e f g = rw (eq-eqb n a e, eq-eqb n b f, eq-eqb n d g) refl
 
 -- the indices before the first invalid one are converted
 pub cells_stop : (order : ℕ) (xs ls : List ℕ) (i : ℕ) (o : CallResult) → order ≤ 29 → lengths_error (length xs) ls ≡ None → i < length xs
-    → ((k : ℕ) → k < i → get_or xs k 0 < cell_count order) → cell_count order ≤ get_or xs i 0 → o ≡ result_of (fault.NoSuchCell i)
+    → ((k : ℕ) → k < i → get_or xs k 0 < cell_count order) → cell_count order ≤ get_or xs i 0 → o ≡ result_of (error.NoSuchCell i)
     → o ≡ success_unless (numbers_error order xs ls)
 cells_stop order xs ls i o le same lt h fails is =
     is ∙ sym (ap success_unless (numbers_left order xs ls le same ∙ cells_some order xs i lt h fails))
@@ -95,7 +95,7 @@ cells_end order xs ls i o le same end h is =
 -- the same for NUNIQ numbers
 pub uniqs_stop : (xs ls : List ℕ) (i : ℕ) (o : CallResult) → lengths_error (length xs) ls ≡ None → i < length xs
     → ((k : ℕ) → k < i → (4 ≤ get_or xs k 0) × (get_or xs k 0 < 2 ^ 62)) → ((4 ≤ get_or xs i 0) × (get_or xs i 0 < 2 ^ 62) → ⊥)
-    → o ≡ result_of (fault.NotUniq i) → o ≡ success_unless (option_or (lengths_error (length xs) ls) (uniqs_error xs))
+    → o ≡ result_of (error.NotUniq i) → o ≡ success_unless (option_or (lengths_error (length xs) ls) (uniqs_error xs))
 uniqs_stop xs ls i o same lt h fails is =
     is ∙ sym (ap success_unless (ap (λ x. option_or x (uniqs_error xs)) same ∙ uniqs_some xs i lt h fails))
 
@@ -113,6 +113,6 @@ cells_said order xs i a le end h is =
     ap (λ f. numbers_say f order xs) (numbers_left order xs [] le refl ∙ cells_none order xs (λ k lt. h k (omega arith))) ∙ ap (λ (b : NumberSet). Ok b) (sym is)
 
 pub cells_unsaid : (order : ℕ) (xs : List ℕ) (i : ℕ) → order ≤ 29 → i < length xs → ((k : ℕ) → k < i → get_or xs k 0 < cell_count order)
-    → cell_count order ≤ get_or xs i 0 → set_of_cells_or_error order xs ≡ Err (fault.NoSuchCell i)
+    → cell_count order ≤ get_or xs i 0 → set_of_cells_or_error order xs ≡ Err (error.NoSuchCell i)
 cells_unsaid order xs i le lt h fails =
     ap (λ f. numbers_say f order xs) (numbers_left order xs [] le refl ∙ cells_some order xs i lt h fails)

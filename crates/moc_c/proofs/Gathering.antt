@@ -1,5 +1,5 @@
 -- The pixels of cells, one cell at a time.
-use Rattle.std.proofs.Common.{◌≡◌, ℕ, ◌<◌, ◌≤◌, ◌+◌, ◌^◌, List, [], ◌∷◌, ◌++◌, length, drop, take, get_or, map, refl, ap, ◌∙◌, sym, suc, subst, arith}
+use Rattle.std.proofs.Common.{◌≡◌, ℕ, ◌<◌, ◌≤◌, ◌+◌, ◌^◌, List, [], ◌∷◌, ◌++◌, length, drop, take, get_or, map, refl, ap, ◌∙◌, sym, zero, suc, subst, arith}
 use Rattle.std.proofs.Common.{inl, inr}
 use Rattle.std.proofs.lemmas.Bool.{cases_lt}
 use Rattle.std.proofs.Math.Seq.{drop-cons}
@@ -27,6 +27,15 @@ pub none_left : (o : ℕ) (xs : List ℕ) (i : ℕ) (a : NumberSet) → length x
 unfolding pixels_of
 none_left o xs i a le =
     ap (λ ys. set.union a (pixels_of (map (cell_number o) ys))) (drop_all i xs le) ∙ union-empty a
+
+-- the set of one cell
+pub one_alone : (o x : ℕ) (a : NumberSet) → a ≡ span o x → a ≡ pixels_of (map (cell_number o) (x ∷ []))
+unfolding pixels_of
+one_alone o x a is = is ∙ sym (union-empty (span o x))
+
+pub one_below : (x m : ℕ) → x < m → (k : ℕ) → k < 1 → get_or (x ∷ []) k 0 < m
+one_below x m below zero lt = below
+one_below x m below (suc k) lt = absurd (omega (arith, lt))
 
 -- ---- NUNIQ numbers
 

@@ -13,7 +13,7 @@ use Rattle.moc_c.specs.Answers.{Frees}
 use Rattle.moc_c.specs.Contents.{set_with_id, Contents, without_set}
 use Rattle.moc_c.specs.Private.Storing.{IsEmptyFrom}
 use Rattle.moc_c.specs.CallResults.{success, result_of}
-use Rattle.moc_c.specs.declared.fault.CallFault.TheVariants.{NoSuchSet}
+use Rattle.moc_c.specs.declared.error.CallError.TheVariants.{NoSuchSet}
 use Rattle.moc_c.specs.declared.call_result.CallResult.{CallResult}
 
 find_is : {X : Type 0} (es : List (ℕ × X)) (q : ℕ) → find nat_cmp q es ≡ lookup (is_at (nat_cmp q)) es

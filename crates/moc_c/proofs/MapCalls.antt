@@ -1,6 +1,6 @@
 -- The contracts of calls on client handles follow from those of the calls below.
 use Rattle.std.proofs.Common.{◌≡◌, ◌++◌, ◌∷◌, [], true, false, List, ℕ, Option, None, Some, Result, Ok, Err, refl, sym}
-use Rattle.std.proofs.Common.{ap, ◌∙◌, subst, inl, inr, is_some}
+use Rattle.std.proofs.Common.{ap, ◌∙◌, subst, ◌⊎◌, inl, inr, is_some}
 use Rattle.std.specs.Option.{ok_or}
 use Rattle.moc_lists.specs.RangeList.{NumberSet}
 use Rattle.moc_parts.specs.declared.command.Command.{Command}
@@ -12,47 +12,74 @@ use Rattle.moc_shared.specs.History.{call_by, IsLegal}
 use Rattle.moc_shared.specs.declared.errors.TryError.{TryError}
 use Rattle.moc_shared.specs.declared.errors.TryError.TheVariants as try
 use Rattle.moc_lines.specs.Language.{batch_of, command_of}
+use Rattle.moc_lines.specs.declared.error.LineError.{LineError}
+use Rattle.moc_lines.specs.declared.error.LineError.TheVariants.{Memory}
 use Rattle.moc_c.specs.Answers.{Makes}
+use Rattle.moc_c.specs.Buffers.{set_of_cells_or_error}
+use Rattle.moc_c.specs.Commands.{CallsWithCells, CallsWithSet, command_on, ExecutesCommand}
+use Rattle.moc_c.specs.declared.commands.Verb.{Verb}
 use Rattle.moc_c.specs.Contents.{Contents}
 use Rattle.moc_c.specs.Membership.{Membership}
 use Rattle.moc_c.specs.CallResults.{result_of}
 use Rattle.moc_c.specs.Private.Making.{try_error, ReadsWholeSky}
 use Rattle.moc_c.specs.Sharing.{Applies, BeginsMap, CallsMap, ExecutesLine, Gives, IsAfter, FailsTrying, Joins, StoresMapSet}
 use Rattle.moc_c.specs.Sharing.{MemberEnds, member_of_handle, StoresMember, unless_in_use, whole_sky, with_member}
-use Rattle.moc_c.specs.declared.fault.CallFault.{CallFault}
-use Rattle.moc_c.specs.declared.fault.CallFault.TheVariants as fault
+use Rattle.moc_c.specs.declared.error.CallError.{CallError}
+use Rattle.moc_c.specs.declared.error.CallError.TheVariants as error
 use Rattle.moc_c.specs.declared.call_result.CallResult.{CallResult}
 use Rattle.moc_c.specs.declared.client_state.ClientState.{ClientState}
 
 -- ---- a handle becomes a client
 
-pub begin_taken : (m : Option Membership) (q : Option (List Reply)) (r : Result (NumberSet × ℕ) CallFault) (o : CallResult) → is_some m ≡ true → o ≡ result_of fault.HandleInUse
+pub begin_taken : (m : Option Membership) (q : Option (List Reply)) (r : Result (NumberSet × ℕ) CallError) (o : CallResult) → is_some m ≡ true → o ≡ result_of error.HandleInUse
     → BeginsMap (record { member = m; replies = q }) (record { member = m; replies = q }) (unless_in_use m r) o
-begin_taken (Some x) q r o some tells = (Err fault.HandleInUse, inl refl, (refl, tells))
+begin_taken (Some x) q r o some tells = (Err error.HandleInUse, inl refl, (refl, tells))
 begin_taken None q r o some tells = let clash : false ≡ true = some in absurd cc
 
-free_seat : {X : Type 0} (m : Option Membership) (r : Result X CallFault) → is_some m ≡ false → unless_in_use m r ≡ r
-free_seat None r none = refl
-free_seat (Some x) r none = let clash : true ≡ false = none in absurd cc
+unused_handle : {X : Type 0} (m : Option Membership) (r : Result X CallError) → is_some m ≡ false → unless_in_use m r ≡ r
+unused_handle None r none = refl
+unused_handle (Some x) r none = let clash : true ≡ false = none in absurd cc
 
-pub joined : (s t last : ClientState) (m n : Membership) (given : Result Membership CallFault) (o : CallResult) → s.member ≡ Some m → is_some t.member ≡ false
+pub joined : (s t last : ClientState) (m n : Membership) (given : Result Membership CallError) (o : CallResult) → s.member ≡ Some m → is_some t.member ≡ false
     → Gives m n given → StoresMember t last given o → Joins s (with_member s n) t last (unless_in_use t.member (member_of_handle s)) o
-joined s t last m n given o is none gives seats =
-    subst (λ x. Joins s (with_member s n) t last x o) (sym (free_seat t.member (member_of_handle s) none ∙ ap (λ x. ok_or x fault.NoMap) is))
-    (n, given, gives, refl, seats)
+joined s t last m n given o is none gives stores =
+    subst (λ x. Joins s (with_member s n) t last x o) (sym (unused_handle t.member (member_of_handle s) none ∙ ap (λ x. ok_or x error.NoMap) is))
+    (n, given, gives, refl, stores)
 
 -- ---- calls
 
 pub applied : (s new : ClientState) (m n : Membership) (line : List ℕ) (cs : List Command) (o : CallResult) → s.member ≡ Some m → batch_of command_of line ≡ Ok cs
     → IsAfter m n → CallsMap s new m n cs o → Applies s new (member_of_handle s) line o
 applied s new m n line cs o is says after calls =
-    subst (λ x. Applies s new (ok_or x fault.NoMap) line o) (sym is)
+    subst (λ x. Applies s new (ok_or x error.NoMap) line o) (sym is)
     (subst (λ x. ExecutesLine s new m x o) (sym says) (inl (n, after, calls)))
+
+-- a line that was not parsed: it is invalid, or an allocation failed
+pub not_parsed : (s : ClientState) (m : Membership) (line : List ℕ) (e : LineError) (o : CallResult) → s.member ≡ Some m → (e ≡ Memory) ⊎ (batch_of command_of line ≡ Err e)
+    → o ≡ result_of (error.Line e) → Applies s (with_member s m) (member_of_handle s) line o
+not_parsed s m line e o is reads tells = subst (λ x. Applies s (with_member s m) (ok_or x error.NoMap) line o) (sym is) (by_line (batch_of command_of line) reads)
+  where
+    unchanged : with_member s m ≡ s
+    unchanged = λ i. record { member = (sym is) i; replies = s.replies }
+
+    by_line : (r : Result (List Command) LineError) → (e ≡ Memory) ⊎ (r ≡ Err e) → ExecutesLine s (with_member s m) m r o
+    by_line (Ok cs) (inl memory) = inr (unchanged, tells ∙ ap (λ x. result_of (error.Line x)) memory)
+    by_line (Ok cs) (inr same) = absurd cc
+    by_line (Err f) (inl memory) = (unchanged, inr (tells ∙ ap (λ x. result_of (error.Line x)) memory))
+    by_line (Err f) (inr same) =
+        let is_same : e ≡ f = cc in
+        (unchanged, inl (tells ∙ ap (λ x. result_of (error.Line x)) is_same))
 
 pub refused : (m n : Membership) (cs : List Command) (e : TryError) (o : CallResult) → AfterTryApply m.map cs e (record_of m.client) (record_of n.client)
     → o ≡ result_of (try_error e) → FailsTrying m n cs o
 refused m n cs (try.Busy b) o after tells = inl (b, after, tells)
 refused m n cs try.Memory o after tells = inr (after, tells)
+
+pub command_executed : (verb : Verb) (s new : ClientState) (m n : Membership) (order : ℕ) (cells : List ℕ) (a : NumberSet) (o : CallResult) → s.member ≡ Some m
+    → set_of_cells_or_error order cells ≡ Ok a → IsAfter m n → new ≡ with_member s n → ExecutesCommand m n (command_on verb a) o → CallsWithCells verb s new order cells o
+command_executed verb s new m n order cells a o is says after same executed =
+    subst (λ x. CallsWithSet verb s new (ok_or x error.NoMap) (set_of_cells_or_error order cells) o) (sym is)
+    (subst (λ x. CallsWithSet verb s new (Ok m) x o) (sym says) (inl (n, after, same, executed)))
 
 -- ---- the set of a map
 
@@ -70,10 +97,10 @@ sky_reply m n cs r is ends =
 pub laid : (s : ClientState) (m n : Membership) (store store' : Contents) (a : NumberSet) (o : CallResult) → s.member ≡ Some m → ReadsWholeSky m n (Ok a) → Makes store store' (Ok a) o
     → StoresMapSet s (with_member s n) store store' (member_of_handle s) o
 laid s m n store store' a o is reads (inl made) =
-    subst (λ x. StoresMapSet s (with_member s n) store store' (ok_or x fault.NoMap) o) (sym is)
+    subst (λ x. StoresMapSet s (with_member s n) store store' (ok_or x error.NoMap) o) (sym is)
     (inl (n, reads.0, refl, inl (a, reads.1, made.1, made.0)))
 laid s m n store store' a o is reads (inr none) =
-    subst (λ x. StoresMapSet s (with_member s n) store store' (ok_or x fault.NoMap) o) (sym is)
+    subst (λ x. StoresMapSet s (with_member s n) store store' (ok_or x error.NoMap) o) (sym is)
     (inl (n, reads.0, refl, inr (inr (unanswered, none.0), none.1)))
   where
     -- the query was executed, and its reply could not be copied
@@ -84,8 +111,8 @@ laid s m n store store' a o is reads (inr none) =
 pub not_laid : (s : ClientState) (m n : Membership) (store : Contents) (e : TryError) (o : CallResult) → s.member ≡ Some m → ReadsWholeSky m n (Err e) → o ≡ result_of (try_error e)
     → StoresMapSet s (with_member s n) store store (member_of_handle s) o
 not_laid s m n store e o is (inl after) tells =
-    subst (λ x. StoresMapSet s (with_member s n) store store (ok_or x fault.NoMap) o) (sym is)
+    subst (λ x. StoresMapSet s (with_member s n) store store (ok_or x error.NoMap) o) (sym is)
     (inl (n, after.0, refl, inr (refused m n whole_sky e o after.1 tells, refl)))
 not_laid s m n store e o is (inr same) tells =
-    subst (λ x. StoresMapSet s (with_member s n) store store (ok_or x fault.NoMap) o) (sym is)
+    subst (λ x. StoresMapSet s (with_member s n) store store (ok_or x error.NoMap) o) (sym is)
     (inr ((λ i. record { member = (ap Some same.0 ∙ sym is) i; replies = s.replies }), refl, tells ∙ ap (λ x. result_of (try_error x)) same.1))

@@ -9,14 +9,15 @@ use Rattle.moc_sphere.specs.CellNumber.{CellNumber, cell_count, cell_number, is_
 use Rattle.moc_sphere.specs.Rings.{ring_number}
 use Rattle.moc_sphere.specs.Touching.{healpy_index, IsNeighbour, touching_cells}
 use Rattle.moc_sphere.specs.declared.direction.Direction.{Direction}
+use Rattle.moc_ranges.specs.CellCounts.{counts_by_order}
 use Rattle.moc_ranges.specs.Cells.{cells_of, pixels_of}
-use Rattle.moc_ranges.specs.Faults.{first_error}
+use Rattle.moc_ranges.specs.Errors.{first_error}
 use Rattle.moc_lists.specs.RangeList.{NumberSet, AreRangesOf, set_of}
 use Rattle.moc_c.specs.Answers.{Makes}
 use Rattle.moc_c.specs.Contents.{Contents}
-use Rattle.moc_c.specs.CallResults.{success, memory, result_of, number_result}
-use Rattle.moc_c.specs.declared.fault.CallFault.{CallFault}
-use Rattle.moc_c.specs.declared.fault.CallFault.TheVariants as fault
+use Rattle.moc_c.specs.CallResults.{IsSuccess, success, memory, result_of, number_result}
+use Rattle.moc_c.specs.declared.error.CallError.{CallError}
+use Rattle.moc_c.specs.declared.error.CallError.TheVariants as error
 use Rattle.moc_c.specs.declared.call_result.CallResult.{CallResult}
 use Rattle.moc_c.specs.declared.range.Range.{Range}
 use Rattle.moc_c.specs.declared.conversion.Conversion.{Conversion}
@@ -30,26 +31,26 @@ first_error_at test at [] = None
 first_error_at test at (x ∷ xs) = if test x then first_error_at test (at + 1) xs else Some at
 
 -- the error if not every length is equal to this one
-abbrev pub lengths_error : ℕ → List ℕ → Option CallFault
-lengths_error n lengths = if list_all (λ m. n == m) lengths then None else Some fault.LengthsDiffer
+abbrev pub lengths_error : ℕ → List ℕ → Option CallError
+lengths_error n lengths = if list_all (λ m. n == m) lengths then None else Some error.LengthsDiffer
 
 -- the error of the first number that is not a cell of the order
-abbrev pub cells_error : ℕ → List ℕ → Option CallFault
+abbrev pub cells_error : ℕ → List ℕ → Option CallError
 cells_error order xs =
-    option_map (λ at. fault.NoSuchCell at) (first_error_at (λ x. nat_lt x (cell_count order)) 0 xs)
+    option_map (λ at. error.NoSuchCell at) (first_error_at (λ x. nat_lt x (cell_count order)) 0 xs)
 
 -- the error of the first number that is not a NUNIQ number
-abbrev pub uniqs_error : List ℕ → Option CallFault
-uniqs_error xs = option_map (λ at. fault.NotUniq at) (first_error_at is_uniq 0 xs)
+abbrev pub uniqs_error : List ℕ → Option CallError
+uniqs_error xs = option_map (λ at. error.NotUniq at) (first_error_at is_uniq 0 xs)
 
 -- the error of an order, of cell indices, or of the lengths of the other arrays
-abbrev pub numbers_error : ℕ → List ℕ → List ℕ → Option CallFault
+abbrev pub numbers_error : ℕ → List ℕ → List ℕ → Option CallError
 numbers_error order xs lengths =
     if nat_le order 29 then option_or (lengths_error (length xs) lengths) (cells_error order xs)
-    else Some (fault.NoSuchOrder order)
+    else Some (error.NoSuchOrder order)
 
 -- the result of an error, or success
-abbrev pub success_unless : Option CallFault → CallResult
+abbrev pub success_unless : Option CallError → CallResult
 success_unless e = option_map_or result_of e success
 
 -- ---- converted numbers
@@ -101,17 +102,17 @@ abbrev pub pairs_from : List Range → List (ℕ × ℕ)
 pairs_from rs = map (λ r. (r.from, r.to)) rs
 
 -- the union of the ranges, or the first error
-abbrev pub set_of_ranges_or_error : List Range → Result NumberSet CallFault
+abbrev pub set_of_ranges_or_error : List Range → Result NumberSet CallError
 set_of_ranges_or_error rs =
-    option_map_or (λ e. Err (fault.Ranges e)) (first_error (pairs_from rs)) (Ok (set_of (pairs_from rs)))
+    option_map_or (λ e. Err (error.Ranges e)) (first_error (pairs_from rs)) (Ok (set_of (pairs_from rs)))
 
 -- the set of the cells of one order with these indices, or the first error
-abbrev pub set_of_cells_or_error : ℕ → List ℕ → Result NumberSet CallFault
+abbrev pub set_of_cells_or_error : ℕ → List ℕ → Result NumberSet CallError
 set_of_cells_or_error order xs =
     option_map_or (λ e. Err e) (numbers_error order xs []) (Ok (pixels_of (map (cell_number order) xs)))
 
 -- the set of the cells with these NUNIQ numbers, or the first error
-abbrev pub AreUniqsOf : List ℕ → Result NumberSet CallFault → Type 0
+abbrev pub AreUniqsOf : List ℕ → Result NumberSet CallError → Type 0
 AreUniqsOf uniqs (Ok a) =
     (uniqs_error uniqs ≡ None)
     × ((cells : List CellNumber) × AllByRecursion IsCell cells × (map uniq_of cells ≡ uniqs) × (a ≡ pixels_of cells))
@@ -120,38 +121,44 @@ AreUniqsOf uniqs (Err e) = uniqs_error uniqs ≡ Some e
 -- the set of the NUNIQ numbers is made, or an allocation fails
 abbrev pub MakesSetOfUniqs : Contents → Contents → List ℕ → CallResult → Type 0
 MakesSetOfUniqs old new uniqs o =
-    ((said : Result NumberSet CallFault) × AreUniqsOf uniqs said × Makes old new said o) ⊎ ((o ≡ memory) × (new ≡ old))
+    ((outcome : Result NumberSet CallError) × AreUniqsOf uniqs outcome × Makes old new outcome o)
+    ⊎ ((o ≡ memory) × (new ≡ old))
 
 -- ---- filled buffers
 
 -- The items are at the front of the buffer, the rest of the buffer is unchanged, and the result has the number of
--- items; or the buffer is too short and unchanged, and the result is `NoRoom` with the number of items.
+-- items; or the buffer is too short and unchanged, and the result is `BufferTooShort` with the number of items.
 abbrev pub Fills : {X : Type 0} → List X → List X → List X → CallResult → Type 0
 Fills items old new o =
     ((take (length items) new ≡ items) × (drop (length items) new ≡ drop (length items) old)
     × (o ≡ number_result (length items)))
-    ⊎ ((length old < length items) × (new ≡ old) × (o ≡ result_of (fault.NoRoom (length items))))
+    ⊎ ((length old < length items) × (new ≡ old) × (o ≡ result_of (error.BufferTooShort (length items))))
 
 -- pairs as ranges
 abbrev pub ranges_from : List (ℕ × ℕ) → List Range
 ranges_from pairs = map (λ p. record { from = p.0; to = p.1 }) pairs
 
 -- the ranges of a set fill a buffer, or the result is the error
-abbrev pub FillsRanges : Result NumberSet CallFault → List Range → List Range → CallResult → Type 0
+abbrev pub FillsRanges : Result NumberSet CallError → List Range → List Range → CallResult → Type 0
 FillsRanges (Ok a) old new o =
     (ranges : List (ℕ × ℕ)) × AreRangesOf a ranges × Fills (ranges_from ranges) old new o
 FillsRanges (Err e) old new o = (new ≡ old) × (o ≡ result_of e)
 
 -- the NUNIQ numbers of a set's cells fill a buffer, or an allocation fails, or the result is the error
-abbrev pub FillsCells : Result NumberSet CallFault → List ℕ → List ℕ → CallResult → Type 0
+abbrev pub FillsCells : Result NumberSet CallError → List ℕ → List ℕ → CallResult → Type 0
 FillsCells (Ok a) old new o = Fills (map uniq_of (cells_of a)) old new o ⊎ ((new ≡ old) × (o ≡ memory))
 FillsCells (Err e) old new o = (new ≡ old) × (o ≡ result_of e)
 
+-- the numbers of a set's cells of each order fill a buffer, or the result is the error
+abbrev pub FillsCellCounts : Result NumberSet CallError → List ℕ → List ℕ → CallResult → Type 0
+FillsCellCounts (Ok a) old new o = Fills (counts_by_order (cells_of a)) old new o
+FillsCellCounts (Err e) old new o = (new ≡ old) × (o ≡ result_of e)
+
 -- With code 0 the number for a pixel is 1 if the set contains it, else 0. With any other code all numbers are
 -- unchanged.
-abbrev pub AreContainedFlags : Result NumberSet CallFault → List ℕ → List ℕ → List ℕ → CallResult → Type 0
+abbrev pub AreContainedFlags : Result NumberSet CallError → List ℕ → List ℕ → List ℕ → CallResult → Type 0
 AreContainedFlags (Ok a) pixels old new o =
     (o ≡ success_unless (lengths_error (length pixels) (length old ∷ [])))
-    × (o.code ≡ 0 → AreRelated (λ x y. y ≡ (if set.contains a x then 1 else 0)) pixels new)
-    × ((o.code ≡ 0 → ⊥) → new ≡ old)
+    × (IsSuccess o → AreRelated (λ x y. y ≡ (if set.contains a x then 1 else 0)) pixels new)
+    × ((IsSuccess o → ⊥) → new ≡ old)
 AreContainedFlags (Err e) pixels old new o = (new ≡ old) × (o ≡ result_of e)

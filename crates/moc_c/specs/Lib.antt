@@ -1,5 +1,6 @@
 pub mod Answers
 pub mod Buffers
+pub mod Commands
 pub mod Contents
 pub mod Membership
 pub mod OpenedStore

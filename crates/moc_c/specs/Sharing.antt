@@ -11,13 +11,13 @@ use Rattle.moc_parts.specs.declared.reply.Reply.TheVariants.{Cover}
 use Rattle.moc_shared.specs.Clients.{call_of, TakesEffect, FailsOutOfMemory, number_of, record_of, MissesPart}
 use Rattle.moc_shared.specs.declared.errors.Busy.{Busy}
 use Rattle.moc_lines.specs.Language.{batch_of, command_of, replies_text}
-use Rattle.moc_lines.specs.declared.fault.LineError.{LineError}
+use Rattle.moc_lines.specs.declared.error.LineError.{LineError}
 use Rattle.moc_c.specs.Buffers.{Fills}
 use Rattle.moc_c.specs.Contents.{Contents, with_set}
 use Rattle.moc_c.specs.Membership.{IsNewMember, Membership}
 use Rattle.moc_c.specs.CallResults.{success, memory, result_of, number_result}
-use Rattle.moc_c.specs.declared.fault.CallFault.{CallFault}
-use Rattle.moc_c.specs.declared.fault.CallFault.TheVariants as fault
+use Rattle.moc_c.specs.declared.error.CallError.{CallError}
+use Rattle.moc_c.specs.declared.error.CallError.TheVariants as error
 use Rattle.moc_c.specs.declared.call_result.CallResult.{CallResult}
 use Rattle.moc_c.specs.declared.client_state.ClientState.{ClientState}
 
@@ -32,50 +32,50 @@ abbrev pub with_member : ClientState → Membership → ClientState
 with_member s m = record { member = Some m; replies = s.replies }
 
 -- the member of the handle, or the error that it has none
-abbrev pub member_of_handle : ClientState → Result Membership CallFault
-member_of_handle s = ok_or s.member fault.NoMap
+abbrev pub member_of_handle : ClientState → Result Membership CallError
+member_of_handle s = ok_or s.member error.NoMap
 
 -- the value if the handle has no client, or the error that it has one
-abbrev pub unless_in_use : {X : Type 0} → Option Membership → Result X CallFault → Result X CallFault
+abbrev pub unless_in_use : {X : Type 0} → Option Membership → Result X CallError → Result X CallError
 unless_in_use None r = r
-unless_in_use (Some m) r = Err fault.HandleInUse
+unless_in_use (Some m) r = Err error.HandleInUse
 
 -- the number of clients if a map can have as many
-abbrev pub client_count : ℕ → Result ℕ CallFault
-client_count n = if nat_le 1 n && nat_le n 64 then Ok n else Err (fault.BadCount n)
+abbrev pub client_count : ℕ → Result ℕ CallError
+client_count n = if nat_le 1 n && nat_le n 64 then Ok n else Err (error.BadCount n)
 
 -- ---- a new map, and further clients
 
 -- a client of a new map of this set with this number of clients; or the error; or an allocation fails
-abbrev pub IsFirstClient : Result (NumberSet × ℕ) CallFault → Result Membership CallFault → Type 0
+abbrev pub IsFirstClient : Result (NumberSet × ℕ) CallError → Result Membership CallError → Type 0
 IsFirstClient (Ok x) (Ok m) = IsNewMember x.0 x.1 m
-IsFirstClient (Ok x) (Err e) = e ≡ fault.Memory
+IsFirstClient (Ok x) (Err e) = e ≡ error.Memory
 IsFirstClient (Err f) (Ok m) = ⊥
-IsFirstClient (Err f) (Err e) = (e ≡ f) ⊎ (e ≡ fault.Memory)
+IsFirstClient (Err f) (Err e) = (e ≡ f) ⊎ (e ≡ error.Memory)
 
 -- the handle has the member now, and the result is its client's number; or the result is the error, and nothing changes
-abbrev pub StoresMember : ClientState → ClientState → Result Membership CallFault → CallResult → Type 0
+abbrev pub StoresMember : ClientState → ClientState → Result Membership CallError → CallResult → Type 0
 StoresMember old new (Ok m) o = (new ≡ with_member old m) × (o ≡ number_result (number_of m.client))
 StoresMember old new (Err e) o = (new ≡ old) × (o ≡ result_of e)
 
 -- the handle has a client of the new map, or the result is the error
-abbrev pub BeginsMap : ClientState → ClientState → Result (NumberSet × ℕ) CallFault → CallResult → Type 0
+abbrev pub BeginsMap : ClientState → ClientState → Result (NumberSet × ℕ) CallError → CallResult → Type 0
 BeginsMap old new what o =
-    (begin_member : Result Membership CallFault) × IsFirstClient what begin_member × StoresMember old new begin_member o
+    (begin_member : Result Membership CallError) × IsFirstClient what begin_member × StoresMember old new begin_member o
 
 -- the last client that the member can give away becomes a member of the same map; or there is none, or an allocation
 -- fails, and the giver is unchanged
-abbrev pub Gives : Membership → Membership → Result Membership CallFault → Type 0
+abbrev pub Gives : Membership → Membership → Result Membership CallError → Type 0
 Gives old new (Ok m) =
     (old.unassigned ≡ new.unassigned ++ m.client ∷ []) × (new ≡ record old { unassigned = new.unassigned })
     × (m ≡ record { map = old.map; client = m.client; unassigned = [] })
-Gives old new (Err e) = (new ≡ old) × ((e ≡ fault.Memory) ⊎ ((e ≡ fault.NoClient) × (old.unassigned ≡ [])))
+Gives old new (Err e) = (new ≡ old) × ((e ≡ error.Memory) ⊎ ((e ≡ error.NoClient) × (old.unassigned ≡ [])))
 
 -- the member of one handle gives a client to another handle; or the result is the error, and both are unchanged
-abbrev pub Joins : ClientState → ClientState → ClientState → ClientState → Result Membership CallFault → CallResult
+abbrev pub Joins : ClientState → ClientState → ClientState → ClientState → Result Membership CallError → CallResult
     → Type 0
 Joins old new other last (Ok m) o =
-    (n : Membership) × (given : Result Membership CallFault) × Gives m n given × (new ≡ with_member old n)
+    (n : Membership) × (given : Result Membership CallError) × Gives m n given × (new ≡ with_member old n)
     × StoresMember other last given o
 Joins old new other last (Err e) o = (new ≡ old) × (last ≡ other) × (o ≡ result_of e)
 
@@ -95,7 +95,7 @@ MemberEnds old new cs r = TakesEffect old.map (call_of old.client cs r) (record_
 abbrev pub FailsTrying : Membership → Membership → List Command → CallResult → Type 0
 FailsTrying old new cs o =
     ((b : Busy) × MissesPart old.map cs b (record_of old.client) (record_of new.client)
-    × (o ≡ result_of (fault.Busy b)))
+    × (o ≡ result_of (error.Busy b)))
     ⊎ (FailsOutOfMemory old.map cs (record_of old.client) (record_of new.client) × (o ≡ memory))
 
 -- the call is executed, and its replies are kept; or it fails, and the replies of before are kept
@@ -108,10 +108,10 @@ CallsMap old new m n cs o =
 abbrev pub ExecutesLine : ClientState → ClientState → Membership → Result (List Command) LineError → CallResult → Type 0
 ExecutesLine old new m (Ok cs) o =
     ((n : Membership) × IsAfter m n × CallsMap old new m n cs o) ⊎ ((new ≡ old) × (o ≡ memory))
-ExecutesLine old new m (Err e) o = (new ≡ old) × ((o ≡ result_of (fault.Line e)) ⊎ (o ≡ memory))
+ExecutesLine old new m (Err e) o = (new ≡ old) × ((o ≡ result_of (error.Line e)) ⊎ (o ≡ memory))
 
 -- as `ExecutesLine` for the member of a handle; or the handle has none
-abbrev pub Applies : ClientState → ClientState → Result Membership CallFault → List ℕ → CallResult → Type 0
+abbrev pub Applies : ClientState → ClientState → Result Membership CallError → List ℕ → CallResult → Type 0
 Applies old new (Ok m) line o = ExecutesLine old new m (batch_of command_of line) o
 Applies old new (Err e) line o = (new ≡ old) × (o ≡ result_of e)
 
@@ -129,7 +129,7 @@ StoresRead m n store store' o =
     ⊎ (FailsTrying m n whole_sky o × (store' ≡ store))
 
 -- the map's set is stored; or the result is the error, or an allocation fails, and nothing changes
-abbrev pub StoresMapSet : ClientState → ClientState → Contents → Contents → Result Membership CallFault → CallResult
+abbrev pub StoresMapSet : ClientState → ClientState → Contents → Contents → Result Membership CallError → CallResult
     → Type 0
 StoresMapSet old new store store' (Ok m) o =
     ((n : Membership) × IsAfter m n × (new ≡ with_member old n) × StoresRead m n store store' o)

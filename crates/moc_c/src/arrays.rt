@@ -1,14 +1,14 @@
 //! Sets made from arrays, and arrays filled from sets.
-ghost use Rattle.std.specs.Prelude.{◌≡◌, ◌⊎◌, IfOk, MatchResult, Err, Ok, map};
+ghost use Rattle.std.specs.Prelude.{◌≡◌, ◌⊎◌, ◌∷◌, [], IfOk, MatchResult, Err, Ok, map};
 ghost use Rattle.moc_sphere.specs.CellNumber.{uniq_of};
 ghost use Rattle.moc_c.specs.Answers.{Makes, set_at};
-ghost use Rattle.moc_c.specs.Buffers.{set_of_cells_or_error, Fills, FillsCells};
+ghost use Rattle.moc_c.specs.Buffers.{set_of_cells_or_error, Fills, FillsCellCounts, FillsCells};
 ghost use Rattle.moc_c.specs.Buffers.{FillsRanges, MakesSetOfUniqs, pairs_from, ranges_from};
 ghost use Rattle.moc_c.specs.Buffers.{set_of_ranges_or_error, AreContainedFlags, AreUniqsOf};
-ghost use Rattle.moc_c.specs.declared.fault.CallFault.TheVariants.{Memory as NoMemory};
+ghost use Rattle.moc_c.specs.declared.error.CallError.TheVariants.{Memory as NoMemory};
 
 use crate::call_result::CallResult;
-use crate::fault::CallFault;
+use crate::error::CallError;
 use crate::lookup::{KnownSpan, look};
 use crate::range::Range;
 use crate::store::Store;
@@ -29,27 +29,45 @@ fn pairs_of(alloc: Global, ranges: &[Range]) -> Result<Vec<(u64, u64)>, AllocErr
 }
 
 /// Returns the union of the ranges.
-fn set_of_ranges(alloc: Global, ranges: &[Range]) -> Result<Coverage, CallFault>
+fn set_of_ranges(alloc: Global, ranges: &[Range]) -> Result<Coverage, CallError>
     ensures { MatchResult result (λ a. set_of_ranges_or_error ranges.now ≡ Ok a)
         (λ e. (e ≡ NoMemory) ⊎ (set_of_ranges_or_error ranges.now ≡ Err e)) }
 {
     let pairs = pairs_of(alloc, ranges)?;
     match Coverage::from_ranges(alloc, &pairs) {
         Ok(set) => Ok(set),
-        Err(RangesError::Memory) => Err(CallFault::Memory),
-        Err(error) => Err(CallFault::Ranges(error)),
+        Err(RangesError::Memory) => Err(CallError::Memory),
+        Err(error) => Err(CallError::Ranges(error)),
     }
 }
 
+/// Returns the set of a cell.
+fn set_of_cell(alloc: Global, order: Order, index: u64) -> Result<Coverage, CallError>
+    ensures { MatchResult result (λ a. set_of_cells_or_error order (index ∷ []) ≡ Ok a)
+        (λ e. (e ≡ NoMemory) ⊎ (set_of_cells_or_error order (index ∷ []) ≡ Err e)) }
+{
+    let Ok(cell) = Cell::new(order, index) else {
+        return Err(CallError::NoSuchCell { at: 0 });
+    };
+    Ok(Coverage::from_cell(alloc, cell)?)
+}
+
 /// Returns the set of the cells of one order with these indices.
-fn set_of_cells(alloc: Global, order: Order, cells: &[u64]) -> Result<Coverage, CallFault>
+pub(crate) fn set_of_cells(
+    alloc: Global,
+    order: Order,
+    cells: &[u64],
+) -> Result<Coverage, CallError>
     ensures { MatchResult result (λ a. set_of_cells_or_error order cells.now ≡ Ok a)
         (λ e. (e ≡ NoMemory) ⊎ (set_of_cells_or_error order cells.now ≡ Err e)) }
 {
+    if let [index] = cells {
+        return set_of_cell(alloc, order, *index);
+    }
     let mut builder = CoverageBuilder::new(alloc);
     for (at, index) in cells.iter().enumerate() {
         let Ok(cell) = Cell::new(order, *index) else {
-            return Err(CallFault::NoSuchCell { at });
+            return Err(CallError::NoSuchCell { at });
         };
         builder.add_cell(cell)?;
     }
@@ -57,14 +75,14 @@ fn set_of_cells(alloc: Global, order: Order, cells: &[u64]) -> Result<Coverage, 
 }
 
 /// Returns the set of the cells with these NUNIQ numbers.
-fn set_of_uniqs(alloc: Global, uniqs: &[u64]) -> Result<Coverage, CallFault>
+fn set_of_uniqs(alloc: Global, uniqs: &[u64]) -> Result<Coverage, CallError>
     ensures { MatchResult result (λ a. AreUniqsOf uniqs.now (Ok a)) (λ e.
         (e ≡ NoMemory) ⊎ AreUniqsOf uniqs.now (Err e)) }
 {
     let mut builder = CoverageBuilder::new(alloc);
     for (at, uniq) in uniqs.iter().enumerate() {
         let Ok(cell) = Cell::from_uniq(*uniq) else {
-            return Err(CallFault::NotUniq { at });
+            return Err(CallError::NotUniq { at });
         };
         builder.add_cell(cell)?;
     }
@@ -77,8 +95,8 @@ impl CoverageTable {
         ensures { Makes self.old self.new (set_of_cells_or_error order cells.now) result }
     {
         match Order::new(order) {
-            Some(order) => self.keep_parsed(set_of_cells(alloc, order, cells)),
-            None => CallResult::of(CallFault::NoSuchOrder { order }),
+            Some(order) => self.insert_or_fail(set_of_cells(alloc, order, cells)),
+            None => CallResult::of(CallError::NoSuchOrder { order }),
         }
     }
 }
@@ -94,7 +112,7 @@ impl CoverageTable {
 pub extern "C" fn moc_from_ranges(alloc: Global, store: &mut Store, ranges: &[Range]) -> CallResult
     ensures { Makes store.old.contents store.new.contents (set_of_ranges_or_error ranges.now) result }
 {
-    store.table().keep_parsed(set_of_ranges(alloc, ranges))
+    store.table().insert_or_fail(set_of_ranges(alloc, ranges))
 }
 
 /// Stores the set of the cells of an order with these nested indices, in any order, under a new id.
@@ -124,7 +142,7 @@ pub extern "C" fn moc_from_cells(
 pub extern "C" fn moc_from_uniqs(alloc: Global, store: &mut Store, uniqs: &[u64]) -> CallResult
     ensures { MakesSetOfUniqs store.old.contents store.new.contents uniqs.now result }
 {
-    store.table().keep_parsed(set_of_uniqs(alloc, uniqs))
+    store.table().insert_or_fail(set_of_uniqs(alloc, uniqs))
 }
 
 /// Copies the ranges of a set to the front of a buffer.
@@ -133,7 +151,7 @@ fn fill_ranges(ranges: Ranges<'_>, out: &mut [Range]) -> CallResult
 {
     let count = ranges.size_hint().0;
     if out.len() < count {
-        return CallResult::of(CallFault::NoRoom { wanted: count });
+        return CallResult::of(CallError::BufferTooShort { needed: count });
     }
     let mut at = 0;
     for (from, to) in ranges {
@@ -158,7 +176,7 @@ pub extern "C" fn moc_ranges(store: &mut Store, a: u64, out: &mut [Range]) -> Ca
 {
     match store.table().set(a) {
         Ok(set) => fill_ranges(set.ranges(), out),
-        Err(fault) => CallResult::of(fault),
+        Err(error) => CallResult::of(error),
     }
 }
 
@@ -168,7 +186,7 @@ fn fill_uniqs(cells: &[Cell], out: &mut [u64]) -> CallResult
 {
     let count = cells.len();
     if out.len() < count {
-        return CallResult::of(CallFault::NoRoom { wanted: count });
+        return CallResult::of(CallError::BufferTooShort { needed: count });
     }
     for (at, cell) in cells.iter().enumerate() {
         out[at] = cell.uniq();
@@ -182,7 +200,7 @@ fn fill_cells(alloc: Global, set: &Coverage, out: &mut [u64]) -> CallResult
 {
     match set.cells(alloc) {
         Ok(cells) => fill_uniqs(&cells, out),
-        Err(Memory) => CallResult::of(CallFault::Memory),
+        Err(Memory) => CallResult::of(CallError::Memory),
     }
 }
 
@@ -200,7 +218,38 @@ pub extern "C" fn moc_cells(alloc: Global, store: &mut Store, a: u64, out: &mut 
 {
     match store.table().set(a) {
         Ok(set) => fill_cells(alloc, set, out),
-        Err(fault) => CallResult::of(fault),
+        Err(error) => CallResult::of(error),
+    }
+}
+
+/// Copies numbers to the front of a buffer, and returns how many. Fails if the buffer is too short.
+fn fill_numbers(numbers: &[u64], out: &mut [u64]) -> CallResult
+    ensures { Fills numbers.now out.old out.new result }
+{
+    let count = numbers.len();
+    if out.len() < count {
+        return CallResult::of(CallError::BufferTooShort { needed: count });
+    }
+    out[..count].copy_from_slice(numbers);
+    CallResult::number(count as u64)
+}
+
+/// Copies the numbers of a set's cells of each order, from order 0 to order 29, to the front of a buffer, and returns
+/// how many numbers there are: 30.
+///
+/// # Errors
+/// Fails if the id has no set, or if the buffer is too short; the buffer is unchanged then.
+///
+/// # Complexity
+/// One pass over the ranges, O(n). Does not allocate.
+#[unsafe(no_mangle)]
+pub extern "C" fn moc_cell_count_by_order(store: &mut Store, a: u64, out: &mut [u64]) -> CallResult
+    ensures counts { FillsCellCounts (set_at store.old.contents a) out.old out.new result }
+    ensures same { store.new.contents ≡ store.old.contents }
+{
+    match store.table().set(a) {
+        Ok(set) => fill_numbers(&set.cell_count_by_order(), out),
+        Err(error) => CallResult::of(error),
     }
 }
 
@@ -210,7 +259,7 @@ fn fill_contained(set: &Coverage, pixels: &[u64], out: &mut [u8]) -> CallResult
     ensures { AreContainedFlags (Ok set.now) pixels.now out.old out.new result }
 {
     if pixels.len() != out.len() {
-        return CallResult::of(CallFault::LengthsDiffer);
+        return CallResult::of(CallError::LengthsDiffer);
     }
     let (mut rest, mut passed) = (set.ranges(), 0);
     let mut known = KnownSpan {
@@ -248,6 +297,6 @@ pub extern "C" fn moc_contains_all(
 {
     match store.table().set(a) {
         Ok(set) => fill_contained(set, pixels, out),
-        Err(fault) => CallResult::of(fault),
+        Err(error) => CallResult::of(error),
     }
 }

@@ -2,10 +2,10 @@
 ghost use Rattle.std.specs.Prelude.{◌≡◌};
 ghost use Rattle.moc_c.specs.CallResults.{success, result_of_format, result_of_json, result_of_line, call_result};
 ghost use Rattle.moc_c.specs.CallResults.{code_of_coverage, result_of_ranges};
-ghost use Rattle.moc_c.specs.CallResults.{result_of, result_of_text, number_result, result_of_uniq};
+ghost use Rattle.moc_c.specs.CallResults.{result_of, result_of_text, number_result, numbers_result, result_of_uniq};
 
 use crate::codes;
-use crate::fault::CallFault;
+use crate::error::CallError;
 use moc_forms::FormatError;
 use moc_lines::LineError;
 use moc_ranges::RangesError;
@@ -56,37 +56,38 @@ impl CallResult {
 
     /// Returns a success with two numbers.
     pub(crate) fn numbers(first: u64, second: u64) -> CallResult
-        ensures { result ≡ call_result 0 first second }
+        ensures { result ≡ numbers_result first second }
     {
         CallResult::new(codes::OK, first, second)
     }
 
     /// Returns the code of an error with its position.
-    pub(crate) fn of(fault: CallFault) -> CallResult
-        ensures { result ≡ result_of fault }
+    pub(crate) fn of(error: CallError) -> CallResult
+        ensures { result ≡ result_of error }
     {
-        match fault {
-            CallFault::Memory => CallResult::new(codes::MEMORY, 0, 0),
-            CallFault::NoRoom { wanted } => CallResult::at(codes::NO_ROOM, wanted),
-            CallFault::NoSuchSet { id } => CallResult::new(codes::NO_SUCH_SET, id, 0),
-            CallFault::NoSuchOrder { order } => {
+        match error {
+            CallError::Memory => CallResult::new(codes::MEMORY, 0, 0),
+            CallError::BufferTooShort { needed } => CallResult::at(codes::BUFFER_TOO_SHORT, needed),
+            CallError::NoSuchSet { id } => CallResult::new(codes::NO_SUCH_SET, id, 0),
+            CallError::NoSuchOrder { order } => {
                 CallResult::new(codes::NO_SUCH_ORDER, u64::from(order), 0)
             }
-            CallFault::LengthsDiffer => CallResult::new(codes::LENGTHS_DIFFER, 0, 0),
-            CallFault::NoSuchCell { at } => CallResult::at(codes::NO_SUCH_CELL, at),
-            CallFault::NotUniq { at } => CallResult::at(codes::NOT_UNIQ, at),
-            CallFault::Format(error) => CallResult::of_format(error),
-            CallFault::Ranges(error) => CallResult::of_ranges(error),
-            CallFault::Line(fault) => CallResult::of_line(fault),
-            CallFault::NoMap => CallResult::new(codes::NO_MAP, 0, 0),
-            CallFault::HandleInUse => CallResult::new(codes::HANDLE_IN_USE, 0, 0),
-            CallFault::BadCount { clients } => CallResult::new(
+            CallError::LengthsDiffer => CallResult::new(codes::LENGTHS_DIFFER, 0, 0),
+            CallError::NoSuchCell { at } => CallResult::at(codes::NO_SUCH_CELL, at),
+            CallError::NotUniq { at } => CallResult::at(codes::NOT_UNIQ, at),
+            CallError::Format(error) => CallResult::of_format(error),
+            CallError::TooCoarse => CallResult::new(codes::TOO_COARSE, 0, 0),
+            CallError::Ranges(error) => CallResult::of_ranges(error),
+            CallError::Line(error) => CallResult::of_line(error),
+            CallError::NoMap => CallResult::new(codes::NO_MAP, 0, 0),
+            CallError::HandleInUse => CallResult::new(codes::CLIENT_IN_USE, 0, 0),
+            CallError::BadCount { clients } => CallResult::new(
                 codes::BAD_COUNT,
                 u64::from(clients),
                 0,
             ),
-            CallFault::NoClient => CallResult::new(codes::NO_CLIENT, 0, 0),
-            CallFault::Busy(Busy { part, holder }) => {
+            CallError::NoClient => CallResult::new(codes::NO_CLIENT, 0, 0),
+            CallError::Busy(Busy { part, holder }) => {
                 CallResult::new(codes::BUSY, u64::from(part.get()), u64::from(holder))
             }
         }
@@ -100,8 +101,6 @@ impl CallResult {
             FormatError::Ascii(error) => CallResult::of_text(error),
             FormatError::Json(error) => CallResult::of_json(error),
             FormatError::Uniq(error) => CallResult::of_uniq(error),
-            FormatError::TooCoarse => CallResult::new(codes::TOO_COARSE, 0, 0),
-            FormatError::Memory => CallResult::new(codes::MEMORY, 0, 0),
         }
     }
 
@@ -162,10 +161,10 @@ impl CallResult {
     }
 
     /// Returns the result for an error of a line of commands.
-    fn of_line(fault: LineError) -> CallResult
-        ensures { result ≡ result_of_line fault }
+    fn of_line(error: LineError) -> CallResult
+        ensures { result ≡ result_of_line error }
     {
-        let code = match fault {
+        let code = match error {
             LineError::UnknownWord => codes::LINE_UNKNOWN_WORD,
             LineError::EmptyCommand => codes::LINE_EMPTY_COMMAND,
             LineError::TooManyCommands => codes::LINE_TOO_MANY_COMMANDS,
@@ -174,6 +173,9 @@ impl CallResult {
             LineError::OrderTooLarge => codes::LINE_ORDER_TOO_LARGE,
             LineError::CellTooLarge => codes::LINE_CELL_TOO_LARGE,
             LineError::Coverage(error) => coverage_code(error),
+            LineError::ClientTooLarge => codes::LINE_CLIENT_TOO_LARGE,
+            LineError::PartTooLarge => codes::LINE_PART_TOO_LARGE,
+            LineError::Memory => codes::MEMORY,
         };
         CallResult::new(code, 0, 0)
     }

@@ -2,6 +2,7 @@
 ghost use Rattle.std.specs.Prelude.{◌≡◌, ◌≤◌, ◌∷◌, [], length};
 ghost use Rattle.std.specs.Option.{option_or};
 ghost use Rattle.moc_sphere.specs.Faces.{face_of, x_of, y_of};
+ghost use Rattle.moc_c.specs.CallResults.{IsSuccess};
 ghost use Rattle.moc_c.specs.Buffers.{AreCellsOf, AreNeighbours, AreRelated, AreTouching, success_unless, IsConverted};
 ghost use Rattle.moc_c.specs.Buffers.{IsPadded, lengths_error, numbers_error, IsNeighbourRow, uniqs_error};
 ghost use Rattle.moc_c.specs.Private.Rows.{AreRowsOf, IsRowOf};
@@ -9,7 +10,7 @@ ghost use Rattle.moc_c.specs.declared.conversion.Conversion.TheVariants.{NestToR
 
 use crate::call_result::CallResult;
 use crate::conversion::Conversion;
-use crate::fault::CallFault;
+use crate::error::CallError;
 use moc_sphere::{Cell, Order};
 use std::alloc::Global;
 
@@ -17,17 +18,17 @@ use std::alloc::Global;
 #[inline]
 fn convert(conversion: Conversion, order: u8, numbers: &[u64], out: &mut [u64]) -> CallResult
     ensures call_result { result ≡ success_unless (numbers_error order numbers.now (length out.old ∷ [])) }
-    ensures value { result.code ≡ 0 → AreRelated (IsConverted conversion order) numbers.now out.new }
+    ensures value { IsSuccess result → AreRelated (IsConverted conversion order) numbers.now out.new }
 {
     let Some(order) = Order::new(order) else {
-        return CallResult::of(CallFault::NoSuchOrder { order });
+        return CallResult::of(CallError::NoSuchOrder { order });
     };
     if numbers.len() != out.len() {
-        return CallResult::of(CallFault::LengthsDiffer);
+        return CallResult::of(CallError::LengthsDiffer);
     }
     for (at, number) in numbers.iter().enumerate() {
         let Some(told) = conversion.of(order, *number) else {
-            return CallResult::of(CallFault::NoSuchCell { at });
+            return CallResult::of(CallError::NoSuchCell { at });
         };
         out[at] = told;
     }
@@ -41,7 +42,7 @@ fn convert(conversion: Conversion, order: u8, numbers: &[u64], out: &mut [u64]) 
 #[unsafe(no_mangle)]
 pub extern "C" fn moc_nest_to_ring(order: u8, cells: &[u64], out: &mut [u64]) -> CallResult
     ensures call_result { result ≡ success_unless (numbers_error order cells.now (length out.old ∷ [])) }
-    ensures value { result.code ≡ 0 → AreRelated (IsConverted NestToRing order) cells.now out.new }
+    ensures value { IsSuccess result → AreRelated (IsConverted NestToRing order) cells.now out.new }
 {
     convert(Conversion::NestToRing, order, cells, out)
 }
@@ -50,7 +51,7 @@ pub extern "C" fn moc_nest_to_ring(order: u8, cells: &[u64], out: &mut [u64]) ->
 #[unsafe(no_mangle)]
 pub extern "C" fn moc_ring_to_nest(order: u8, rings: &[u64], out: &mut [u64]) -> CallResult
     ensures call_result { result ≡ success_unless (numbers_error order rings.now (length out.old ∷ [])) }
-    ensures value { result.code ≡ 0 → AreRelated (IsConverted RingToNest order) rings.now out.new }
+    ensures value { IsSuccess result → AreRelated (IsConverted RingToNest order) rings.now out.new }
 {
     convert(Conversion::RingToNest, order, rings, out)
 }
@@ -59,7 +60,7 @@ pub extern "C" fn moc_ring_to_nest(order: u8, rings: &[u64], out: &mut [u64]) ->
 #[unsafe(no_mangle)]
 pub extern "C" fn moc_nest_to_uniq(order: u8, cells: &[u64], out: &mut [u64]) -> CallResult
     ensures call_result { result ≡ success_unless (numbers_error order cells.now (length out.old ∷ [])) }
-    ensures value { result.code ≡ 0 → AreRelated (IsConverted NestToUniq order) cells.now out.new }
+    ensures value { IsSuccess result → AreRelated (IsConverted NestToUniq order) cells.now out.new }
 {
     convert(Conversion::NestToUniq, order, cells, out)
 }
@@ -77,14 +78,14 @@ pub extern "C" fn moc_uniq_to_nest(
     ensures call_result { result ≡ success_unless
         (option_or (lengths_error (length uniqs.now) (length orders.old ∷ length cells.old ∷ []))
         (uniqs_error uniqs.now)) }
-    ensures value { result.code ≡ 0 → AreCellsOf uniqs.now orders.new cells.new }
+    ensures value { IsSuccess result → AreCellsOf uniqs.now orders.new cells.new }
 {
     if uniqs.len() != orders.len() || uniqs.len() != cells.len() {
-        return CallResult::of(CallFault::LengthsDiffer);
+        return CallResult::of(CallError::LengthsDiffer);
     }
     for (at, uniq) in uniqs.iter().enumerate() {
         let Ok(cell) = Cell::from_uniq(*uniq) else {
-            return CallResult::of(CallFault::NotUniq { at });
+            return CallResult::of(CallError::NotUniq { at });
         };
         orders[at] = cell.order().get();
         cells[at] = cell.index();
@@ -104,19 +105,19 @@ pub extern "C" fn moc_nest_to_face_xy(
 ) -> CallResult
     ensures call_result { result ≡ success_unless
         (numbers_error order cells.now (length faces.old ∷ length xs.old ∷ length ys.old ∷ [])) }
-    ensures faces { result.code ≡ 0 → AreRelated (λ c y. y ≡ face_of order c) cells.now faces.new }
-    ensures xs { result.code ≡ 0 → AreRelated (λ c y. y ≡ x_of order c) cells.now xs.new }
-    ensures ys { result.code ≡ 0 → AreRelated (λ c y. y ≡ y_of order c) cells.now ys.new }
+    ensures faces { IsSuccess result → AreRelated (λ c y. y ≡ face_of order c) cells.now faces.new }
+    ensures xs { IsSuccess result → AreRelated (λ c y. y ≡ x_of order c) cells.now xs.new }
+    ensures ys { IsSuccess result → AreRelated (λ c y. y ≡ y_of order c) cells.now ys.new }
 {
     let Some(order) = Order::new(order) else {
-        return CallResult::of(CallFault::NoSuchOrder { order });
+        return CallResult::of(CallError::NoSuchOrder { order });
     };
     if cells.len() != faces.len() || cells.len() != xs.len() || cells.len() != ys.len() {
-        return CallResult::of(CallFault::LengthsDiffer);
+        return CallResult::of(CallError::LengthsDiffer);
     }
     for (at, index) in cells.iter().enumerate() {
         let Ok(cell) = Cell::new(order, *index) else {
-            return CallResult::of(CallFault::NoSuchCell { at });
+            return CallResult::of(CallError::NoSuchCell { at });
         };
         let (face, x, y) = cell.face_xy();
         faces[at] = face;
@@ -173,17 +174,17 @@ fn row(near: NearbyKind, cell: Cell) -> [u64; 8]
 /// Writes the row of each cell of an order.
 fn nearby_rows(near: NearbyKind, order: u8, cells: &[u64], out: &mut [[u64; 8]]) -> CallResult
     ensures call_result { result ≡ success_unless (numbers_error order cells.now (length out.old ∷ [])) }
-    ensures value { result.code ≡ 0 → AreRowsOf near order cells.now out.new }
+    ensures value { IsSuccess result → AreRowsOf near order cells.now out.new }
 {
     let Some(order) = Order::new(order) else {
-        return CallResult::of(CallFault::NoSuchOrder { order });
+        return CallResult::of(CallError::NoSuchOrder { order });
     };
     if cells.len() != out.len() {
-        return CallResult::of(CallFault::LengthsDiffer);
+        return CallResult::of(CallError::LengthsDiffer);
     }
     for (at, index) in cells.iter().enumerate() {
         let Ok(cell) = Cell::new(order, *index) else {
-            return CallResult::of(CallFault::NoSuchCell { at });
+            return CallResult::of(CallError::NoSuchCell { at });
         };
         out[at] = row(near, cell);
     }
@@ -200,7 +201,7 @@ pub extern "C" fn moc_touching(
     out: &mut [[u64; 8]],
 ) -> CallResult
     ensures call_result { result ≡ success_unless (numbers_error order cells.now (length out.old ∷ [])) }
-    ensures value { result.code ≡ 0 → AreTouching order cells.now out.new }
+    ensures value { IsSuccess result → AreTouching order cells.now out.new }
 {
     nearby_rows(NearbyKind::Touching(alloc), order, cells, out)
 }
@@ -210,7 +211,7 @@ pub extern "C" fn moc_touching(
 #[unsafe(no_mangle)]
 pub extern "C" fn moc_neighbours(order: u8, cells: &[u64], out: &mut [[u64; 8]]) -> CallResult
     ensures call_result { result ≡ success_unless (numbers_error order cells.now (length out.old ∷ [])) }
-    ensures value { result.code ≡ 0 → AreNeighbours order cells.now out.new }
+    ensures value { IsSuccess result → AreNeighbours order cells.now out.new }
 {
     nearby_rows(NearbyKind::Neighbours, order, cells, out)
 }

@@ -3,8 +3,8 @@ ghost use Rattle.std.specs.Prelude.{◌≡◌, IfOk};
 ghost use Rattle.std.specs.Borrow.{sem};
 ghost use Rattle.moc_c.specs.Sharing.{no_client};
 ghost use Rattle.moc_c.specs.Private.ClientHandle.{handle_owns};
-ghost use Rattle.moc_c.specs.contracts.client_state.ClientState as sitter_row;
-ghost use Rattle.moc_c.specs.declared.client_state.ClientState.{ClientState as SitterValue};
+ghost use Rattle.moc_c.specs.contracts.client_state.ClientState as client_state_row;
+ghost use Rattle.moc_c.specs.declared.client_state.ClientState.{ClientState as ClientStateValue};
 
 use crate::box_parts::{BoxParts, sendable};
 use crate::client_state::ClientState;
@@ -16,7 +16,7 @@ use std::marker::{Model, Send};
 pub struct ClientHandle {
     ptr: *mut u8,
     alloc: Global,
-    pub ghost contents: { SitterValue } by { sitter_row.the_row.coded },
+    pub ghost contents: { ClientStateValue } by { client_state_row.the_row.coded },
 }
 
 impl Model for ClientHandle {
@@ -75,7 +75,7 @@ unsafe impl Send for ClientHandle {}
 
 /// Frees a handle. Its client makes no further call. The map exists until the last handle of its clients is freed.
 #[unsafe(no_mangle)]
-pub extern "C" fn moc_seat_close(client_handle: ClientHandle) {
+pub extern "C" fn moc_client_close(client_handle: ClientHandle) {
     drop(client_handle);
 }
 

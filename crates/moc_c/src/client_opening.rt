@@ -9,7 +9,7 @@ use std::alloc::Global;
 
 /// Creates an empty client handle at the address. Returns false if an allocation fails.
 #[unsafe(no_mangle)]
-pub unsafe extern "C" fn moc_seat_open(alloc: Global, out: *mut ClientHandle) -> bool
+pub unsafe extern "C" fn moc_client_open(alloc: Global, out: *mut ClientHandle) -> bool
     requires* { sem 𝓛 (room_at the_row out) }
     ensures* { sem 𝓛 (handle_or_memory result out) }
 {

@@ -4,10 +4,10 @@ ghost use Rattle.moc_lists.specs.RangeList.{NumberSet};
 ghost use Rattle.moc_parts.specs.declared.reply.Reply.TheVariants.{Cover};
 ghost use Rattle.moc_c.specs.Membership.{IsNewMember};
 ghost use Rattle.moc_c.specs.Sharing.{Gives, whole_sky};
-ghost use Rattle.moc_c.specs.Private.Making.{ReadsWholeSky, Tries};
+ghost use Rattle.moc_c.specs.Private.Making.{ReadsWholeSky, replies_of, Tries};
 ghost use Rattle.moc_shared.specs.Clients.{IsClientOf, number_of};
 
-use crate::fault::CallFault;
+use crate::error::CallError;
 use moc_parts::{Batch, Command, Operand, Replies, Reply};
 use moc_ranges::{Coverage, Memory};
 use moc_shared::{Client, NewError, SharedMap, TryError};
@@ -80,11 +80,11 @@ impl Member {
 
     /// Returns one of the clients that can be given away, as a member of the same map. O(1). Fails if none is left, or
     /// if an allocation fails.
-    pub(crate) fn give(&mut self, alloc: Global) -> Result<Member, CallFault>
+    pub(crate) fn give(&mut self, alloc: Global) -> Result<Member, CallError>
         ensures { Gives self.old self.new result }
     {
         let Ok(map) = Arc::try_clone(&self.map) else {
-            return Err(CallFault::Memory);
+            return Err(CallError::Memory);
         };
         match self.unassigned.pop() {
             Some(client) => Ok(Member {
@@ -92,7 +92,7 @@ impl Member {
                 client,
                 unassigned: Vec::new(alloc),
             }),
-            None => Err(CallFault::NoClient),
+            None => Err(CallError::NoClient),
         }
     }
 
@@ -101,6 +101,13 @@ impl Member {
         ensures { Tries self.old self.new batch.now result }
     {
         self.map.try_apply(&mut self.client, batch)
+    }
+
+    /// Executes one command, or fails if another client holds a part that it needs. As `SharedMap::try_answer`.
+    pub(crate) fn answer(&mut self, command: &Command) -> Result<Reply, TryError>
+        ensures { Tries self.old self.new (command.now ∷ []) (replies_of result) }
+    {
+        self.map.try_answer(&mut self.client, command)
     }
 
     /// Returns a copy of the map's set by a query of the whole sky. Allocates its ranges. Fails if another client

@@ -20,7 +20,7 @@ pub extern "C" fn moc_count(store: &mut Store, a: u64) -> CallResult
 {
     match store.table().set(a) {
         Ok(set) => CallResult::number(set.count()),
-        Err(fault) => CallResult::of(fault),
+        Err(error) => CallResult::of(error),
     }
 }
 
@@ -35,7 +35,7 @@ pub extern "C" fn moc_count_common(store: &mut Store, a: u64, b: u64) -> CallRes
 {
     match store.table().two(a, b) {
         Ok((first, second)) => CallResult::number(first.count_common(second)),
-        Err(fault) => CallResult::of(fault),
+        Err(error) => CallResult::of(error),
     }
 }
 
@@ -52,7 +52,7 @@ pub extern "C" fn moc_range_count(store: &mut Store, a: u64) -> CallResult
 {
     match store.table().set(a) {
         Ok(set) => CallResult::number(set.range_count() as u64),
-        Err(fault) => CallResult::of(fault),
+        Err(error) => CallResult::of(error),
     }
 }
 
@@ -68,7 +68,7 @@ pub extern "C" fn moc_deepest_order(store: &mut Store, a: u64) -> CallResult
 {
     match store.table().set(a) {
         Ok(set) => CallResult::number(u64::from(set.deepest_order().get())),
-        Err(fault) => CallResult::of(fault),
+        Err(error) => CallResult::of(error),
     }
 }
 
@@ -80,7 +80,7 @@ pub extern "C" fn moc_is_empty(store: &mut Store, a: u64) -> CallResult
 {
     match store.table().set(a) {
         Ok(set) => CallResult::number(u64::from(set.is_empty())),
-        Err(fault) => CallResult::of(fault),
+        Err(error) => CallResult::of(error),
     }
 }
 
@@ -92,7 +92,7 @@ pub extern "C" fn moc_contains(store: &mut Store, a: u64, pixel: u64) -> CallRes
 {
     match store.table().set(a) {
         Ok(set) => CallResult::number(u64::from(set.contains(pixel))),
-        Err(fault) => CallResult::of(fault),
+        Err(error) => CallResult::of(error),
     }
 }
 
@@ -104,7 +104,7 @@ pub extern "C" fn moc_meets(store: &mut Store, a: u64, b: u64) -> CallResult
 {
     match store.table().two(a, b) {
         Ok((first, second)) => CallResult::number(u64::from(first.meets(second))),
-        Err(fault) => CallResult::of(fault),
+        Err(error) => CallResult::of(error),
     }
 }
 
@@ -117,7 +117,7 @@ pub extern "C" fn moc_covers(store: &mut Store, a: u64, b: u64) -> CallResult
 {
     match store.table().two(a, b) {
         Ok((first, second)) => CallResult::number(u64::from(first.covers(second))),
-        Err(fault) => CallResult::of(fault),
+        Err(error) => CallResult::of(error),
     }
 }
 
@@ -129,6 +129,6 @@ pub extern "C" fn moc_same(store: &mut Store, a: u64, b: u64) -> CallResult
 {
     match store.table().two(a, b) {
         Ok((first, second)) => CallResult::number(u64::from(first.same(second))),
-        Err(fault) => CallResult::of(fault),
+        Err(error) => CallResult::of(error),
     }
 }

@@ -8,7 +8,7 @@ ghost use Rattle.moc_forms.specs.Changing.{changed_set};
 ghost use Rattle.moc_c.specs.Answers.{both, Frees, set_made_of, Makes, of_two, order_of_number, set_at, sets_at};
 
 use crate::call_result::CallResult;
-use crate::fault::CallFault;
+use crate::error::CallError;
 use crate::store::Store;
 use crate::table::{CoverageTable, order_of};
 use moc_forms::{Change, Operation};
@@ -22,10 +22,10 @@ impl CoverageTable {
     {
         match self.two(a, b) {
             Ok((first, second)) => {
-                let made = operation.of(alloc, first, second);
+                let made = operation.apply(alloc, first, second);
                 self.insert_new(made)
             }
-            Err(fault) => CallResult::of(fault),
+            Err(error) => CallResult::of(error),
         }
     }
 
@@ -35,10 +35,10 @@ impl CoverageTable {
     {
         match self.set(a) {
             Ok(set) => {
-                let made = change.of(alloc, set);
+                let made = change.apply(alloc, set);
                 self.insert_new(made)
             }
-            Err(fault) => CallResult::of(fault),
+            Err(error) => CallResult::of(error),
         }
     }
 
@@ -52,8 +52,8 @@ impl CoverageTable {
                 let made = set.degrade(alloc, order);
                 self.insert_new(made)
             }
-            (Ok(_), Err(fault)) => CallResult::of(fault),
-            (Err(fault), _) => CallResult::of(fault),
+            (Ok(_), Err(error)) => CallResult::of(error),
+            (Err(error), _) => CallResult::of(error),
         }
     }
 }
@@ -140,6 +140,6 @@ pub extern "C" fn moc_free(store: &mut Store, a: u64) -> CallResult
     if store.table().free(a) {
         CallResult::success()
     } else {
-        CallResult::of(CallFault::NoSuchSet { id: a })
+        CallResult::of(CallError::NoSuchSet { id: a })
     }
 }

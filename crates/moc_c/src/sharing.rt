@@ -7,24 +7,24 @@ ghost use Rattle.moc_c.specs.Sharing.{StoresMapSet, member_of_handle, StoresMemb
 use crate::call_result::CallResult;
 use crate::client_handle::ClientHandle;
 use crate::client_state::ClientState;
-use crate::fault::CallFault;
+use crate::error::CallError;
 use crate::member::Member;
 use crate::store::Store;
 use crate::table::CoverageTable;
 use crate::texts::fill_text;
-use moc_lines::{ReadError, answer_text, read_batch};
+use moc_lines::{answer_text, read_batch};
 use moc_ranges::Memory;
 use moc_shared::MAX_CLIENTS;
 use std::alloc::Global;
 
 /// Returns the number of clients if a map can have as many.
-fn checked_client_count(clients: u8) -> Result<u8, CallFault>
+fn checked_client_count(clients: u8) -> Result<u8, CallError>
     ensures { result ≡ client_count clients }
 {
     if 1 <= clients && clients <= MAX_CLIENTS {
         Ok(clients)
     } else {
-        Err(CallFault::BadCount { clients })
+        Err(CallError::BadCount { clients })
     }
 }
 
@@ -34,7 +34,7 @@ fn begin_member(
     table: &CoverageTable,
     a: u64,
     clients: u8,
-) -> Result<Member, CallFault>
+) -> Result<Member, CallError>
     ensures { IsFirstClient (both (set_at table.now a) (client_count clients)) result }
 {
     let set = table.set(a)?;
@@ -50,7 +50,7 @@ impl ClientState {
             (unless_in_use self.old.member (both (set_at table.now a) (client_count clients))) result }
     {
         if self.member.is_some() {
-            return CallResult::of(CallFault::HandleInUse);
+            return CallResult::of(CallError::HandleInUse);
         }
         self.set_member(begin_member(alloc, table, a, clients))
     }
@@ -61,16 +61,16 @@ impl ClientState {
             (unless_in_use other.old.member (member_of_handle self.old)) result }
     {
         if other.member.is_some() {
-            return CallResult::of(CallFault::HandleInUse);
+            return CallResult::of(CallError::HandleInUse);
         }
         let Some(member) = &mut self.member else {
-            return CallResult::of(CallFault::NoMap);
+            return CallResult::of(CallError::NoMap);
         };
         other.set_member(member.give(alloc))
     }
 
     /// Stores the member in the handle, and returns its client number.
-    fn set_member(&mut self, member: Result<Member, CallFault>) -> CallResult
+    fn set_member(&mut self, member: Result<Member, CallError>) -> CallResult
         ensures { StoresMember self.old self.new member result }
     {
         match member {
@@ -79,7 +79,7 @@ impl ClientState {
                 self.member = Some(member);
                 CallResult::number(u64::from(number))
             }
-            Err(fault) => CallResult::of(fault),
+            Err(error) => CallResult::of(error),
         }
     }
 
@@ -88,19 +88,18 @@ impl ClientState {
         ensures { Applies self.old self.new (member_of_handle self.old) line.now result }
     {
         let Some(member) = &mut self.member else {
-            return CallResult::of(CallFault::NoMap);
+            return CallResult::of(CallError::NoMap);
         };
         let batch = match read_batch(alloc, line) {
             Ok(batch) => batch,
-            Err(ReadError::Fault(fault)) => return CallResult::of(CallFault::Line(fault)),
-            Err(ReadError::Memory) => return CallResult::of(CallFault::Memory),
+            Err(error) => return CallResult::of(CallError::Line(error)),
         };
         match member.apply(&batch) {
             Ok(replies) => {
                 self.replies = Some(replies);
                 CallResult::success()
             }
-            Err(error) => CallResult::of(CallFault::from(error)),
+            Err(error) => CallResult::of(CallError::from(error)),
         }
     }
 
@@ -109,11 +108,11 @@ impl ClientState {
         ensures { StoresMapSet self.old self.new table.old table.new (member_of_handle self.old) result }
     {
         let Some(member) = &mut self.member else {
-            return CallResult::of(CallFault::NoMap);
+            return CallResult::of(CallError::NoMap);
         };
         match member.read(alloc) {
             Ok(set) => table.insert_new(Ok(set)),
-            Err(error) => CallResult::of(CallFault::from(error)),
+            Err(error) => CallResult::of(CallError::from(error)),
         }
     }
 
@@ -210,7 +209,7 @@ pub extern "C" fn moc_map_answer(
 {
     match client_handle.client_state().answer(alloc) {
         Ok(text) => fill_text(&text, out),
-        Err(Memory) => CallResult::of(CallFault::Memory),
+        Err(Memory) => CallResult::of(CallError::Memory),
     }
 }
 

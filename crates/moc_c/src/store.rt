@@ -74,7 +74,7 @@ unsafe impl Send for Store {}
 
 /// Frees a store with all coverages in it.
 #[unsafe(no_mangle)]
-pub extern "C" fn moc_close(store: Store) {
+pub extern "C" fn moc_store_close(store: Store) {
     drop(store);
 }
 

@@ -8,7 +8,7 @@ ghost use Rattle.moc_c.specs.Private.Making.{KeepsParsed, MakesIf};
 ghost use Rattle.moc_c.specs.Contents.{set_with_id, empty_store, with_set, with_text, without_set};
 
 use crate::call_result::CallResult;
-use crate::fault::CallFault;
+use crate::error::CallError;
 use moc_ranges::{Coverage, Memory};
 use moc_sphere::Order;
 use std::alloc::Global;
@@ -16,12 +16,12 @@ use std::collections::BTreeMap;
 use std::marker::Model;
 
 /// Returns the order with this number. Fails if there is none.
-pub(crate) fn order_of(number: u8) -> Result<Order, CallFault>
+pub(crate) fn order_of(number: u8) -> Result<Order, CallError>
     ensures { result ≡ order_of_number number }
 {
     match Order::new(number) {
         Some(order) => Ok(order),
-        None => Err(CallFault::NoSuchOrder { order: number }),
+        None => Err(CallError::NoSuchOrder { order: number }),
     }
 }
 
@@ -118,17 +118,17 @@ impl CoverageTable {
     }
 
     /// Returns the coverage with this id. Fails if there is none. O(log n).
-    pub(crate) fn set(&self, id: u64) -> Result<&Coverage, CallFault>
+    pub(crate) fn set(&self, id: u64) -> Result<&Coverage, CallError>
         ensures { MatchResult result (λ set. set_at self.now id ≡ Ok set.now) (λ e. set_at self.now id ≡ Err e) }
     {
         match self.sets.get(id) {
             Some(set) => Ok(set),
-            None => Err(CallFault::NoSuchSet { id }),
+            None => Err(CallError::NoSuchSet { id }),
         }
     }
 
     /// Returns the coverages with two ids. Fails with the first id that has none. O(log n).
-    pub(crate) fn two(&self, a: u64, b: u64) -> Result<(&Coverage, &Coverage), CallFault>
+    pub(crate) fn two(&self, a: u64, b: u64) -> Result<(&Coverage, &Coverage), CallError>
         ensures { MatchResult result (λ sets. sets_at self.now a b ≡ Ok (sets.0.now, sets.1.now))
             (λ e. sets_at self.now a b ≡ Err e) }
     {
@@ -155,21 +155,21 @@ impl CoverageTable {
         ensures { MakesIf self.old self.new made result }
     {
         let Ok(set) = made else {
-            return CallResult::of(CallFault::Memory);
+            return CallResult::of(CallError::Memory);
         };
         match self.put(set) {
             Ok(id) => CallResult::number(id),
-            Err(Memory) => CallResult::of(CallFault::Memory),
+            Err(Memory) => CallResult::of(CallError::Memory),
         }
     }
 
     /// Stores a set that was built from an array and returns its id, or returns the code of the array's error.
-    pub(crate) fn keep_parsed(&mut self, said: Result<Coverage, CallFault>) -> CallResult
-        ensures { KeepsParsed self.old self.new said result }
+    pub(crate) fn insert_or_fail(&mut self, outcome: Result<Coverage, CallError>) -> CallResult
+        ensures { KeepsParsed self.old self.new outcome result }
     {
-        match said {
+        match outcome {
             Ok(set) => self.insert_new(Ok(set)),
-            Err(fault) => CallResult::of(fault),
+            Err(error) => CallResult::of(error),
         }
     }
 

@@ -8,7 +8,7 @@ ghost use Rattle.moc_c.specs.Texts.{KeepsText, order_with_number, order_number, 
 ghost use Rattle.moc_c.specs.Texts.{WritesText};
 
 use crate::call_result::CallResult;
-use crate::fault::CallFault;
+use crate::error::CallError;
 use crate::store::Store;
 use crate::table::{CoverageTable, order_of};
 use moc_forms::{Format, describe, draw};
@@ -30,7 +30,7 @@ fn number_of(order: Option<Order>) -> u64
 }
 
 /// Returns the order with this number, or `None` for the number that stands for "no order". Fails for any other number.
-fn order_or_none(number: u8) -> Result<Option<Order>, CallFault>
+fn order_or_none(number: u8) -> Result<Option<Order>, CallError>
     ensures { result ≡ order_with_number number }
 {
     if number == NO_ORDER {
@@ -45,7 +45,7 @@ pub(crate) fn fill_text(text: &[u8], out: &mut [u8]) -> CallResult
 {
     let length = text.len();
     if out.len() < length {
-        return CallResult::of(CallFault::NoRoom { wanted: length });
+        return CallResult::of(CallError::BufferTooShort { needed: length });
     }
     out[..length].copy_from_slice(text);
     CallResult::number(length as u64)
@@ -59,9 +59,9 @@ impl CoverageTable {
         match format.read(alloc, text) {
             Ok((set, deepest)) => match self.put(set) {
                 Ok(id) => CallResult::numbers(id, number_of(deepest)),
-                Err(Memory) => CallResult::of(CallFault::Memory),
+                Err(Memory) => CallResult::of(CallError::Memory),
             },
-            Err(error) => CallResult::of(CallFault::Format(error)),
+            Err(error) => CallResult::of(CallError::Format(error)),
         }
     }
 
@@ -72,7 +72,7 @@ impl CoverageTable {
         format: Format,
         id: u64,
         stated: u8,
-    ) -> Result<String, CallFault>
+    ) -> Result<String, CallError>
         ensures { WritesText format self.now id stated (bytes_of_text result) }
     {
         let set = self.set(id)?;
@@ -81,7 +81,7 @@ impl CoverageTable {
     }
 
     /// Returns the statistics of a set as text.
-    fn statistics_of_set(&self, alloc: Global, id: u64, deepest: u8) -> Result<String, CallFault>
+    fn statistics_of_set(&self, alloc: Global, id: u64, deepest: u8) -> Result<String, CallError>
         ensures { DescribesText self.now id deepest (bytes_of_text result) }
     {
         let set = self.set(id)?;
@@ -90,7 +90,7 @@ impl CoverageTable {
     }
 
     /// Returns the picture of a set.
-    fn picture_of_set(&self, alloc: Global, id: u64) -> Result<String, CallFault>
+    fn picture_of_set(&self, alloc: Global, id: u64) -> Result<String, CallError>
         ensures { DrawsText self.now id (bytes_of_text result) }
     {
         let set = self.set(id)?;
@@ -98,7 +98,7 @@ impl CoverageTable {
     }
 
     /// Keeps a new text, and returns its length.
-    fn keep_new_text(&mut self, made: Result<String, CallFault>) -> CallResult
+    fn keep_new_text(&mut self, made: Result<String, CallError>) -> CallResult
         ensures { KeepsText self.old self.new (bytes_of_text made) result }
     {
         match made {
@@ -107,7 +107,7 @@ impl CoverageTable {
                 self.keep_text(text);
                 CallResult::number(length)
             }
-            Err(fault) => CallResult::of(fault),
+            Err(error) => CallResult::of(error),
         }
     }
 }
@@ -193,7 +193,7 @@ pub extern "C" fn moc_write_uniq(alloc: Global, store: &mut Store, a: u64) -> Ca
 /// Fails if the id has no set, for an order above 29 other than 255, or if an allocation fails.
 ///
 /// # Memory
-/// Allocates a list of the set's cells, and passes over it once.
+/// Allocates only the text.
 #[unsafe(no_mangle)]
 pub extern "C" fn moc_describe(alloc: Global, store: &mut Store, a: u64, deepest: u8) -> CallResult
     ensures { KeepsNewText store.old.contents store.new.contents (DescribesText store.old.contents a deepest) result }

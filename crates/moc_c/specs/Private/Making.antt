@@ -14,8 +14,8 @@ use Rattle.moc_c.specs.Contents.{Contents}
 use Rattle.moc_c.specs.Membership.{Membership}
 use Rattle.moc_c.specs.CallResults.{memory, result_of}
 use Rattle.moc_c.specs.Sharing.{IsAfter, MemberEnds, whole_sky}
-use Rattle.moc_c.specs.declared.fault.CallFault.{CallFault}
-use Rattle.moc_c.specs.declared.fault.CallFault.TheVariants as fault
+use Rattle.moc_c.specs.declared.error.CallError.{CallError}
+use Rattle.moc_c.specs.declared.error.CallError.TheVariants as error
 use Rattle.moc_c.specs.declared.call_result.CallResult.{CallResult}
 
 -- a set is stored under the next id if it was allocated
@@ -24,19 +24,24 @@ MakesIf old new (Ok a) o = Makes old new (Ok a) o
 MakesIf old new (Err e) o = (o ≡ memory) × (new ≡ old)
 
 -- the set that was built from an array is stored; or the result is the error, and nothing changes
-abbrev pub KeepsParsed : Contents → Contents → Result NumberSet CallFault → CallResult → Type 0
+abbrev pub KeepsParsed : Contents → Contents → Result NumberSet CallError → CallResult → Type 0
 KeepsParsed old new (Ok a) o = Makes old new (Ok a) o
 KeepsParsed old new (Err e) o = (o ≡ result_of e) × (new ≡ old)
 
 -- the error of a batch that was not executed
-abbrev pub try_error : TryError → CallFault
-try_error (try.Busy b) = fault.Busy b
-try_error try.Memory = fault.Memory
+abbrev pub try_error : TryError → CallError
+try_error (try.Busy b) = error.Busy b
+try_error try.Memory = error.Memory
 
 -- the member's call of these commands is executed, with these replies, or fails
 abbrev pub Tries : Membership → Membership → List Command → Result (List Reply) TryError → Type 0
 Tries old new cs (Ok r) = IsAfter old new × MemberEnds old new cs r
 Tries old new cs (Err e) = IsAfter old new × AfterTryApply old.map cs e (record_of old.client) (record_of new.client)
+
+-- the reply of a call of one command as a list, or its error
+abbrev pub replies_of : Result Reply TryError → Result (List Reply) TryError
+replies_of (Ok r) = Ok (r ∷ [])
+replies_of (Err e) = Err e
 
 -- the member's call is executed and replies this set; or it fails, or the set cannot be copied
 abbrev pub ReadsWholeSky : Membership → Membership → Result NumberSet TryError → Type 0
@@ -46,6 +51,6 @@ ReadsWholeSky old new (Err e) =
     ⊎ ((new ≡ old) × (e ≡ try.Memory))
 
 -- the bytes of a text
-abbrev pub bytes_of_text : Result (String Global) CallFault → Result (List ℕ) CallFault
+abbrev pub bytes_of_text : Result (String Global) CallError → Result (List ℕ) CallError
 bytes_of_text (Ok t) = Ok (string_bytes t)
 bytes_of_text (Err e) = Err e

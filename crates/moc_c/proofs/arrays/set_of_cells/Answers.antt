@@ -17,8 +17,8 @@ loop-at-preserved c =
     let xs = c.args.cells.now in let i = c.loop-at.at in
     (one_more c.args.order xs i c.loop-at.builder c.add_cell.new.self (search rules) (search rules) ∙ c.loop-at.invariant.0, below_more _ _ c.loop-at.invariant.1 (search rules))
 
-pub returns-in_default : goal.returns-in_default
-returns-in_default c =
+pub returns-in_default-new : goal.returns-in_default-new
+returns-in_default-new c =
     let fails : cell_count c.args.order ≤ get_or c.args.cells.now c.loop-at.at 0 = search rules in
     inr (cells_unsaid c.args.order c.args.cells.now c.loop-at.at (search rules) c.loop-at-test.true c.loop-at.invariant.1 fails)
 

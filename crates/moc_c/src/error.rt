@@ -3,15 +3,16 @@ use moc_forms::FormatError;
 use moc_lines::LineError;
 use moc_ranges::{Memory as OutOfMemory, RangesError};
 use moc_shared::{Busy, TryError};
+use moc_text::WriteError;
 use std::alloc::AllocError;
 
 /// Why a call failed.
 #[derive(Clone, Copy)]
-pub enum CallFault {
+pub enum CallError {
     /// An allocation failed.
     Memory,
     /// The buffer is too short for this number of elements.
-    NoRoom { wanted: usize },
+    BufferTooShort { needed: usize },
     /// No set has this id.
     NoSuchSet { id: u64 },
     /// The order is above 29.
@@ -22,11 +23,13 @@ pub enum CallFault {
     NoSuchCell { at: usize },
     /// The number at this position is the first that is not a NUNIQ number.
     NotUniq { at: usize },
-    /// A text cannot be parsed or written.
+    /// A text cannot be parsed.
     Format(FormatError),
+    /// A cell is deeper than the stated order.
+    TooCoarse,
     /// A range is invalid.
     Ranges(RangesError),
-    /// A line of commands is invalid.
+    /// A line of commands was not parsed.
     Line(LineError),
     /// The handle has no client.
     NoMap,
@@ -40,49 +43,52 @@ pub enum CallFault {
     Busy(Busy),
 }
 
-impl From<OutOfMemory> for CallFault {
+impl From<OutOfMemory> for CallError {
     ghost use Rattle.std.specs.Prelude.{◌≡◌};
-    ghost use Rattle.moc_c.specs.declared.fault.CallFault.TheVariants as fault;
+    ghost use Rattle.moc_c.specs.declared.error.CallError.TheVariants as error;
 
-    ghost from_gives = { λ _ e. e ≡ fault.Memory };
+    ghost from_gives = { λ _ e. e ≡ error.Memory };
 
-    fn from(_refused: OutOfMemory) -> CallFault {
-        CallFault::Memory
+    fn from(_memory: OutOfMemory) -> CallError {
+        CallError::Memory
     }
 }
 
-impl From<FormatError> for CallFault {
+impl From<WriteError> for CallError {
     ghost use Rattle.std.specs.Prelude.{◌≡◌};
-    ghost use Rattle.moc_c.specs.declared.fault.CallFault.TheVariants as fault;
+    ghost use Rattle.moc_c.specs.Texts.{fault_of_writing};
 
-    ghost from_gives = { λ error e. e ≡ fault.Format error };
+    ghost from_gives = { λ error e. e ≡ fault_of_writing error };
 
-    fn from(error: FormatError) -> CallFault {
-        CallFault::Format(error)
+    fn from(error: WriteError) -> CallError {
+        match error {
+            WriteError::TooCoarse => CallError::TooCoarse,
+            WriteError::Memory => CallError::Memory,
+        }
     }
 }
 
-impl From<AllocError> for CallFault {
+impl From<AllocError> for CallError {
     ghost use Rattle.std.specs.Prelude.{◌≡◌};
-    ghost use Rattle.moc_c.specs.declared.fault.CallFault.TheVariants as fault;
+    ghost use Rattle.moc_c.specs.declared.error.CallError.TheVariants as error;
 
-    ghost from_gives = { λ _ e. e ≡ fault.Memory };
+    ghost from_gives = { λ _ e. e ≡ error.Memory };
 
-    fn from(_refused: AllocError) -> CallFault {
-        CallFault::Memory
+    fn from(_error: AllocError) -> CallError {
+        CallError::Memory
     }
 }
 
-impl From<TryError> for CallFault {
+impl From<TryError> for CallError {
     ghost use Rattle.std.specs.Prelude.{◌≡◌};
     ghost use Rattle.moc_c.specs.Private.Making.{try_error};
 
     ghost from_gives = { λ error e. e ≡ try_error error };
 
-    fn from(error: TryError) -> CallFault {
+    fn from(error: TryError) -> CallError {
         match error {
-            TryError::Busy(busy) => CallFault::Busy(busy),
-            TryError::Memory => CallFault::Memory,
+            TryError::Busy(busy) => CallError::Busy(busy),
+            TryError::Memory => CallError::Memory,
         }
     }
 }

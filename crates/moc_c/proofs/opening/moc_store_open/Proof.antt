@@ -1,4 +1,4 @@
--- `moc_open` creates a store in the memory that it is given, or leaves the memory unused.
+-- `moc_store_open` creates a store in the memory that it is given, or leaves the memory unused.
 use Rattle.std.proofs.Common.{◌≡◌, ℕ, List, [], ◌∷◌, ◌++◌, refl, sym, ap, ◌∙◌, subst, true, false, IfOk, lit<, T}
 use seplogic.Ra.Ura.{Ura}
 use base.Fraction.{full_share}
@@ -41,10 +41,10 @@ use Rattle.std.specs.contracts.alloc.AllocError as AE
 use Rattle.moc_c.specs.Contents.{Contents, empty_store as bare_contents}
 use Rattle.moc_c.proofs.AsBox.{E}
 use Rattle.moc_c.specs.contracts.store.Store as Store
-use Rattle.moc_c.specs.contracts.opening.moc_open as f
-use Rattle.moc_c.specs.contracts.opening.moc_open.Key.{name as #self}
-use Rattle.moc_c.proofs.opening.moc_open.Statement.{statement}
-use Rattle.moc_c.proofs.opening.moc_open.Code as code
+use Rattle.moc_c.specs.contracts.opening.moc_store_open as f
+use Rattle.moc_c.specs.contracts.opening.moc_store_open.Key.{name as #self}
+use Rattle.moc_c.proofs.opening.moc_store_open.Statement.{statement}
+use Rattle.moc_c.proofs.opening.moc_store_open.Code as code
 use Rattle.moc_c.specs.contracts.store.Store.create as g
 use Rattle.moc_c.proofs.store.Store.create.Met.{met}
 
@@ -82,8 +82,8 @@ none_typed = (tt, (record { fits = lit< tt }, (tt, tt)))
 abbrev stayed : Stays f.ended.signature.params f.ended.kept
 stayed = (stay_dropped _ yes, (stay_dropped _ yes, tt))
 
-pub moc_open_spec : {M : Type 1} → statement M
-moc_open_spec 𝓤 𝓛 𝓜 𝓡 wired =
+pub moc_store_open_spec : {M : Type 1} → statement M
+moc_store_open_spec 𝓤 𝓛 𝓜 𝓡 wired =
     let H = 𝓛.H in let 𝓣 = tables 𝓤 H 𝓜 𝓡 𝓡.env in let c = f.clauses 𝓛 𝓜.mem 𝓡.returns in let fn = code.function in
     proved_at 𝓛 f.ended stayed c 𝓜 𝓡 (Goes-dropped 𝓛 0 (plain (λ _. Heap.the_row)) yes (λ κs x w. refl), (Goes-dropped 𝓛 0 (plain (λ _. RawPtr)) yes (λ κs x w. refl), tt)) #self fn (code.unfolded 𝓤 H 𝓜 𝓡 wired) (λ z are.
     let Post : Val → SProp 𝓤 = (walk_of 𝓛 f.ended stayed c).post z in let Run : List Val → SProp 𝓤 = λ ws. WpFn 𝓤 H 𝓣.C 𝓣.Λ fn ws Post in
