@@ -1,31 +1,52 @@
 //! Diagnostics and statistics of texts. Expected lines are worked out by hand from the texts.
 use crate::shown::is_shown;
 use moc_forms::{
-    Change, Diagnostic, Format, FormatChoice, FormatError, FormatNameError, Operation,
-    ParsedCoverage, Place, Statistics, check, describe, draw, draw_two, examine, hint, hint_line,
-    is_blank, place_line, quote,
+    Change, Diagnostic, Format, FormatChoice, FormatError, Operation, ParsedCoverage, Place,
+    Statistics, describe, draw, draw_two, hint, hint_line, is_blank, quote,
 };
-use moc_sphere::Order;
+use moc_sphere::{InvalidName, Order};
 use moc_text::{JsonError, TextError, UniqError, WriteError};
 use std::alloc::Global;
 use std::fmt::Write;
 use std::process::Abort;
 use std::str::FromStr;
 
-/// Checks the result of `check` for a text.
+/// The error for a word that is not the name of a format.
+const NOT_FORMAT: InvalidName = InvalidName {
+    expected: "`ascii`, `json` or `uniq`",
+};
+
+/// The error for a word that is not the choice of a format.
+const NOT_CHOICE: InvalidName = InvalidName {
+    expected: "`auto`, `ascii`, `json` or `uniq`",
+};
+
+/// The error for a word that is not the name of an operation.
+const NOT_OPERATION: InvalidName = InvalidName {
+    expected: "`union`, `intersection`, `difference` or `symmetric`",
+};
+
+/// Checks what a text has led to.
 fn is(rt: &impl Abort, text: &str, seen: &str, told: &str) {
     assert_eq!(rt; seen, told, "{text:?}");
 }
 
-/// Checks the position line of a text's error; empty if the text is valid.
-fn has_position(rt: &impl Abort, alloc: Global, format: Format, text: &str, told: &str) {
+/// Returns the diagnostic of a text, or `None` if the text is valid.
+fn diagnose(rt: &impl Abort, alloc: Global, format: Format, text: &[u8]) -> Option<Diagnostic> {
+    let error = format.read(alloc, text).err()?;
+    Some(Diagnostic::new(alloc, format, text, error).expect(rt, "memory"))
+}
+
+/// Checks the position of a text's error; empty if the text is valid.
+fn has_position(rt: &impl Abort, alloc: Global, format: Format, text: &str, position: &str) {
     let mut line = String::new(alloc);
-    if let Err(error_of_pairs) = check(alloc, format, text.as_bytes())
-        && let Some(place) = error_of_pairs.place
-    {
-        write!(line, "{place}").expect(rt, "memory");
+    if let Some(diagnostic) = diagnose(rt, alloc, format, text.as_bytes()) {
+        let place = diagnostic.place;
+        if let Some(place) = place {
+            write!(line, "{place}").expect(rt, "memory");
+        }
     }
-    is(rt, text, line.as_str(), told);
+    is(rt, text, line.as_str(), position);
 }
 
 /// Returns the statistics of a text.
@@ -89,56 +110,39 @@ fn places_in_lists(rt: HostRuntime) {
 }
 
 #[test]
-fn texts_that_are_examined(rt: HostRuntime) {
-    let read = examine(rt.alloc(), Format::Ascii, b"0/0 2/".as_slice());
-    let (set, deepest) = read.expect(&rt, "a text");
+fn parsed_text(rt: HostRuntime) {
+    let parsed = Format::Ascii.read(rt.alloc(), b"0/0 2/".as_slice());
+    let (set, moc_order) = parsed.expect(&rt, "a text");
     assert_eq!(&rt; set.count(), 1 << 58);
-    assert_eq!(&rt; deepest, Order::new(2));
-}
-
-/// The error of a text whose first cell has no order.
-fn error_without_an_order(rt: &impl Abort, alloc: Global) -> Diagnostic {
-    let read = examine(alloc, Format::Ascii, b"\n7".as_slice());
-    read.err().expect(rt, "a refusal")
-}
-
-/// The line with the position of that error, with the number of the text and the quote.
-fn line_of(rt: &impl Abort, alloc: Global, number: Option<u64>, quote: Option<&str>) -> String {
-    let place = error_without_an_order(rt, alloc).place;
-    let line = place_line(alloc, number, place, quote).expect(rt, "memory");
-    line.expect(rt, "a line")
+    assert_eq!(&rt; moc_order, Order::new(2));
 }
 
 #[test]
-fn lines_of_places(rt: HostRuntime) {
+fn whole_diagnostic(rt: HostRuntime) {
     let alloc = rt.alloc();
-    let error_of_pairs = error_without_an_order(&rt, alloc);
-    is_shown(
-        &rt,
-        alloc,
-        &error_of_pairs,
-        "an item before any order, at 1",
+    let diagnostic = diagnose(&rt, alloc, Format::Json, b"\n7/0".as_slice()).expect(
+        &rt, "an error",
     );
-    for (number, quote, told) in [
-        (None, None, "byte 1, line 2, byte 0 of it\n"),
-        (
-            Some(17),
-            Some("`7`"),
-            "text 17, byte 1, line 2, byte 0 of it: `7`\n",
-        ),
-    ] {
-        let line = line_of(&rt, alloc, number, quote);
-        assert_eq!(&rt; line.as_str(), told);
-    }
+    is_shown(&rt, alloc, &diagnostic, "invalid JSON");
+    assert_eq!(&rt; diagnostic.error, FormatError::Json(JsonError::NotJson));
+    assert_eq!(&rt;
+        diagnostic.place,
+        Some(Place::JsonSyntax { line: 2, column: 1 })
+    );
+    assert!(&rt; diagnostic.quote.is_none());
+    assert_eq!(&rt; diagnostic.hint, Some(Format::Ascii));
 }
 
 #[test]
-fn lines_without_a_place(rt: HostRuntime) {
-    let alloc = rt.alloc();
-    let numbered = place_line(alloc, Some(17), None, None).expect(&rt, "memory");
-    assert_eq!(&rt; numbered.expect(&rt, "a line").as_str(), "text 17\n");
-    let quoted = place_line(alloc, None, None, Some("`7`")).expect(&rt, "memory");
-    assert!(&rt; quoted.is_none());
+fn out_of_memory_has_no_diagnostic(rt: HostRuntime) {
+    for (format, error) in [
+        (Format::Ascii, FormatError::Ascii(TextError::Memory)),
+        (Format::Json, FormatError::Json(JsonError::Memory)),
+        (Format::Uniq, FormatError::Uniq(UniqError::Memory)),
+    ] {
+        assert!(&rt; error.is_memory());
+        assert!(&rt; Diagnostic::new(rt.alloc(), format, b"".as_slice(), error).is_err());
+    }
 }
 
 #[test]
@@ -150,14 +154,11 @@ fn blank_texts(rt: HostRuntime) {
 /// Checks the quote of a text; empty if the text is valid, or if there is no position.
 fn is_quoted(rt: &impl Abort, alloc: Global, format: Format, text: &[u8], told: &str) {
     let mut seen = None;
-    if let Err(error_of_pairs) = check(alloc, format, text) {
-        seen = quote(alloc, text, error_of_pairs.error).expect(rt, "memory");
+    if let Some(diagnostic) = diagnose(rt, alloc, format, text) {
+        seen = quote(alloc, text, diagnostic.error).expect(rt, "memory");
+        assert_eq!(rt; seen.as_deref(), diagnostic.quote.as_deref());
     }
-    let seen = match &seen {
-        Some(quote) => quote.as_str(),
-        None => "",
-    };
-    assert_eq!(rt; seen, told);
+    assert_eq!(rt; seen.as_deref().unwrap_or(""), told);
 }
 
 #[test]
@@ -188,18 +189,6 @@ fn quotes(rt: HostRuntime) {
 }
 
 #[test]
-fn a_line_with_all_of_it(rt: HostRuntime) {
-    let error_of_pairs = error_without_an_order(&rt, rt.alloc());
-    let line = error_of_pairs
-        .line(rt.alloc(), Some(2), b"\n7".as_slice())
-        .expect(&rt, "memory");
-    assert_eq!(&rt;
-        line.expect(&rt, "a line").as_str(),
-        "text 2, byte 1, line 2, byte 0 of it: `7`\n"
-    );
-}
-
-#[test]
 fn formats_that_are_detected(rt: HostRuntime) {
     for (word, text, format) in [
         ("auto", " \t\r\n{", Format::Json),
@@ -214,7 +203,7 @@ fn formats_that_are_detected(rt: HostRuntime) {
         assert_eq!(&rt; choice.format(text.as_bytes()), format, "{text:?}");
         is_shown(&rt, rt.alloc(), &choice, word);
     }
-    assert!(&rt; FormatChoice::from_str("fits") == Err(FormatNameError::NotFormat));
+    assert!(&rt; FormatChoice::from_str("fits") == Err(NOT_CHOICE));
 }
 
 #[test]
@@ -251,10 +240,11 @@ fn errors(rt: HostRuntime) {
             FormatError::Uniq(UniqError::NotUniq { line: 1 }),
         ),
     ] {
-        let error_of_pairs = check(alloc, format, text.as_bytes())
+        let seen = format
+            .read(alloc, text.as_bytes())
             .err()
-            .expect(&rt, "a refusal");
-        assert_eq!(&rt; error_of_pairs.error, error);
+            .expect(&rt, "an error");
+        assert_eq!(&rt; seen, error);
     }
 }
 
@@ -279,7 +269,7 @@ fn forms(rt: HostRuntime) {
         is(&rt, word, written.as_str(), text);
         is_shown(&rt, alloc, &format, word);
     }
-    assert!(&rt; Format::from_str("fits") == Err(FormatNameError::NotFormat));
+    assert!(&rt; Format::from_str("fits") == Err(NOT_FORMAT));
 }
 
 #[test]
@@ -320,13 +310,13 @@ fn figures_of_sets(rt: HostRuntime) {
 /// Returns the statistics of an ASCII text as numbers.
 fn numbers(rt: &impl Abort, alloc: Global, text: &[u8]) -> Statistics {
     let (set, deepest) = Format::Ascii.read(alloc, text).expect(rt, "a text");
-    Statistics::of(alloc, &set, deepest).expect(rt, "memory")
+    Statistics::of(&set, deepest)
 }
 
 #[test]
 fn figures_one_by_one(rt: HostRuntime) {
     let statistics = numbers(&rt, rt.alloc(), b"1/0-3 2/20 29/".as_slice());
-    assert_eq!(&rt; statistics.deepest(), Order::new(29));
+    assert_eq!(&rt; statistics.moc_order(), Order::new(29));
     assert_eq!(&rt; statistics.count(), 306244774661193728);
     assert_eq!(&rt; statistics.share(), 88541666666);
     assert_eq!(&rt; (statistics.range_count(), statistics.cell_count()), (2, 2));
@@ -341,12 +331,12 @@ fn figures_one_by_one(rt: HostRuntime) {
 
 /// Returns the set of an ASCII text as if it had another format.
 fn set_of_text(rt: &impl Abort, alloc: Global, text: &str, format: Format) -> ParsedCoverage {
-    let (set, deepest) = Format::Ascii
+    let (set, moc_order) = Format::Ascii
         .read(alloc, text.as_bytes())
         .expect(rt, "a text");
     ParsedCoverage {
         set,
-        deepest,
+        moc_order,
         format,
     }
 }
@@ -366,14 +356,14 @@ fn combine_texts(
         .combine(alloc, Some(before), second)
         .expect(rt, "memory");
     both.format
-        .write(alloc, &both.set, both.deepest)
+        .write(alloc, &both.set, both.moc_order)
         .expect(rt, "memory")
 }
 
 /// Returns the text of a change of a text with MOC order 3.
 fn change_text(rt: &impl Abort, alloc: Global, change: &Change, text: &[u8]) -> String {
     let (set, _) = Format::Ascii.read(alloc, text).expect(rt, "a text");
-    let new = change.of(alloc, &set).expect(rt, "memory");
+    let new = change.apply(alloc, &set).expect(rt, "memory");
     let stated = change.order_to_state(Order::new(3));
     Format::Ascii
         .write(alloc, &new, stated)
@@ -404,7 +394,7 @@ fn operations(rt: HostRuntime) {
         is(&rt, name, seen.as_str(), text);
         is_shown(&rt, rt.alloc(), &operation, name);
     }
-    assert!(&rt; Operation::from_str("minus").is_err());
+    assert!(&rt; Operation::from_str("minus") == Err(NOT_OPERATION));
 }
 
 #[test]
@@ -597,29 +587,26 @@ fn pictures_of_two(rt: HostRuntime) {
 #[test]
 fn texts_of_ascii_errors(rt: HostRuntime) {
     for (error, text) in [
-        (
-            TextError::BadByte { at: 7 },
-            "a byte that no word has there, at 7",
-        ),
+        (TextError::BadByte { at: 7 }, "unexpected byte at offset 7"),
         (
             TextError::NoOrder { at: 7 },
-            "an item before any order, at 7",
+            "item without an order at offset 7",
         ),
         (
             TextError::OrderTooLarge { at: 7 },
-            "an order above 29, at 7",
+            "order above 29 at offset 7",
         ),
         (
             TextError::CellTooLarge { at: 7 },
-            "no cell of the order in force, at 7",
+            "index too large for its order at offset 7",
         ),
         (
             TextError::Backwards { at: 7 },
-            "a range that goes backwards, at 7",
+            "descending range at offset 7",
         ),
         (
             TextError::Unfinished { at: 7 },
-            "a word that is not finished, at 7",
+            "incomplete word at offset 7",
         ),
         (TextError::Memory, "out of memory"),
     ] {
@@ -630,17 +617,20 @@ fn texts_of_ascii_errors(rt: HostRuntime) {
 #[test]
 fn texts_of_json_errors(rt: HostRuntime) {
     for (error, text) in [
-        (JsonError::NotJson, "no JSON"),
-        (JsonError::NotObject, "no object"),
-        (JsonError::BadOrder { name: 1 }, "name 1 is no order"),
-        (JsonError::NotArray { name: 1 }, "name 1 has no array"),
+        (JsonError::NotJson, "invalid JSON"),
+        (JsonError::NotObject, "not a JSON object"),
+        (JsonError::BadOrder { name: 1 }, "name 1 is not an order"),
+        (
+            JsonError::NotArray { name: 1 },
+            "the value of name 1 is not an array",
+        ),
         (
             JsonError::NotWhole { name: 1, place: 2 },
-            "name 1, item 2 is no whole number",
+            "item 2 of name 1 is not an unsigned integer",
         ),
         (
             JsonError::CellTooLarge { name: 1, place: 2 },
-            "name 1, item 2 is no cell of its order",
+            "item 2 of name 1 is too large for its order",
         ),
         (JsonError::Memory, "out of memory"),
     ] {
@@ -651,13 +641,10 @@ fn texts_of_json_errors(rt: HostRuntime) {
 #[test]
 fn texts_of_other_errors(rt: HostRuntime) {
     for (error, text) in [
-        (
-            UniqError::BadByte { line: 3 },
-            "a byte that is no digit, in line 3",
-        ),
+        (UniqError::BadByte { line: 3 }, "unexpected byte in line 3"),
         (
             UniqError::NotUniq { line: 3 },
-            "a number that is no NUNIQ number, in line 3",
+            "invalid NUNIQ number in line 3",
         ),
         (UniqError::Memory, "out of memory"),
     ] {
@@ -671,6 +658,5 @@ fn texts_of_other_errors(rt: HostRuntime) {
         (WriteError::Memory, "out of memory"),
     ] {
         is_shown(&rt, rt.alloc(), &error, text);
-        is_shown(&rt, rt.alloc(), &FormatError::from(error), text);
     }
 }

@@ -2,7 +2,7 @@
 ghost use Rattle.std.specs.Prelude.{◌≤◌};
 
 use crate::shown::{is_debugged, is_shown};
-use moc_ranges::{Coverage, CoverageBuilder, Memory, RangesError, Steps};
+use moc_ranges::{Coverage, CoverageBuilder, Memory, PIXEL_COUNT, RangesError, Steps};
 use moc_sphere::{Cell, Order};
 use std::alloc::Global;
 use std::process::Abort;
@@ -330,6 +330,36 @@ fn hints_of_runs_of_cells(rt: HostRuntime) {
     assert_eq!(rt; seen.size_hint(), (1, Some(1)));
     assert_eq!(rt; seen.next(), Some((8, 9)));
     assert_eq!(rt; seen.size_hint(), (0, Some(0)));
+}
+
+// A cell of order k has 4^(29 - k) pixels. The range from 3 to 9 has the pixel 3, the cell 28/1 and the pixel 8. The
+// range from 16 to 64 has the cells 27/1 to 27/3.
+#[test]
+fn numbers_of_cells_by_order(rt: HostRuntime) {
+    let set = set_of(&rt, rt.alloc(), &[(3, 9), (16, 64)]);
+    let mut counts = [0; 30];
+    assert_eq!(rt; Coverage::empty(rt.alloc()).cell_count_by_order(), counts);
+    counts[27] = 3;
+    counts[28] = 1;
+    counts[29] = 2;
+    assert_eq!(rt; set.cell_count_by_order(), counts);
+}
+
+#[test]
+fn number_of_cells_of_the_sky(rt: HostRuntime) {
+    let sky = Coverage::full(rt.alloc()).expect(&rt, "memory");
+    let mut counts = [0; 30];
+    counts[0] = 12;
+    assert_eq!(rt; sky.cell_count_by_order(), counts);
+}
+
+// Three cells of each order remain: the siblings of the cells that have the first pixel.
+#[test]
+fn number_of_cells_of_a_base_pixel_without_its_first_pixel(rt: HostRuntime) {
+    let set = set_of(&rt, rt.alloc(), &[(1, PIXEL_COUNT / 12)]);
+    let mut counts = [3; 30];
+    counts[0] = 0;
+    assert_eq!(rt; set.cell_count_by_order(), counts);
 }
 
 #[test]

@@ -1,10 +1,25 @@
 //! Cell numbers: cases worked by hand, and every cell of the small orders.
 use crate::shown::is_shown;
-use moc_sphere::{Cell, CellError, Direction, NameError, Order, OrderError};
+use moc_sphere::{Cell, CellError, Direction, InvalidName, Order};
 use std::alloc::Global;
 use std::fmt::Debug;
 use std::process::Abort;
 use std::str::FromStr;
+
+/// The error for a number or a text that is not an order.
+const NOT_ORDER: InvalidName = InvalidName {
+    expected: "a number from 0 to 29",
+};
+
+/// The error for a number that is not an nside.
+const NOT_NSIDE: InvalidName = InvalidName {
+    expected: "a power of two from 1 to 2^29",
+};
+
+/// The error for a text that is not a cell.
+const NOT_CELL: InvalidName = InvalidName {
+    expected: "an order, a slash and the index of a cell of this order, such as 3/10",
+};
 
 /// Returns the order with this number.
 fn order_of(rt: &impl Abort, order: u8) -> Order {
@@ -302,10 +317,10 @@ fn cells_and_pixels_of_orders(rt: HostRuntime) {
 #[test]
 fn numbers_that_are_of_no_order(rt: HostRuntime) {
     for nside in [0u64, 3, 12, 536870911, 1073741824, 18446744073709551615] {
-        assert!(rt; Order::from_nside(nside) == Err(OrderError::NotNside));
+        assert!(rt; Order::from_nside(nside) == Err(NOT_NSIDE));
     }
     for order in [30u64, 256] {
-        assert!(rt; Order::try_from(order) == Err(OrderError::OrderTooLarge));
+        assert!(rt; Order::try_from(order) == Err(NOT_ORDER));
     }
 }
 
@@ -315,7 +330,7 @@ fn orders_by_name(rt: HostRuntime) {
         names(&rt, name, &Order::from_str(name), &Ok(Order::of(order)));
     }
     for name in ["", "30", "256", "-1", "1 ", "1/2"] {
-        names(&rt, name, &Order::from_str(name), &Err(NameError::NotOrder));
+        names(&rt, name, &Order::from_str(name), &Err(NOT_ORDER));
     }
 }
 
@@ -340,7 +355,7 @@ fn cells_by_name(rt: HostRuntime) {
         "1/48",
         "0/18446744073709551616",
     ] {
-        names(&rt, name, &Cell::from_str(name), &Err(NameError::NotCell));
+        names(&rt, name, &Cell::from_str(name), &Err(NOT_CELL));
     }
 }
 
@@ -388,32 +403,29 @@ fn errors_are_shown(rt: HostRuntime) {
     for (error, text) in [
         (
             CellError::CellTooLarge,
-            "the order has no cell of that index",
+            "the index is not less than the number of cells of the order",
         ),
-        (CellError::NotUniq, "no cell has that NUNIQ number"),
-        (CellError::OutOfFace, "the base pixel has no such place"),
+        (
+            CellError::NotUniq,
+            "not the NUNIQ number of a cell up to order 29",
+        ),
+        (
+            CellError::OutOfFace,
+            "the base pixel is above 11, or a coordinate is not less than nside",
+        ),
         (
             CellError::RingTooLarge,
-            "the order has no cell of that ring number",
+            "the ring number is not less than the number of cells of the order",
         ),
     ] {
         is_shown(&rt, rt.alloc(), &error, text);
     }
-    for (error, text) in [
-        (OrderError::OrderTooLarge, "the deepest order is 29"),
-        (OrderError::NotNside, "no order has an nside of that number"),
-    ] {
-        is_shown(&rt, rt.alloc(), &error, text);
-    }
-    for (error, text) in [
-        (NameError::NotOrder, "an order is a number from 0 to 29"),
-        (
-            NameError::NotCell,
-            "a cell is an order, a slash and an index of the order, as 3/10",
-        ),
-    ] {
-        is_shown(&rt, rt.alloc(), &error, text);
-    }
+    is_shown(
+        &rt,
+        rt.alloc(),
+        &NOT_ORDER,
+        "expected a number from 0 to 29",
+    );
 }
 
 #[test]

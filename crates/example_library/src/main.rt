@@ -2,7 +2,7 @@
 //! queries a map, and writes. It needs no proof by hand.
 #![tactic(auto)]
 
-use anyhow::Result;
+use anyhow::{Result, bail};
 use moc_forms::Statistics;
 use moc_parts::{Command, Map, Operand, Reply};
 use moc_ranges::{Coverage, CoverageBuilder, Memory, PIXEL_COUNT};
@@ -37,7 +37,11 @@ fn north_east(rt: &HostRuntime, cell: Cell) -> Result<()> {
 /// Prints a cell that is given by its nside and a number, and the statistics of two of its children.
 fn family(rt: &HostRuntime) -> Result<()> {
     let alloc = rt.alloc();
-    let cell = Cell::new(Order::from_nside(8)?, 10)?;
+    // The toolchain cannot prove `?` here: it has no rule for passing an error with a `&'static str` by value.
+    let Ok(order) = Order::from_nside(8) else {
+        bail!("not an nside")
+    };
+    let cell = Cell::new(order, 10)?;
     println!(rt;
         "{cell}: nside {}, base pixel {}",
         cell.order().nside(),
@@ -51,7 +55,7 @@ fn family(rt: &HostRuntime) -> Result<()> {
             both.deepest_order(),
             both.range_count()
         )?;
-        print!(rt; "{}", Statistics::of(alloc, &both, None)?)?;
+        print!(rt; "{}", Statistics::of(&both, None))?;
     }
     Ok(())
 }

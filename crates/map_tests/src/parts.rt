@@ -267,6 +267,68 @@ fn one_add_alone(rt: HostRuntime) {
     assert_eq!(rt; before.count(), 10);
 }
 
+/// Returns the reply of a map to one command.
+fn reply_of_map(rt: &impl Abort, alloc: Global, map: &mut Map, command: Command) -> Reply {
+    map.answer(alloc, &command).expect(rt, "memory")
+}
+
+#[test]
+fn commands_in_one_part(rt: HostRuntime) {
+    let alloc = rt.alloc();
+    let mut map = map_of(&rt, alloc, &[(0, 4), (BASE, BASE + 10)]);
+    let remove = Command::Remove(ranges(&rt, alloc, &[(BASE + 2, BASE + 5)]));
+    is_applied(&rt, alloc, &mut map, remove, 3);
+    has_in_part(&rt, &map, 1, 7);
+    let absent = Command::Remove(ranges(&rt, alloc, &[(BASE + 2, BASE + 5)]));
+    is_answered(&rt, alloc, &mut map, absent, 0);
+    let taken = Command::Claim(ranges(&rt, alloc, &[(BASE + 4, BASE + 7)]));
+    let taken = reply_of_map(&rt, alloc, &mut map, taken);
+    assert!(rt; matches!(taken, Reply::Taken(2)));
+    let free = Command::Claim(ranges(&rt, alloc, &[(BASE + 2, BASE + 5)]));
+    let free = reply_of_map(&rt, alloc, &mut map, free);
+    assert!(rt; matches!(free, Reply::Claimed));
+    let read = Command::Read(ranges(&rt, alloc, &[(BASE + 8, BASE + 12)]));
+    let Reply::Cover(cover) = reply_of_map(&rt, alloc, &mut map, read) else {
+        panic!(rt; "no cover")
+    };
+    has_ranges(&rt, &cover, &[(BASE + 8, BASE + 10)]);
+    has_in_part(&rt, &map, 0, 4);
+    has_in_part(&rt, &map, 1, 10);
+}
+
+/// Checks the single part of a command.
+fn has_single_part(rt: &impl Abort, command: Command, part: Option<u8>) {
+    let actual = command.single_part().map(|part| part.get());
+    assert_eq!(rt; actual, part, "{command:?}");
+}
+
+#[test]
+fn single_parts_of_commands(rt: HostRuntime) {
+    let alloc = rt.alloc();
+    let pairs = [(2 * BASE, 2 * BASE + 1)];
+    has_single_part(&rt, Command::Add(ranges(&rt, alloc, &pairs)), Some(2));
+    has_single_part(&rt, Command::Remove(ranges(&rt, alloc, &pairs)), Some(2));
+    has_single_part(&rt, Command::Claim(ranges(&rt, alloc, &pairs)), Some(2));
+    has_single_part(&rt, Command::Count(ranges(&rt, alloc, &pairs)), Some(2));
+    has_single_part(&rt, Command::Read(ranges(&rt, alloc, &pairs)), Some(2));
+    has_single_part(&rt, Command::Keep(ranges(&rt, alloc, &pairs)), None);
+    has_single_part(&rt, Command::Invert, None);
+    has_single_part(&rt, near(&rt, 1, 7), None);
+    let across = ranges(&rt, alloc, &[(BASE - 1, BASE + 1)]);
+    has_single_part(&rt, Command::Add(across), None);
+    let coarse = Operand {
+        set: set(&rt, alloc, &pairs),
+        coarse: Order::new(3),
+    };
+    has_single_part(&rt, Command::Add(coarse), None);
+}
+
+#[test]
+fn replies_that_state_no_change(rt: HostRuntime) {
+    assert!(rt; Reply::Changed(0).is_no_change() && Reply::Taken(3).is_no_change());
+    assert!(rt; !Reply::Changed(1).is_no_change() && !Reply::Claimed.is_no_change());
+}
+
 #[test]
 fn adds_of_two_parts_and_of_two_ranges(rt: HostRuntime) {
     let alloc = rt.alloc();

@@ -6,12 +6,15 @@ use crate::shown::is_shown;
 use moc_parts::{Batch, Command, Operand, Part, Replies, Reply};
 use moc_ranges::Coverage;
 use moc_shared::{
-    Busy, Client, CloseError, Holding, LookError, NewError, SharedMap, Snapshot, TryError,
+    Busy, Client, CloseError, Holding, LookError, NewError, SharedMap, Snapshot, SnapshotError,
+    TryError,
 };
 use std::alloc::Global;
+use std::marker::Sync;
 use std::process::Abort;
 use std::sync::Wait;
-use std::thread;
+use std::sync::atomic::{AtomicBool, Ordering};
+use std::thread::{self, Threads};
 
 /// The number of pixels of a base pixel: 4^29.
 pub const BASE: u64 = 288230376151711744;
@@ -276,6 +279,40 @@ fn a_snapshot_answers_what_was_there(rt: HostRuntime) {
 }
 
 #[test]
+fn a_held_query_ends_as_a_snapshot(rt: HostRuntime) {
+    let alloc = rt.alloc();
+    let (map, a, mut b) = two(&rt, alloc, set(&rt, alloc, &[(3 * BASE, 4 * BASE)]));
+    let read = Command::Read(base(&rt, alloc, 2, 5));
+    let holding = hold(&rt, alloc, &map, a, read);
+    finds_held(&rt, alloc, &map, &mut b, base(&rt, alloc, 4, 5), (4, 0));
+    let (a, snapshot) = match map.snapshot(holding) {
+        Ok(ended) => ended,
+        Err(SnapshotError::NotQuery(holding)) => {
+            holding.abandon();
+            panic!(&rt; "not a query")
+        }
+        Err(SnapshotError::Memory(_)) => panic!(&rt; "no memory"),
+    };
+    let remove = Command::Remove(base(&rt, alloc, 3, 4));
+    changes(&rt, alloc, &map, &mut b, remove, BASE);
+    answers(&rt, alloc, &snapshot, &[(3 * BASE, 4 * BASE)]);
+    ends_as(&rt, alloc, map, a, &[]);
+}
+
+#[test]
+fn a_held_update_has_no_snapshot(rt: HostRuntime) {
+    let alloc = rt.alloc();
+    let (map, a, _) = two(&rt, alloc, Coverage::empty(alloc));
+    let holding = hold(&rt, alloc, &map, a, Command::Add(base(&rt, alloc, 3, 4)));
+    let holding = match map.snapshot(holding) {
+        Err(SnapshotError::NotQuery(holding)) => holding,
+        Ok(_) | Err(SnapshotError::Memory(_)) => panic!(&rt; "no error of an update"),
+    };
+    let a = finish_after(&rt, &map, holding, BASE);
+    ends_as(&rt, alloc, map, a, &[(3 * BASE, 4 * BASE)]);
+}
+
+#[test]
 fn a_look_is_of_queries(rt: HostRuntime) {
     let alloc = rt.alloc();
     let (map, mut a, _) = two(&rt, alloc, Coverage::empty(alloc));
@@ -289,8 +326,8 @@ fn a_look_is_of_queries(rt: HostRuntime) {
 
 /// Checks that a snapshot replies with these ranges.
 fn answers(rt: &impl Abort, alloc: Global, snapshot: &Snapshot, pairs: &[(u64, u64)]) {
-    let snapshot_of = snapshot.answer(alloc).expect(rt, "an answer");
-    let Some(Reply::Cover(cover)) = snapshot_of.first() else {
+    let replies = snapshot.answer(alloc).expect(rt, "an answer");
+    let Some(Reply::Cover(cover)) = replies.first() else {
         panic!(rt; "a cover")
     };
     assert!(rt; cover.same(&set(rt, alloc, pairs)));
@@ -307,10 +344,10 @@ fn changes_alone<R: Abort + Wait>(
     requires { IsClientOf map.now client.old }
     ensures { IsClientOf map.now client.new }
 {
-    let Ok(Reply::Changed(snapshot_of)) = map.answer(rt, client, command) else {
+    let Ok(Reply::Changed(changed)) = map.answer(rt, client, command) else {
         panic!(rt; "another answer")
     };
-    assert_eq!(rt; snapshot_of, pixels);
+    assert_eq!(rt; changed, pixels);
 }
 
 /// Checks the number of pixels that a single command counts.
@@ -324,10 +361,10 @@ fn counts_alone<R: Abort + Wait>(
     requires { IsClientOf map.now client.old }
     ensures { IsClientOf map.now client.new }
 {
-    let Ok(Reply::Total(snapshot_of)) = map.answer(rt, client, Command::Count(counted)) else {
+    let Ok(Reply::Total(total)) = map.answer(rt, client, Command::Count(counted)) else {
         panic!(rt; "another answer")
     };
-    assert_eq!(rt; snapshot_of, pixels);
+    assert_eq!(rt; total, pixels);
 }
 
 /// The first cells of order 5 of base pixel 3, at most two.
@@ -365,6 +402,67 @@ fn single_commands(rt: HostRuntime) {
         a,
         &[(3 * BASE, 5 * BASE), (6 * BASE, 6 * BASE + CELL)],
     );
+}
+
+/// Checks the reply to a command that is tried once.
+fn tries(rt: &impl Abort, map: &SharedMap, client: &mut Client, command: &Command, reply: &Reply)
+    requires { IsClientOf map.now client.old }
+    ensures { IsClientOf map.now client.new }
+{
+    let tried = map.try_answer(client, command).expect(rt, "a reply");
+    assert!(rt; tried == *reply);
+}
+
+#[test]
+fn single_commands_that_do_not_wait(rt: HostRuntime) {
+    let alloc = rt.alloc();
+    let (map, mut a, _) = two(&rt, alloc, Coverage::empty(alloc));
+    let claim = Command::Claim(base(&rt, alloc, 3, 4));
+    tries(&rt, &map, &mut a, &claim, &Reply::Claimed);
+    tries(&rt, &map, &mut a, &claim, &Reply::Taken(BASE));
+    let remove = Command::Remove(cells_of_3(&rt, alloc, 1));
+    tries(&rt, &map, &mut a, &remove, &Reply::Changed(CELL));
+    let add = Command::Add(cells_of_3(&rt, alloc, 2));
+    tries(&rt, &map, &mut a, &add, &Reply::Changed(CELL));
+    let count = Command::Count(base(&rt, alloc, 3, 4));
+    tries(&rt, &map, &mut a, &count, &Reply::Total(BASE));
+    // A command that needs a batch.
+    let count = Command::Count(base(&rt, alloc, 2, 12));
+    tries(&rt, &map, &mut a, &count, &Reply::Total(BASE));
+    tries(
+        &rt,
+        &map,
+        &mut a,
+        &Command::Invert,
+        &Reply::Changed(12 * BASE),
+    );
+    ends_as(&rt, alloc, map, a, &[(0, 3 * BASE), (4 * BASE, 12 * BASE)]);
+}
+
+#[test]
+fn a_tried_command_finds_a_held_part(rt: HostRuntime) {
+    let alloc = rt.alloc();
+    let (map, a, mut b) = two(&rt, alloc, Coverage::empty(alloc));
+    let number = a.number();
+    let holding = hold(&rt, alloc, &map, a, Command::Add(base(&rt, alloc, 3, 5)));
+    let busy = Some(TryError::Busy(Busy {
+        part: Part::of(4),
+        holder: number,
+    }));
+    let count = Command::Count(base(&rt, alloc, 4, 5));
+    assert_eq!(rt; map.try_answer(&mut b, &count).err(), busy);
+    let keep = Command::Keep(base(&rt, alloc, 4, 5));
+    let first = map.try_answer(&mut b, &keep).err();
+    assert_eq!(rt;
+        first,
+        Some(TryError::Busy(Busy {
+            part: Part::of(3),
+            holder: number
+        }))
+    );
+    let a = finish_after(&rt, &map, holding, 2 * BASE);
+    tries(&rt, &map, &mut b, &count, &Reply::Total(BASE));
+    ends_as(&rt, alloc, map, a, &[(3 * BASE, 5 * BASE)]);
 }
 
 #[test]
@@ -541,6 +639,100 @@ fn clients_wait_for_a_part(rt: HostRuntime) {
     );
     assert!(rt; x && y);
     assert!(rt; map.close(a).expect(&rt, "the set").is_empty());
+}
+
+/// Lets other threads run for longer than a waiting client yields before it sleeps.
+fn let_others_run() {
+    for _ in 0u32..20_000 {
+        thread::yield_now();
+    }
+}
+
+/// Takes the parts of a batch, and later gives them back: unchanged, or by executing the batch. Sets `held` once the
+/// parts are taken. Returns whether all calls succeeded.
+fn hold_for_a_while(
+    map: &SharedMap,
+    client: Client,
+    batch: Batch,
+    held: &AtomicBool,
+    executed: bool,
+) -> (Client, bool)
+    requires { IsClientOf map.now client }
+    ensures { IsClientOf map.now result.0 }
+{
+    let result = map.hold(client, batch);
+    held.store(true, Ordering::SeqCst);
+    match result {
+        Ok(holding) => {
+            let_others_run();
+            if executed {
+                let (client, done) = map.finish(holding);
+                (client, done.is_ok())
+            } else {
+                (map.let_go(holding), true)
+            }
+        }
+        Err((client, _, _)) => (client, false),
+    }
+}
+
+/// Executes a batch once another client holds its parts, and waits for them. Returns the number of changed pixels.
+fn apply_while_held<R: Wait>(
+    rt: &R,
+    map: &SharedMap,
+    client: Client,
+    batch: &Batch,
+    held: &AtomicBool,
+) -> (Client, Option<u64>)
+    requires { IsClientOf map.now client }
+    ensures { IsClientOf map.now result.0 }
+{
+    for _ in 0u64..100_000_000 {
+        if held.load(Ordering::SeqCst) {
+            break;
+        }
+        thread::yield_now();
+    }
+    let mut client = client;
+    let pixels = match map.apply(rt, &mut client, batch) {
+        Ok(replies) => replies.first().and_then(|reply| reply.pixels()),
+        Err(_) => None,
+    };
+    (client, pixels)
+}
+
+/// Returns the number of pixels that a client adds to parts 2 and 3 after it slept, and whether the calls of the other
+/// client, which held part 3 meanwhile, succeeded.
+fn added_after_sleep(
+    rt: &(impl Abort + Threads + Wait + Sync),
+    alloc: Global,
+    executed: bool,
+) -> (Option<u64>, bool) {
+    let (map, a, b) = two(rt, alloc, Coverage::empty(alloc));
+    let add = one(rt, alloc, Command::Add(base(rt, alloc, 2, 4)));
+    let three = one(rt, alloc, Command::Add(base(rt, alloc, 3, 4)));
+    let held = AtomicBool::new(false);
+    let shared = &map;
+    let (add, flag) = (&add, &held);
+    let ((_, succeeded), (_, pixels)) = thread::join(
+        rt,
+        move || -> (Client, bool)
+            requires { IsClientOf shared.now a }
+            ensures { IsClientOf shared.entry.now result.0 }
+        { hold_for_a_while(shared, a, three, flag, executed) },
+        move || -> (Client, Option<u64>)
+            requires { IsClientOf shared.now b }
+            ensures { IsClientOf shared.entry.now result.0 }
+        { apply_while_held(rt, shared, b, add, flag) },
+    );
+    (pixels, succeeded)
+}
+
+#[test]
+fn a_client_sleeps_while_a_part_is_held(rt: HostRuntime) {
+    let alloc = rt.alloc();
+    assert!(rt; added_after_sleep(&rt, alloc, false) == (Some(2 * BASE), true));
+    assert!(rt; added_after_sleep(&rt, alloc, true) == (Some(BASE), true));
 }
 
 #[test]

@@ -16,7 +16,7 @@ use Rattle.moc_blocks.specs.Blocks.{concat, ObeysFillRule, AreBlocks}
 use Rattle.moc_blocks.specs.Private.Blocks.{next_of, last_of, width_of, IsStored}
 use Rattle.moc_blocks.specs.Private.Built.{EndsBelow, first_length, last_length}
 use Rattle.moc_blocks.specs.Private.Walks.{all_ranges, EndsBy, EndsAfterAt}
-use Rattle.moc_blocks.specs.Private.Added.{pieces, one_or_two, IsSplitAtRun, IsMergedRange, IsInserted, IsCut, IsInsertion}
+use Rattle.moc_blocks.specs.Private.Added.{pieces, one_or_two, IsSplitAtRun, IsMergedRange, HasRangeInserted, IsSplit, AddsRange}
 use Rattle.moc_blocks.specs.Private.Added.{IsNodeBlocks, IsNodeEdit}
 use Rattle.moc_blocks.proofs.Blocking.{IsNormal-prefix, IsNormal-suffix, concat-append, nothing_more, width-append, split_first}
 use Rattle.moc_blocks.proofs.Filling.{filled_suffix}
@@ -137,7 +137,7 @@ first_min from start end [] after rest before is normal = is
 first_min from start end (r ∷ first) after rest before is normal = omega (arith, before.0, normal.0)
 
 -- a list whose first ranges end before a range, which is merged with the ranges of the rest that it touches
-pub one_more : (from to start end : ℕ) (first after rest : List (ℕ × ℕ)) → IsNormal (first ++ after) → from < to → to ≤ pixel_count → EndsBelow from first → ((r : ℕ × ℕ) (more : List (ℕ × ℕ)) → after ≡ r ∷ more → from ≤ r.1) → start ≡ min from (next_of after) → IsMergedRange start to after end rest → IsInserted from to (first ++ after) (first ++ (start, end) ∷ rest)
+pub one_more : (from to start end : ℕ) (first after rest : List (ℕ × ℕ)) → IsNormal (first ++ after) → from < to → to ≤ pixel_count → EndsBelow from first → ((r : ℕ × ℕ) (more : List (ℕ × ℕ)) → after ≡ r ∷ more → from ≤ r.1) → start ≡ min from (next_of after) → IsMergedRange start to after end rest → HasRangeInserted from to (first ++ after) (first ++ (start, end) ∷ rest)
 one_more from to start end first after rest normal filled within before past is s =
     let start_below : EndsBelow start first = ends_min from (next_of after) start first before (ends_next first after normal) is in
     record {
@@ -152,12 +152,12 @@ one_more from to start end first after rest normal filled within before past is 
           ∙ ap (λ b. b || in_range (from, to) q) (sym (in_ranges-append first after q));
     }
 
-pub one_more_cut : (from to start end k : ℕ) (ranges rest new : List (ℕ × ℕ)) → IsNormal ranges → from < to → to ≤ pixel_count → EndsBy (from - 1) (all_ranges (λ (r : ℕ × ℕ). r ∷ []) (take k ranges)) → EndsAfterAt (λ (r : ℕ × ℕ). r ∷ []) ranges (from - 1) k → start ≡ min from (next_of (drop k ranges)) → IsMergedRange start to (drop k ranges) end rest → new ≡ take k ranges ++ (start, end) ∷ rest → IsInserted from to ranges new
+pub one_more_cut : (from to start end k : ℕ) (ranges rest new : List (ℕ × ℕ)) → IsNormal ranges → from < to → to ≤ pixel_count → EndsBy (from - 1) (all_ranges (λ (r : ℕ × ℕ). r ∷ []) (take k ranges)) → EndsAfterAt (λ (r : ℕ × ℕ). r ∷ []) ranges (from - 1) k → start ≡ min from (next_of (drop k ranges)) → IsMergedRange start to (drop k ranges) end rest → new ≡ take k ranges ++ (start, end) ∷ rest → HasRangeInserted from to ranges new
 one_more_cut from to start end k ranges rest new normal filled within ended past is s made =
     let whole = take-append-drop k ranges in
     let before = subst (λ (l : List (ℕ × ℕ)). EndsBelow from l) (all_ranges-ranges (take k ranges)) (ended_below (λ (r : ℕ × ℕ). r ∷ []) ranges from k k (subst IsNormal (sym (all_ranges-ranges ranges)) normal) (omega arith) ended) in
     let more = one_more from to start end (take k ranges) (drop k ranges) rest (subst IsNormal (sym whole) normal) filled within before (λ r more e. past_first ranges k from past r more e) is s in
-    subst (λ (l : List (ℕ × ℕ)). IsInserted from to ranges l) (sym made) (subst (λ (l : List (ℕ × ℕ)). IsInserted from to l (take k ranges ++ (start, end) ∷ rest)) whole more)
+    subst (λ (l : List (ℕ × ℕ)). HasRangeInserted from to ranges l) (sym made) (subst (λ (l : List (ℕ × ℕ)). HasRangeInserted from to l (take k ranges ++ (start, end) ∷ rest)) whole more)
 
 -- ---- around a run
 
@@ -228,7 +228,7 @@ grown_width from to old new normal normal' same =
     let more : set.difference (set_of new) (set_of old) ≡ set.difference (numbers from to) (set_of old) = same_members _ _ (λ q. set.contains-difference nat_cmp_total (set_of new) (set_of old) q ∙ ap (λ b. b && not (set.contains (set_of old) q)) (has q) ∙ in_new (set.contains (set_of old) q) (set.contains (numbers from to) q) ∙ sym (set.contains-difference nat_cmp_total (numbers from to) (set_of old) q)) in
     omega (arith, len_parts (set_of new) (set_of old), ap set.len common, ap set.len more, len-set_of old normal, len-set_of new normal')
 
-pub one_wider : (from to : ℕ) (old new : List (ℕ × ℕ)) → IsNormal old → IsInserted from to old new → width_of old ≤ width_of new
+pub one_wider : (from to : ℕ) (old new : List (ℕ × ℕ)) → IsNormal old → HasRangeInserted from to old new → width_of old ≤ width_of new
 one_wider from to old new normal more = omega (arith, grown_width from to old new normal more.normal more.same)
 
 -- ---- blocks after an insertion into one of them
@@ -244,7 +244,7 @@ run_normal before node node' first second after run is parts normal =
     let whole = subst (λ (l : List (List (ℕ × ℕ))). IsNormal (concat l)) parts (node_normal before node node' after is normal) in
     IsNormal-prefix run (concat second) (IsNormal-suffix (concat first) (run ++ concat second) (subst IsNormal (concat-append first (run ∷ second)) whole))
 
-pub replaced_normal : (from to : ℕ) (before after run ranges : List (ℕ × ℕ)) → IsNormal (before ++ (run ++ after)) → 0 < length run → EndsBelow from before → to < next_of after → IsInserted from to run ranges → IsNormal (before ++ (ranges ++ after))
+pub replaced_normal : (from to : ℕ) (before after run ranges : List (ℕ × ℕ)) → IsNormal (before ++ (run ++ after)) → 0 < length run → EndsBelow from before → to < next_of after → HasRangeInserted from to run ranges → IsNormal (before ++ (ranges ++ after))
 replaced_normal from to before after run ranges normal some below above more =
     let tail = IsNormal-suffix before (run ++ after) normal in
     let rest = normal_append ranges after more.normal (IsNormal-suffix run after tail) (more.below (next_of after) above (ends_next run after tail)) in
@@ -260,7 +260,7 @@ more_last false false true false = refl
 more_last false false false true = refl
 more_last false false false false = refl
 
-pub replaced_grown : (from to added : ℕ) (before after run ranges : List (ℕ × ℕ)) → IsInserted from to run ranges → width_of ranges ≡ width_of run + added → IsInsertion from to (before ++ (run ++ after)) (before ++ (ranges ++ after)) added
+pub replaced_grown : (from to added : ℕ) (before after run ranges : List (ℕ × ℕ)) → HasRangeInserted from to run ranges → width_of ranges ≡ width_of run + added → AddsRange from to (before ++ (run ++ after)) (before ++ (ranges ++ after)) added
 replaced_grown from to added before after run ranges more wider = record {
   same = λ q. in_ranges-append before (ranges ++ after) q
       ∙ ap (λ b. in_ranges before q || b) (in_ranges-append ranges after q ∙ ap (λ b. b || in_ranges after q) (more.same q))
@@ -276,20 +276,20 @@ filled_some : {X : Type 0} → (most : ℕ) (before after : List (List X)) (run 
 filled_some most before after run ok = (filled_suffix most before (run ∷ after) ok).0
 
 -- the same, for the blocks before and after as one list each
-regrown_flat : (from to added front back : ℕ) (before after : List (List (ℕ × ℕ))) (run ranges first second : List (ℕ × ℕ)) → AreBlocks (before ++ run ∷ after) → IsNormal (concat (before ++ run ∷ after)) → EndsBelow from (concat before) → to < next_of (concat after) → IsInserted from to run ranges → width_of ranges ≡ width_of run + added → front ≡ last_length before → back ≡ first_length after → IsCut 128 front back ranges first second
-    → AreBlocks (before ++ (pieces first second ++ after)) × IsNormal (concat (before ++ (pieces first second ++ after))) × IsInsertion from to (concat (before ++ run ∷ after)) (concat (before ++ (pieces first second ++ after))) added
+regrown_flat : (from to added front back : ℕ) (before after : List (List (ℕ × ℕ))) (run ranges first second : List (ℕ × ℕ)) → AreBlocks (before ++ run ∷ after) → IsNormal (concat (before ++ run ∷ after)) → EndsBelow from (concat before) → to < next_of (concat after) → HasRangeInserted from to run ranges → width_of ranges ≡ width_of run + added → front ≡ last_length before → back ≡ first_length after → IsSplit 128 front back ranges first second
+    → AreBlocks (before ++ (pieces first second ++ after)) × IsNormal (concat (before ++ (pieces first second ++ after))) × AddsRange from to (concat (before ++ run ∷ after)) (concat (before ++ (pieces first second ++ after))) added
 regrown_flat from to added front back before after run ranges first second sized normal below above more wider is_front is_back cut =
     let old : concat (before ++ run ∷ after) ≡ concat before ++ (run ++ concat after) = concat-append before (run ∷ after) in
     let new : concat (before ++ (pieces first second ++ after)) ≡ concat before ++ (ranges ++ concat after) = concat-middle before (pieces first second) after ∙ ap (λ (l : List (ℕ × ℕ)). concat before ++ (l ++ concat after)) (concat-pieces first second ∙ cut.parts) in (
       replaced_filled 128 before after (pieces first second) run sized cut.filled (pieces_some first second) (subst (λ n. 0 < n → 128 < n + first_length (pieces first second)) is_front cut.front) (subst (λ n. 0 < n → 128 < last_length (pieces first second) + n) is_back cut.back),
       subst IsNormal (sym new) (replaced_normal from to (concat before) (concat after) run ranges (subst IsNormal old normal) (filled_some 128 before after run sized) below above more),
-      subst (λ (l : List (ℕ × ℕ)). IsInsertion from to (concat (before ++ run ∷ after)) l added) (sym new) (subst (λ (l : List (ℕ × ℕ)). IsInsertion from to l (concat before ++ (ranges ++ concat after)) added) (sym old) (replaced_grown from to added (concat before) (concat after) run ranges more wider)),
+      subst (λ (l : List (ℕ × ℕ)). AddsRange from to (concat (before ++ run ∷ after)) l added) (sym new) (subst (λ (l : List (ℕ × ℕ)). AddsRange from to l (concat before ++ (ranges ++ concat after)) added) (sym old) (replaced_grown from to added (concat before) (concat after) run ranges more wider)),
     )
 
 some_inside : {X : Type 0} → (xs ys zs : List X) → 0 < length ys → 0 < length (xs ++ (ys ++ zs))
 some_inside xs ys zs some = omega (arith, some, length-append xs (ys ++ zs), length-append ys zs)
 
-pub regrown_all : (from to : ℕ) (before after node b1 b2 : List (List (ℕ × ℕ))) (run ranges first second : List (ℕ × ℕ)) (front back added : ℕ) (blocks : List (List (ℕ × ℕ))) → AreBlocks (before ++ (node ++ after)) → IsNormal (concat (before ++ (node ++ after))) → node ≡ b1 ++ run ∷ b2 → EndsBelow from (concat before) → EndsBelow from (concat b1) → to < next_of (concat b2 ++ concat after) → IsInserted from to run ranges → width_of ranges ≡ width_of run + added → front ≡ last_length (before ++ b1) → back ≡ first_length (b2 ++ after) → IsCut 128 front back ranges first second → blocks ≡ b1 ++ (pieces first second ++ b2) → IsNodeBlocks from to before after node blocks added
+pub regrown_all : (from to : ℕ) (before after node b1 b2 : List (List (ℕ × ℕ))) (run ranges first second : List (ℕ × ℕ)) (front back added : ℕ) (blocks : List (List (ℕ × ℕ))) → AreBlocks (before ++ (node ++ after)) → IsNormal (concat (before ++ (node ++ after))) → node ≡ b1 ++ run ∷ b2 → EndsBelow from (concat before) → EndsBelow from (concat b1) → to < next_of (concat b2 ++ concat after) → HasRangeInserted from to run ranges → width_of ranges ≡ width_of run + added → front ≡ last_length (before ++ b1) → back ≡ first_length (b2 ++ after) → IsSplit 128 front back ranges first second → blocks ≡ b1 ++ (pieces first second ++ b2) → IsNodeBlocks from to before after node blocks added
 regrown_all from to before after node b1 b2 run ranges first second front back added blocks sized normal parts below1 below2 above more wider is_front is_back cut made =
     let old : before ++ (node ++ after) ≡ (before ++ b1) ++ run ∷ (b2 ++ after) = ap (λ (l : List (List (ℕ × ℕ))). before ++ (l ++ after)) parts ∙ spread before b1 (run ∷ []) b2 after in
     let new : before ++ (blocks ++ after) ≡ (before ++ b1) ++ (pieces first second ++ (b2 ++ after)) = ap (λ (l : List (List (ℕ × ℕ))). before ++ (l ++ after)) made ∙ spread before b1 (pieces first second) b2 after in
@@ -300,8 +300,8 @@ regrown_all from to before after node b1 b2 run ranges first second front back a
       some = subst (λ (l : List (List (ℕ × ℕ))). 0 < length l) (sym made) (some_inside b1 (pieces first second) b2 (pieces_some first second));
       sized = subst AreBlocks (sym new) flat.0;
       normal = subst (λ (l : List (List (ℕ × ℕ))). IsNormal (concat l)) (sym new) flat.1;
-      growing_list = subst (λ (l : List (List (ℕ × ℕ))). IsInsertion from to (concat (before ++ (node ++ after))) (concat l) added) (sym new)
-          (subst (λ (l : List (List (ℕ × ℕ))). IsInsertion from to (concat l) (concat ((before ++ b1) ++ (pieces first second ++ (b2 ++ after)))) added) (sym old) flat.2);
+      is_insertion = subst (λ (l : List (List (ℕ × ℕ))). AddsRange from to (concat (before ++ (node ++ after))) (concat l) added) (sym new)
+          (subst (λ (l : List (List (ℕ × ℕ))). AddsRange from to (concat l) (concat ((before ++ b1) ++ (pieces first second ++ (b2 ++ after)))) added) (sym old) flat.2);
     }
 
 -- ---- nodes after an insertion into one of them
@@ -332,8 +332,8 @@ with_pieces {X} first' first second None is none = ap (λ (l : List X). l ∷ []
 with_pieces {X} first' first [] (Some n) is some = absurd (omega (arith, some.1))
 with_pieces {X} first' first (y ∷ ys) (Some n) is some = λ i. is i ∷ (some.0 i ∷ [])
 
-pub renewed_all : (from to : ℕ) (nodes before after : List (List (List (ℕ × ℕ)))) (node blocks first second first' : List (List (ℕ × ℕ))) (o : Option (List (List (ℕ × ℕ)))) (front back added : ℕ) → IsStored [] nodes → nodes ≡ before ++ node ∷ after → IsNodeBlocks from to (concat before) (concat after) node blocks added → front ≡ last_length before → back ≡ first_length after → IsCut 16 front back blocks first second → first' ≡ first → MatchOption o (second ≡ []) (λ n. (n ≡ second) × (0 < length second)) → IsNodeEdit from to nodes (length before) first' o added
-renewed_all from to nodes before after node blocks first second first' o front back added stored parts node_blocks is_front is_back cut is_first is_second =
+pub node_edit_all : (from to : ℕ) (nodes before after : List (List (List (ℕ × ℕ)))) (node blocks first second first' : List (List (ℕ × ℕ))) (o : Option (List (List (ℕ × ℕ)))) (front back added : ℕ) → IsStored [] nodes → nodes ≡ before ++ node ∷ after → IsNodeBlocks from to (concat before) (concat after) node blocks added → front ≡ last_length before → back ≡ first_length after → IsSplit 16 front back blocks first second → first' ≡ first → MatchOption o (second ≡ []) (λ n. (n ≡ second) × (0 < length second)) → IsNodeEdit from to nodes (length before) first' o added
+node_edit_all from to nodes before after node blocks first second first' o front back added stored parts node_blocks is_front is_back cut is_first is_second =
     let made = with_pieces first' first second o is_first is_second in
     let new : concat (before ++ (one_or_two first' o ++ after)) ≡ concat before ++ (blocks ++ concat after) =
     concat-append before (one_or_two first' o ++ after) ∙ ap (λ (l : List (List (ℕ × ℕ))). concat before ++ l) (concat-append (one_or_two first' o) after ∙ ap (λ (l : List (List (ℕ × ℕ))). l ++ concat after) (ap concat made ∙ concat-pieces first second ∙ cut.parts)) in
@@ -352,8 +352,8 @@ renewed_all from to nodes before after node blocks first second first' o front b
         wide = subst (λ (l : List (List (List (ℕ × ℕ)))). ObeysFillRule 16 (before ++ (l ++ after))) (sym made) wide;
         normal = subst (λ (l : List (List (ℕ × ℕ))). IsNormal (concat l)) (sym new) node_blocks.normal;
       };
-      growing_list = subst (λ (l : List (List (ℕ × ℕ))). IsInsertion from to (concat (concat nodes)) (concat l) added) (sym new)
-          (subst (λ (l : List (List (ℕ × ℕ))). IsInsertion from to (concat l) (concat (concat before ++ (blocks ++ concat after))) added) (sym old) node_blocks.growing_list);
+      is_insertion = subst (λ (l : List (List (ℕ × ℕ))). AddsRange from to (concat (concat nodes)) (concat l) added) (sym new)
+          (subst (λ (l : List (List (ℕ × ℕ))). AddsRange from to (concat l) (concat (concat before ++ (blocks ++ concat after))) added) (sym old) node_blocks.is_insertion);
     }
 
 -- ---- one element replaced
@@ -394,18 +394,18 @@ in_place {X} nodes before after middle node place parts at =
     let last : drop (place + 1) nodes ≡ after = ap (λ (l : List X). drop (place + 1) l) parts ∙ drop_first before after node (place + 1) (omega arith) in
     λ i. first i ++ (middle ++ last i)
 
-pub renewed_stored : (from to place added : ℕ) (nodes nodes' new : List (List (List (ℕ × ℕ)))) (first : List (List (ℕ × ℕ))) (second : Option (List (List (ℕ × ℕ)))) → nodes' ≡ nodes → IsNodeEdit from to nodes' place first second added → new ≡ take place nodes ++ (one_or_two first second ++ drop (place + 1) nodes) → IsStored [] new
-renewed_stored from to place added nodes nodes' new first second is r made =
+pub node_edit_stored : (from to place added : ℕ) (nodes nodes' new : List (List (List (ℕ × ℕ)))) (first : List (List (ℕ × ℕ))) (second : Option (List (List (ℕ × ℕ)))) → nodes' ≡ nodes → IsNodeEdit from to nodes' place first second added → new ≡ take place nodes ++ (one_or_two first second ++ drop (place + 1) nodes) → IsStored [] new
+node_edit_stored from to place added nodes nodes' new first second is r made =
     subst (λ (l : List (List (List (ℕ × ℕ)))). IsStored [] l) (sym (made ∙ in_place nodes r.before r.after (one_or_two first second) r.node place (sym is ∙ r.parts) r.at)) r.stored
 
-pub renewed_grown : (from to place added : ℕ) (nodes nodes' new : List (List (List (ℕ × ℕ)))) (first : List (List (ℕ × ℕ))) (second : Option (List (List (ℕ × ℕ)))) → nodes' ≡ nodes → IsNodeEdit from to nodes' place first second added → new ≡ take place nodes ++ (one_or_two first second ++ drop (place + 1) nodes) → IsInsertion from to (concat (concat nodes)) (concat (concat new)) added
-renewed_grown from to place added nodes nodes' new first second is r made =
-    subst (λ (l : List (List (List (ℕ × ℕ)))). IsInsertion from to (concat (concat nodes)) (concat (concat l)) added) (sym (made ∙ in_place nodes r.before r.after (one_or_two first second) r.node place (sym is ∙ r.parts) r.at))
-    (subst (λ (l : List (List (List (ℕ × ℕ)))). IsInsertion from to (concat (concat l)) (concat (concat (r.before ++ (one_or_two first second ++ r.after)))) added) is r.growing_list)
+pub node_edit_adds : (from to place added : ℕ) (nodes nodes' new : List (List (List (ℕ × ℕ)))) (first : List (List (ℕ × ℕ))) (second : Option (List (List (ℕ × ℕ)))) → nodes' ≡ nodes → IsNodeEdit from to nodes' place first second added → new ≡ take place nodes ++ (one_or_two first second ++ drop (place + 1) nodes) → AddsRange from to (concat (concat nodes)) (concat (concat new)) added
+node_edit_adds from to place added nodes nodes' new first second is r made =
+    subst (λ (l : List (List (List (ℕ × ℕ)))). AddsRange from to (concat (concat nodes)) (concat (concat l)) added) (sym (made ∙ in_place nodes r.before r.after (one_or_two first second) r.node place (sym is ∙ r.parts) r.at))
+    (subst (λ (l : List (List (List (ℕ × ℕ)))). AddsRange from to (concat (concat l)) (concat (concat (r.before ++ (one_or_two first second ++ r.after)))) added) is r.is_insertion)
 
-pub few_grown : (from to a b added : ℕ) (old old' new : List (ℕ × ℕ)) → old' ≡ old → IsNormal old → IsInserted from to old' new → a ≡ width_of new → b ≡ width_of old → added ≡ a - b → IsInsertion from to old new added
+pub few_grown : (from to a b added : ℕ) (old old' new : List (ℕ × ℕ)) → old' ≡ old → IsNormal old → HasRangeInserted from to old' new → a ≡ width_of new → b ≡ width_of old → added ≡ a - b → AddsRange from to old new added
 few_grown from to a b added old old' new is normal more0 is_a is_b is_added =
-    let more = subst (λ (l : List (ℕ × ℕ)). IsInserted from to l new) is more0 in
+    let more = subst (λ (l : List (ℕ × ℕ)). HasRangeInserted from to l new) is more0 in
     record {
       same = more.same;
       more = omega (arith, is_a, is_b, is_added, one_wider from to old new normal more);

@@ -32,7 +32,7 @@ last_length-nodes (n ∷ (m ∷ ns)) d (suc i) e filled = last_length-append n (
 
 -- the last block was merged with another
 pub joined_sized : (node init bs bs' : List (List (ℕ × ℕ))) (stack : List (List (ℕ × ℕ))) (last block : List (ℕ × ℕ)) → node ++ bs ≡ stack → AreBlocks stack → bs ≡ init ++ last ∷ [] → bs' ≡ init ++ (last ++ block) ∷ [] → last_length stack + length block ≤ 128 → AreBlocks (node ++ bs')
-joined_sized node init bs bs' stack last block same ok old new room =
+joined_sized node init bs bs' stack last block same ok old new capacity =
     let whole : stack ≡ (node ++ init) ++ last ∷ [] = sym same ∙ ap (λ (l : List (List (ℕ × ℕ))). node ++ l) old ∙ sym (append_assoc node init (last ∷ [])) in
     let len : last_length stack ≡ length last = ap last_length whole ∙ last_length-append (node ++ init) (last ∷ []) (omega arith) in
     let made : node ++ bs' ≡ (node ++ init) ++ (last ++ block) ∷ [] = ap (λ (l : List (List (ℕ × ℕ))). node ++ l) new ∙ sym (append_assoc node init ((last ++ block) ∷ [])) in
@@ -138,7 +138,7 @@ pushed_can u init range built is =
 
 -- the first k ranges were appended to those in no block, which had room for k
 pub filled_built : (ns : List (List (List (ℕ × ℕ)))) (bs : List (List (ℕ × ℕ))) (rs rs' kept ranges : List (ℕ × ℕ)) (k : ℕ) → IsBuilderState ns bs rs → builder_ranges ns bs rs ≡ kept → rs' ≡ rs ++ take k ranges → length rs + k ≤ 128 → IsNormal (kept ++ ranges) → IsBuilderState ns bs rs'
-filled_built ns bs rs rs' kept ranges k built same new room normal =
+filled_built ns bs rs rs' kept ranges k built same new capacity normal =
     let all : List (ℕ × ℕ) = concat (concat ns ++ bs) in
     let made : builder_ranges ns bs rs' ≡ kept ++ take k ranges = ap (λ (l : List (ℕ × ℕ)). all ++ l) new ∙ sym (append_assoc all rs (take k ranges)) ∙ ap (λ (l : List (ℕ × ℕ)). l ++ take k ranges) same in
     let parts : kept ++ ranges ≡ (kept ++ take k ranges) ++ drop k ranges = ap (λ (l : List (ℕ × ℕ)). kept ++ l) (sym (take-append-drop k ranges)) ∙ sym (append_assoc kept (take k ranges) (drop k ranges)) in
@@ -151,7 +151,7 @@ filled_built ns bs rs rs' kept ranges k built same new room normal =
 
 -- a range was pushed, and there was room for it
 pub pushed_built : (ns : List (List (List (ℕ × ℕ)))) (bs : List (List (ℕ × ℕ))) (rs rs' kept : List (ℕ × ℕ)) (range : ℕ × ℕ) → IsBuilderState ns bs rs → builder_ranges ns bs rs ≡ kept → length rs < 128 → rs' ≡ rs ++ range ∷ [] → range.0 < range.1 → range.1 ≤ pixel_count → EndsBelow range.0 kept → IsBuilderState ns bs rs'
-pushed_built ns bs rs rs' kept range built same room new filled within below =
+pushed_built ns bs rs rs' kept range built same capacity new filled within below =
     let made : builder_ranges ns bs rs' ≡ builder_ranges ns bs rs ++ range ∷ [] = ap (λ (l : List (ℕ × ℕ)). concat (concat ns ++ bs) ++ l) new ∙ sym (append_assoc (concat (concat ns ++ bs)) rs (range ∷ [])) in
     record {
       sized = built.sized;

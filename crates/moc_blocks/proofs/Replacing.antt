@@ -6,10 +6,10 @@ use Rattle.moc_blocks.specs.RangeList.{pixel_count, IsNormal}
 use Rattle.moc_blocks.specs.Blocks.{concat, ObeysFillRule, AreBlocks}
 use Rattle.moc_blocks.specs.Private.Blocks.{width_of, starts_from, AreNodes, IsStored}
 use Rattle.moc_blocks.specs.Private.Built.{first_length, last_length}
-use Rattle.moc_blocks.specs.Private.Added.{one_or_two, IsCut, IsNodeEdit, IsBlockEdit, IsInsertion}
+use Rattle.moc_blocks.specs.Private.Added.{one_or_two, IsSplit, IsNodeEdit, IsBlockEdit, AddsRange}
 use Rattle.moc_blocks.proofs.Blocking.{width-append, width_bounded, few_ranges, nothing_more, concat-append}
 use Rattle.moc_blocks.proofs.Filling.{filled_suffix}
-use Rattle.moc_blocks.proofs.Adding.{first_sized, node_normal, renewed_all, renewed_stored, renewed_grown, set_split}
+use Rattle.moc_blocks.proofs.Adding.{first_sized, node_normal, node_edit_all, node_edit_stored, node_edit_adds, set_split}
 
 pub width_replaced : (bs : List (List (ℕ × ℕ))) (i : ℕ) (old new : List (ℕ × ℕ)) → i < length bs → old ≡ get_or bs i old → width_of (concat (slice_set bs i new)) + width_of old ≡ width_of (concat bs) + width_of new
 width_replaced [] i old new lt is = absurd (omega arith)
@@ -51,56 +51,56 @@ beside_next {X} most (m ∷ ms) x ok some = ok.2
 
 -- ---- a block after an insertion, in its place
 
-pub spot_node : (from to node block added : ℕ) (nodes nodes' : List (List (List (ℕ × ℕ)))) (ranges : List (ℕ × ℕ)) (found : List (List (ℕ × ℕ))) → nodes' ≡ nodes → (s : IsBlockEdit from to nodes' node block ranges added) → found ≡ get_or nodes node found → found ≡ s.old
-spot_node from to node block added nodes nodes' ranges found same s is =
+pub block_edit_node : (from to node block added : ℕ) (nodes nodes' : List (List (List (ℕ × ℕ)))) (ranges : List (ℕ × ℕ)) (found : List (List (ℕ × ℕ))) → nodes' ≡ nodes → (s : IsBlockEdit from to nodes' node block ranges added) → found ≡ get_or nodes node found → found ≡ s.old
+block_edit_node from to node block added nodes nodes' ranges found same s is =
     is ∙ ap (λ (l : List (List (List (ℕ × ℕ)))). get_or l node found) (sym same ∙ s.parts) ∙ get_between s.before s.after s.old found node s.at
 
 -- the blocks of the node, with the new block
-pub spot_blocks : (from to node block added : ℕ) (nodes nodes' : List (List (List (ℕ × ℕ)))) (ranges new : List (ℕ × ℕ)) (found : List (List (ℕ × ℕ))) → nodes' ≡ nodes → (s : IsBlockEdit from to nodes' node block ranges added) → found ≡ get_or nodes node found → new ≡ ranges → slice_set found block new ≡ s.left ++ ranges ∷ s.right
-spot_blocks from to node block added nodes nodes' ranges new found same s is made =
-    let whole = spot_node from to node block added nodes nodes' ranges found same s is ∙ s.growing_list.parts in
+pub block_edit_blocks : (from to node block added : ℕ) (nodes nodes' : List (List (List (ℕ × ℕ)))) (ranges new : List (ℕ × ℕ)) (found : List (List (ℕ × ℕ))) → nodes' ≡ nodes → (s : IsBlockEdit from to nodes' node block ranges added) → found ≡ get_or nodes node found → new ≡ ranges → slice_set found block new ≡ s.left ++ ranges ∷ s.right
+block_edit_blocks from to node block added nodes nodes' ranges new found same s is made =
+    let whole = block_edit_node from to node block added nodes nodes' ranges found same s is ∙ s.grown_block.parts in
     (λ i. slice_set (whole i) block (made i)) ∙ set_between s.left s.right s.run ranges block s.place
 
-pub spot_normal : (from to node block added : ℕ) (nodes nodes' : List (List (List (ℕ × ℕ)))) (ranges new : List (ℕ × ℕ)) (found : List (List (ℕ × ℕ))) → nodes' ≡ nodes → IsBlockEdit from to nodes' node block ranges added → found ≡ get_or nodes node found → new ≡ ranges → IsNormal (concat (slice_set found block new))
-spot_normal from to node block added nodes nodes' ranges new found same s is made =
-    node_normal (concat s.before) (slice_set found block new) (s.left ++ ranges ∷ s.right) (concat s.after) (spot_blocks from to node block added nodes nodes' ranges new found same s is made) s.growing_list.node_blocks.normal
+pub block_edit_normal : (from to node block added : ℕ) (nodes nodes' : List (List (List (ℕ × ℕ)))) (ranges new : List (ℕ × ℕ)) (found : List (List (ℕ × ℕ))) → nodes' ≡ nodes → IsBlockEdit from to nodes' node block ranges added → found ≡ get_or nodes node found → new ≡ ranges → IsNormal (concat (slice_set found block new))
+block_edit_normal from to node block added nodes nodes' ranges new found same s is made =
+    node_normal (concat s.before) (slice_set found block new) (s.left ++ ranges ∷ s.right) (concat s.after) (block_edit_blocks from to node block added nodes nodes' ranges new found same s is made) s.grown_block.node_blocks.normal
 
-pub spot_sized : (from to node block added : ℕ) (nodes nodes' : List (List (List (ℕ × ℕ)))) (ranges new : List (ℕ × ℕ)) (found : List (List (ℕ × ℕ))) → nodes' ≡ nodes → IsBlockEdit from to nodes' node block ranges added → found ≡ get_or nodes node found → new ≡ ranges → AreBlocks (slice_set found block new)
-spot_sized from to node block added nodes nodes' ranges new found same s is made =
+pub block_edit_sized : (from to node block added : ℕ) (nodes nodes' : List (List (List (ℕ × ℕ)))) (ranges new : List (ℕ × ℕ)) (found : List (List (ℕ × ℕ))) → nodes' ≡ nodes → IsBlockEdit from to nodes' node block ranges added → found ≡ get_or nodes node found → new ≡ ranges → AreBlocks (slice_set found block new)
+block_edit_sized from to node block added nodes nodes' ranges new found same s is made =
     let blocks = s.left ++ ranges ∷ s.right in
-    subst AreBlocks (sym (spot_blocks from to node block added nodes nodes' ranges new found same s is made))
-    (first_sized (concat s.before) (concat s.after) blocks blocks [] (nothing_more blocks) s.growing_list.node_blocks.sized)
+    subst AreBlocks (sym (block_edit_blocks from to node block added nodes nodes' ranges new found same s is made))
+    (first_sized (concat s.before) (concat s.after) blocks blocks [] (nothing_more blocks) s.grown_block.node_blocks.sized)
 
 -- the node has as many blocks as before, so the fill rule still holds between the others
-spot_cut : (from to node block added : ℕ) (nodes : List (List (List (ℕ × ℕ)))) (ranges : List (ℕ × ℕ)) → IsStored [] nodes → (s : IsBlockEdit from to nodes node block ranges added) → IsCut 16 (last_length s.before) (first_length s.after) (s.left ++ ranges ∷ s.right) (s.left ++ ranges ∷ s.right) []
-spot_cut from to node block added nodes ranges stored s =
+block_edit_split : (from to node block added : ℕ) (nodes : List (List (List (ℕ × ℕ)))) (ranges : List (ℕ × ℕ)) → IsStored [] nodes → (s : IsBlockEdit from to nodes node block ranges added) → IsSplit 16 (last_length s.before) (first_length s.after) (s.left ++ ranges ∷ s.right) (s.left ++ ranges ∷ s.right) []
+block_edit_split from to node block added nodes ranges stored s =
     let blocks = s.left ++ ranges ∷ s.right in
     let wide = subst (λ (l : List (List (List (ℕ × ℕ)))). ObeysFillRule 16 l) s.parts stored.wide in
     let here = filled_suffix 16 s.before (s.old ∷ s.after) wide in
-    let many : length blocks ≡ length s.old = omega (arith, ap length s.growing_list.parts, length-append s.left (ranges ∷ s.right), length-append s.left (s.run ∷ s.right)) in
+    let many : length blocks ≡ length s.old = omega (arith, ap length s.grown_block.parts, length-append s.left (ranges ∷ s.right), length-append s.left (s.run ∷ s.right)) in
     record {
       parts = nothing_more blocks;
-      filled = (omega (arith, s.growing_list.node_blocks.some), omega (arith, many, here.1), tt, tt);
+      filled = (omega (arith, s.grown_block.node_blocks.some), omega (arith, many, here.1), tt, tt);
       front = λ some. omega (arith, many, beside_last 16 s.before s.after s.old wide some);
       back = λ some. omega (arith, many, beside_next 16 s.after s.old here some);
     }
 
-spot_renewed : (from to node block added : ℕ) (nodes : List (List (List (ℕ × ℕ)))) (ranges : List (ℕ × ℕ)) (put : List (List (ℕ × ℕ))) → IsStored [] nodes → (s : IsBlockEdit from to nodes node block ranges added) → put ≡ s.left ++ ranges ∷ s.right → IsNodeEdit from to nodes node put None added
-spot_renewed from to node block added nodes ranges put stored s is =
+block_edit_in_node : (from to node block added : ℕ) (nodes : List (List (List (ℕ × ℕ)))) (ranges : List (ℕ × ℕ)) (put : List (List (ℕ × ℕ))) → IsStored [] nodes → (s : IsBlockEdit from to nodes node block ranges added) → put ≡ s.left ++ ranges ∷ s.right → IsNodeEdit from to nodes node put None added
+block_edit_in_node from to node block added nodes ranges put stored s is =
     let blocks = s.left ++ ranges ∷ s.right in
     subst (λ n. IsNodeEdit from to nodes n put None added) (sym s.at)
-    (renewed_all from to nodes s.before s.after s.old blocks blocks [] put None _ _ added stored s.parts s.growing_list.node_blocks refl refl (spot_cut from to node block added nodes ranges stored s) is refl)
+    (node_edit_all from to nodes s.before s.after s.old blocks blocks [] put None _ _ added stored s.parts s.grown_block.node_blocks refl refl (block_edit_split from to node block added nodes ranges stored s) is refl)
 
 place_inside : (from to node block added : ℕ) (nodes : List (List (List (ℕ × ℕ)))) (ranges : List (ℕ × ℕ)) → IsBlockEdit from to nodes node block ranges added → node < length nodes
 place_inside from to node block added nodes ranges s = omega (arith, s.at, ap length s.parts, length-append s.before (s.old ∷ s.after))
 
 -- the nodes, with the new block
-pub spot_put : (from to node block added : ℕ) (nodes nodes' : List (List (List (ℕ × ℕ)))) (ranges new : List (ℕ × ℕ)) (found put : List (List (ℕ × ℕ))) → IsStored [] nodes → nodes' ≡ nodes → IsBlockEdit from to nodes' node block ranges added → found ≡ get_or nodes node found → new ≡ ranges → put ≡ slice_set found block new → IsStored [] (slice_set nodes node put) × IsInsertion from to (concat (concat nodes)) (concat (concat (slice_set nodes node put))) added
-spot_put from to node block added nodes nodes' ranges new found put stored same s is made with_block_replaced =
+pub block_edit_put : (from to node block added : ℕ) (nodes nodes' : List (List (List (ℕ × ℕ)))) (ranges new : List (ℕ × ℕ)) (found put : List (List (ℕ × ℕ))) → IsStored [] nodes → nodes' ≡ nodes → IsBlockEdit from to nodes' node block ranges added → found ≡ get_or nodes node found → new ≡ ranges → put ≡ slice_set found block new → IsStored [] (slice_set nodes node put) × AddsRange from to (concat (concat nodes)) (concat (concat (slice_set nodes node put))) added
+block_edit_put from to node block added nodes nodes' ranges new found put stored same s is made with_block_replaced =
     let stored' = subst (λ (l : List (List (List (ℕ × ℕ)))). IsStored [] l) (sym same) stored in
-    let renewed = spot_renewed from to node block added nodes' ranges put stored' s (with_block_replaced ∙ spot_blocks from to node block added nodes nodes' ranges new found same s is made) in
+    let renewed = block_edit_in_node from to node block added nodes' ranges put stored' s (with_block_replaced ∙ block_edit_blocks from to node block added nodes nodes' ranges new found same s is made) in
     let split = set_split nodes node put (omega (arith, ap length same, place_inside from to node block added nodes' ranges s)) in
-    (renewed_stored from to node added nodes nodes' (slice_set nodes node put) put None same renewed split, renewed_grown from to node added nodes nodes' (slice_set nodes node put) put None same renewed split)
+    (node_edit_stored from to node added nodes nodes' (slice_set nodes node put) put None same renewed split, node_edit_adds from to node added nodes nodes' (slice_set nodes node put) put None same renewed split)
 
 -- ---- when one block is not enough
 
@@ -108,28 +108,23 @@ pub none_matched : {X : Type 0} (P : X → Type 0) (Q : Type 0) (o : Option X) �
 none_matched {X} P Q None lacks holds = holds
 none_matched {X} P Q (Some x) lacks holds = absurd (lacks x refl)
 
-pub renewed_still : (from to place added : ℕ) (nodes still nodes' new : List (List (List (ℕ × ℕ)))) (first : List (List (ℕ × ℕ))) (second : Option (List (List (ℕ × ℕ)))) → concat (concat still) ≡ concat (concat nodes) → nodes' ≡ still → IsNodeEdit from to nodes' place first second added → new ≡ take place still ++ (one_or_two first second ++ drop (place + 1) still) → IsInsertion from to (concat (concat nodes)) (concat (concat new)) added
-renewed_still from to place added nodes still nodes' new first second same is renewed made =
-    subst (λ (l : List (ℕ × ℕ)). IsInsertion from to l (concat (concat new)) added) same
-    (renewed_grown from to place added still nodes' new first second is renewed made)
-
 -- ---- the number of ranges after a node was replaced
 
-pub nodes_renewed : (ns middle : List (List (List (ℕ × ℕ)))) (i n : ℕ) (old : List (List (ℕ × ℕ))) → i < length ns → n ≡ i + 1 → old ≡ get_or ns i old → length (concat (concat (take i ns ++ (middle ++ drop n ns)))) + length (concat old) ≡ length (concat (concat ns)) + length (concat (concat middle))
-nodes_renewed [] middle i n old lt e is = absurd (omega arith)
-nodes_renewed (x ∷ ns) middle i zero old lt e is = absurd (omega arith)
-nodes_renewed (x ∷ ns) middle zero (suc n) old lt e is =
+pub node_edit_count : (ns middle : List (List (List (ℕ × ℕ)))) (i n : ℕ) (old : List (List (ℕ × ℕ))) → i < length ns → n ≡ i + 1 → old ≡ get_or ns i old → length (concat (concat (take i ns ++ (middle ++ drop n ns)))) + length (concat old) ≡ length (concat (concat ns)) + length (concat (concat middle))
+node_edit_count [] middle i n old lt e is = absurd (omega arith)
+node_edit_count (x ∷ ns) middle i zero old lt e is = absurd (omega arith)
+node_edit_count (x ∷ ns) middle zero (suc n) old lt e is =
     let none : n ≡ 0 = omega arith in
     let rest : concat (concat (middle ++ drop n ns)) ≡ concat (concat middle) ++ concat (concat ns) =
     ap (λ k. concat (concat (middle ++ drop k ns))) none ∙ ap concat (concat-append middle ns) ∙ concat-append (concat middle) (concat ns) in
     omega (arith, ap length rest, length-append (concat (concat middle)) (concat (concat ns)), ap length (concat-append x (concat ns)), length-append (concat x) (concat (concat ns)), ap (λ (l : List (List (ℕ × ℕ))). length (concat l)) is)
-nodes_renewed (x ∷ ns) middle (suc i) (suc n) old lt e is =
+node_edit_count (x ∷ ns) middle (suc i) (suc n) old lt e is =
     let rest = take i ns ++ (middle ++ drop n ns) in
-    omega (arith, nodes_renewed ns middle i n old (omega arith) (omega arith) is, ap length (concat-append x (concat rest)), length-append (concat x) (concat (concat rest)), ap length (concat-append x (concat ns)), length-append (concat x) (concat (concat ns)))
+    omega (arith, node_edit_count ns middle i n old (omega arith) (omega arith) is, ap length (concat-append x (concat rest)), length-append (concat x) (concat (concat rest)), ap length (concat-append x (concat ns)), length-append (concat x) (concat (concat ns)))
 
 pub node_set : (ns : List (List (List (ℕ × ℕ)))) (i : ℕ) (old new : List (List (ℕ × ℕ))) → i < length ns → old ≡ get_or ns i old → length (concat (concat (slice_set ns i new))) + length (concat old) ≡ length (concat (concat ns)) + length (concat new)
 node_set ns i old new lt is =
-    omega (arith, nodes_renewed ns (new ∷ []) i (i + 1) old lt refl is, ap (λ (l : List (List (List (ℕ × ℕ)))). length (concat (concat l))) (set_split ns i new lt), ap (λ (l : List (List (ℕ × ℕ))). length (concat l)) (nothing_more new))
+    omega (arith, node_edit_count ns (new ∷ []) i (i + 1) old lt refl is, ap (λ (l : List (List (List (ℕ × ℕ)))). length (concat (concat l))) (set_split ns i new lt), ap (λ (l : List (List (ℕ × ℕ))). length (concat l)) (nothing_more new))
 
 pub node_part : (ns : List (List (List (ℕ × ℕ)))) (i n count : ℕ) (old : List (List (ℕ × ℕ))) → i < length ns → old ≡ get_or ns i old → n ≡ length (concat old) → count ≡ length (concat (concat ns)) → n ≤ count
 node_part ns i n count old lt is is_n is_count = omega (arith, node_set ns i old [] lt is)
@@ -150,17 +145,17 @@ count_set ns i n m count old again new lt is is_new is_n is_m is_count =
     let there : again ≡ new = is_new ∙ set_there ns i new again lt in
     omega (arith, node_set ns i old new lt is, ap (λ (l : List (List (ℕ × ℕ))). length (concat l)) there, node_part ns i n count old lt is is_n is_count)
 
-pub spot_inside : (from to node block added : ℕ) (nodes nodes' : List (List (List (ℕ × ℕ)))) (ranges : List (ℕ × ℕ)) → nodes' ≡ nodes → IsBlockEdit from to nodes' node block ranges added → node < length nodes
-spot_inside from to node block added nodes nodes' ranges same s = omega (arith, ap length same, place_inside from to node block added nodes' ranges s)
+pub block_edit_inside : (from to node block added : ℕ) (nodes nodes' : List (List (List (ℕ × ℕ)))) (ranges : List (ℕ × ℕ)) → nodes' ≡ nodes → IsBlockEdit from to nodes' node block ranges added → node < length nodes
+block_edit_inside from to node block added nodes nodes' ranges same s = omega (arith, ap length same, place_inside from to node block added nodes' ranges s)
 
 -- the cached numbers of nodes after one was replaced
-pub kept_renewed : (ns value middle new : List (List (List (ℕ × ℕ)))) (starts starts' : List ℕ) (p size added count n m : ℕ) (old : List (List (ℕ × ℕ))) → ns ≡ value → AreNodes starts size count ns → p < length ns → old ≡ get_or ns p old → n ≡ length (concat old) → m ≡ length (concat (concat middle)) → width_of (concat (concat (take p value ++ (middle ++ drop (p + 1) value)))) ≡ width_of (concat (concat value)) + added → new ≡ take p ns ++ (middle ++ drop (p + 1) ns) → starts' ≡ starts_from 0 (take p ns ++ (middle ++ drop (p + 1) ns)) → AreNodes starts' (size + added) (count - n + m) new
-kept_renewed ns value middle new starts starts' p size added count n m old same kept lt there is_n is_m growing_list made placed =
-    let more = subst (λ (l : List (List (List (ℕ × ℕ)))). width_of (concat (concat (take p l ++ (middle ++ drop (p + 1) l)))) ≡ width_of (concat (concat l)) + added) (sym same) growing_list in
+pub node_edit_index : (ns value middle new : List (List (List (ℕ × ℕ)))) (starts starts' : List ℕ) (p size added count n m : ℕ) (old : List (List (ℕ × ℕ))) → ns ≡ value → AreNodes starts size count ns → p < length ns → old ≡ get_or ns p old → n ≡ length (concat old) → m ≡ length (concat (concat middle)) → width_of (concat (concat (take p value ++ (middle ++ drop (p + 1) value)))) ≡ width_of (concat (concat value)) + added → new ≡ take p ns ++ (middle ++ drop (p + 1) ns) → starts' ≡ starts_from 0 (take p ns ++ (middle ++ drop (p + 1) ns)) → AreNodes starts' (size + added) (count - n + m) new
+node_edit_index ns value middle new starts starts' p size added count n m old same kept lt there is_n is_m more_pixels made placed =
+    let more = subst (λ (l : List (List (List (ℕ × ℕ)))). width_of (concat (concat (take p l ++ (middle ++ drop (p + 1) l)))) ≡ width_of (concat (concat l)) + added) (sym same) more_pixels in
     subst (λ (l : List (List (List (ℕ × ℕ)))). AreNodes starts' (size + added) (count - n + m) l) (sym made) (record {
       placed = placed;
       measured = omega (arith, more, kept.measured);
-      counted = omega (arith, nodes_renewed ns middle p (p + 1) old lt refl there, node_part ns p n count old lt there is_n kept.counted, kept.counted);
+      counted = omega (arith, node_edit_count ns middle p (p + 1) old lt refl there, node_part ns p n count old lt there is_n kept.counted, kept.counted);
     })
 
 pub one_count : (node : List (List (ℕ × ℕ))) (m : ℕ) → m ≡ length (concat node) → m ≡ length (concat (concat (node ∷ [])))
@@ -171,8 +166,8 @@ two_count first second m n is is' =
     omega (arith, ap length (concat-append first (second ++ [])), length-append (concat first) (concat (second ++ [])), ap (λ (l : List (List (ℕ × ℕ))). length (concat l)) (nothing_more second))
 
 -- their bounds
-pub renewed_bounds : (ns value middle : List (List (List (ℕ × ℕ)))) (p size added count n m : ℕ) (starts : List ℕ) (old : List (List (ℕ × ℕ))) → ns ≡ value → AreNodes starts size count ns → p < length ns → old ≡ get_or ns p old → n ≡ length (concat old) → m ≡ length (concat (concat middle)) → IsStored [] (take p value ++ (middle ++ drop (p + 1) value)) → width_of (concat (concat (take p value ++ (middle ++ drop (p + 1) value)))) ≡ width_of (concat (concat value)) + added → (size + added ≤ pixel_count) × (count - n + m ≤ pixel_count)
-renewed_bounds ns value middle p size added count n m starts old same kept lt there is_n is_m stored growing_list =
-    let k = kept_renewed ns value middle _ starts _ p size added count n m old same kept lt there is_n is_m growing_list refl refl in
+pub node_edit_bounds : (ns value middle : List (List (List (ℕ × ℕ)))) (p size added count n m : ℕ) (starts : List ℕ) (old : List (List (ℕ × ℕ))) → ns ≡ value → AreNodes starts size count ns → p < length ns → old ≡ get_or ns p old → n ≡ length (concat old) → m ≡ length (concat (concat middle)) → IsStored [] (take p value ++ (middle ++ drop (p + 1) value)) → width_of (concat (concat (take p value ++ (middle ++ drop (p + 1) value)))) ≡ width_of (concat (concat value)) + added → (size + added ≤ pixel_count) × (count - n + m ≤ pixel_count)
+node_edit_bounds ns value middle p size added count n m starts old same kept lt there is_n is_m stored more_pixels =
+    let k = node_edit_index ns value middle _ starts _ p size added count n m old same kept lt there is_n is_m more_pixels refl refl in
     let normal = subst (λ (l : List (List (List (ℕ × ℕ)))). IsStored [] (take p l ++ (middle ++ drop (p + 1) l))) (sym same) stored in
     (omega (arith, k.measured, width_bounded _ normal.normal), omega (arith, k.counted, few_ranges _ normal.normal))

@@ -221,8 +221,8 @@ nodes_taken ns i n lt is =
 
 pub block_found : (ns : List (List (List (ℕ × ℕ)))) (i left place : ℕ) (n : List (List (ℕ × ℕ))) (b : List (ℕ × ℕ)) → i < length ns → n ≡ get_or ns i n → place ≡ length (concat (take i ns)) + left → left < length n → b ≡ get_or n left b → (place < length (concat ns)) × (b ≡ get_or (concat ns) place b)
 block_found ns i left place n b lt is at inside same =
-    let room = nodes_taken ns i n lt is in (
-      omega (arith, room.1),
+    let capacity = nodes_taken ns i n lt is in (
+      omega (arith, capacity.1),
       same ∙ sym (ap (λ (l : List (List (ℕ × ℕ))). get_or l place b) (nodes_at ns i n lt is)
           ∙ ap (λ k. get_or (concat (take i ns) ++ (n ++ concat (drop (i + 1) ns))) k b) at
           ∙ get_past (concat (take i ns)) (n ++ concat (drop (i + 1) ns)) left b

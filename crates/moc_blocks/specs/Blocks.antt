@@ -18,9 +18,17 @@ ObeysFillRule most [] = ⊤
 ObeysFillRule most (list ∷ lists) =
     (0 < length list) × (length list ≤ most) × ExceedsWithNext most list lists × ObeysFillRule most lists
 
+-- the maximum number of ranges of a block
+abbrev pub max_block_ranges : ℕ
+max_block_ranges = 128
+
+-- the maximum number of blocks of a node
+abbrev pub max_node_blocks : ℕ
+max_node_blocks = 16
+
 -- the fill rule for blocks: each block has 1 to 128 ranges, and two adjacent blocks together have more than 128
 abbrev pub AreBlocks : List (List (ℕ × ℕ)) → Type 0
-AreBlocks blocks = ObeysFillRule 128 blocks
+AreBlocks blocks = ObeysFillRule max_block_ranges blocks
 
 -- a search increased the counter from `old` to `new`: by at most 8 more than the number of binary digits of the number
 -- of blocks, for some blocks whose concatenated ranges are the normal range list of the set

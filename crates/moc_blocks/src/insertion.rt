@@ -5,11 +5,11 @@ ghost use Rattle.std.specs.Prelude.{◌<◌, ◌≤◌, length};
 ghost use Rattle.moc_blocks.specs.RangeList.{pixel_count, IsNormal};
 ghost use Rattle.moc_blocks.specs.Private.Added.{Inserts};
 
-pub(crate) mod cutting;
 pub(crate) mod gap;
 pub(crate) mod place;
 pub(crate) mod reach;
 pub(crate) mod rebuild;
+pub(crate) mod splitting;
 
 use crate::block::{MAX_BLOCK_RANGES, width_of_ranges};
 use crate::insertion::reach::with_range;

@@ -7,7 +7,7 @@ use crate::block::{Block, MAX_BLOCK_RANGES};
 use crate::node::{MAX_NODE_BLOCKS, Node};
 
 /// Returns the number of ranges of the first block, or 0 if the list is empty.
-pub fn length_of_first(blocks: &[Block]) -> usize
+pub fn ranges_in_first(blocks: &[Block]) -> usize
     ensures value { result ≡ first_length blocks.now }
     ensures fits { result ≤ MAX_BLOCK_RANGES }
 {
@@ -18,7 +18,7 @@ pub fn length_of_first(blocks: &[Block]) -> usize
 }
 
 /// Returns the number of ranges of the last of these blocks, or 0 if the list is empty.
-fn length_of_block(blocks: &[Block]) -> usize
+fn ranges_in_block(blocks: &[Block]) -> usize
     ensures { result ≡ last_length blocks.now }
 {
     match blocks {
@@ -28,27 +28,27 @@ fn length_of_block(blocks: &[Block]) -> usize
 }
 
 /// Returns the number of ranges of the last block of these nodes, or 0 if the list is empty.
-fn length_in_nodes(nodes: &[Node]) -> usize
+fn ranges_in_last_block(nodes: &[Node]) -> usize
     ensures { result ≡ last_length (concat nodes.now) }
 {
     match nodes {
-        [.., node] => length_of_block(node.blocks()),
+        [.., node] => ranges_in_block(node.blocks()),
         [] => 0,
     }
 }
 
 /// Returns the number of ranges of the last block of these nodes and blocks, or 0 if the list is empty.
-pub fn length_of_last(nodes: &[Node], blocks: &[Block]) -> usize
+pub fn ranges_in_last(nodes: &[Node], blocks: &[Block]) -> usize
     ensures { result ≡ last_length (concat nodes.now ++ blocks.now) }
 {
     match blocks {
-        [] => length_in_nodes(nodes),
-        [..] => length_of_block(blocks),
+        [] => ranges_in_last_block(nodes),
+        [..] => ranges_in_block(blocks),
     }
 }
 
 /// Returns the number of blocks of the last node, or 0 if the list is empty.
-pub fn width_of_last(nodes: &[Node]) -> usize
+pub fn blocks_in_last(nodes: &[Node]) -> usize
     ensures value { result ≡ last_length nodes.now }
     ensures fits { result ≤ MAX_NODE_BLOCKS }
 {

@@ -17,8 +17,8 @@ pub use cursor::{
 };
 pub use insertion::gap::{Gap, find_gap};
 pub use insertion::insert_small;
-pub use insertion::rebuild::{BlockEdit, NodeEdit, edit_block, edit_node};
-pub use lengths::{length_of_first, length_of_last, width_of_last};
+pub use insertion::rebuild::{BlockEdit, Edit, NodeEdit, edit_nodes};
+pub use lengths::{blocks_in_last, ranges_in_first, ranges_in_last};
 pub use node::{
     MAX_NODE_BLOCKS, Node, blocks_in_nodes, count_in_blocks, count_in_nodes, share_blocks,
     share_nodes,

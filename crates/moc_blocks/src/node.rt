@@ -163,6 +163,12 @@ impl Node {
         &self.blocks
     }
 
+    /// Returns whether another node shares the list of blocks.
+    #[inline]
+    pub(crate) fn is_shared(&self) -> bool {
+        Arc::strong_count(&self.blocks) > 1
+    }
+
     /// Replaces a block if this node is the only owner of its list of blocks, and returns whether it was replaced. The
     /// list is not copied.
     pub fn replace_block(&mut self, place: usize, block: Block) -> bool

@@ -1,8 +1,18 @@
 //! The program `moc`: sky coverages (IVOA MOC 2.0) on the command line.
 #![tactic(auto)]
 
-use moc_program::{program, report_argument_error};
-use moc_script::{OverReader, OverWriter};
+mod action;
+mod dispatch;
+mod execution;
+mod explaining;
+mod number_lines;
+mod printing;
+mod status;
+#[cfg(test)]
+mod tests;
+
+pub use dispatch::{program, report_argument_error};
+use moc_devices::{OverReader, OverWriter};
 use std::io;
 use std::process::ExitCode;
 

@@ -5,7 +5,7 @@ use Rattle.std.specs.List.{AllByRecursion, onto_first}
 use Rattle.std.proofs.lemmas.List.Elements.{All-append, All-head, All-tail}
 use Rattle.std.proofs.lemmas.List.Splits.{slice_split-cons_no, slice_split_at, slice_split_none, length-slice_split}
 use Rattle.moc_devices.specs.Lemmas.{Delivers-trans}
-use Rattle.moc_devices.specs.Devices.{Reading, Delivers, IsEnded}
+use Rattle.moc_devices.specs.Devices.{SourceState, Delivers, IsEnded}
 use Rattle.moc_forms.specs.Combining.{CombinesTexts, TextRepresents, are_blanks, combine_next, texts_among, texts_of}
 use Rattle.moc_forms.specs.declared.combining.ParsedCoverage.{ParsedCoverage}
 use Rattle.moc_forms.specs.Combining.{without_blank_end}
@@ -13,18 +13,19 @@ use Rattle.moc_text.specs.Lines.{is_semicolon, pieces_of}
 use Rattle.moc_forms.specs.Finding.{format_for}
 use Rattle.moc_forms.specs.declared.combining.Operation.{Operation}
 use Rattle.moc_forms.specs.declared.finding.FormatChoice.{FormatChoice}
-use Rattle.moc_conversion.specs.Combining.{IsLongPiece, IsNotCombined, FailsReadingTexts, ReportsLongText, IsInputCombination, ReportsFirstError}
-use Rattle.moc_conversion.specs.Private.Pieces.{ReadsPiece, HasNoSemicolon}
-use Rattle.moc_conversion.specs.Conversion.{IsOutOfMemory, ReportsError}
-use Rattle.moc_conversion.specs.Private.Running.{AreRejected, BeginsCombination, EndsCombination, FailsCombination, FailsWithin, IsLong, IsOpen, Processes, CombinesNext, RunsTo, TextsCombine, semicolon, texts_after}
+use Rattle.moc_conversion.specs.Combining.{IsLongPiece, IsNotCombined, count_limit, FailsReadingTexts, IsInputCombination, ReportsFirstError}
+use Rattle.moc_conversion.specs.Private.Pieces.{ReadsPiece, HasNoSemicolon, semicolon}
+use Rattle.moc_conversion.specs.Conversion.{ReportsError, input_limit}
+use Rattle.moc_conversion.specs.Private.Running.{AreRejected, BeginsCombination, EndsCombination, FailsCombination, FailsWithin, IsLong, IsOpen, Processes, CombinesNext, RunsTo, TextsCombine, texts_after}
 use Rattle.moc_conversion.specs.declared.combination.Combination.{Combination}
-use Rattle.moc_conversion.specs.declared.diagnostic.InputDiagnostic.{InputDiagnostic}
+use Rattle.moc_conversion.specs.declared.error.InputError.{InputError}
+use Rattle.moc_conversion.specs.declared.error.InputError.TheVariants.{Memory, TooLong}
 
 -- ---- the texts of bytes
 
 -- no text is too long
 abbrev AreWithin : List (List ℕ) → Type 0
-AreWithin texts = AllByRecursion (λ text. length text ≤ 16777216) texts
+AreWithin texts = AllByRecursion (λ text. length text ≤ input_limit) texts
 
 -- a part before others is a text
 first_stays : (text : List ℕ) (parts : List (List ℕ)) → 0 < length parts → without_blank_end (text ∷ parts) ≡ text ∷ without_blank_end parts
@@ -48,11 +49,11 @@ alone (Some parsed) text no_semicolon (inl is_none) = absurd (cc)
 alone (Some parsed) text no_semicolon (inr written) = single parsed text no_semicolon ∙ ap (λ b. if b then [] else text ∷ []) written
 
 module _ (operation : Operation) (choice : FormatChoice) (before : Option ParsedCoverage) (text : List ℕ) (parsed : ParsedCoverage)
-    (no_semicolon : HasNoSemicolon text) (within : length text ≤ 16777216) (represents : TextRepresents choice text parsed) where
+    (no_semicolon : HasNoSemicolon text) (within : length text ≤ input_limit) (represents : TextRepresents choice text parsed) where
   -- a text that a semicolon ends is valid, and the texts after it continue from there
-  ended : (rest : List ℕ) (after : Option ParsedCoverage) → TextsCombine operation choice (Some (combine_next operation before parsed)) rest after
+  text_before_semicolon : (rest : List ℕ) (after : Option ParsedCoverage) → TextsCombine operation choice (Some (combine_next operation before parsed)) rest after
       → TextsCombine operation choice before (text ++ 59 ∷ rest) after
-  ended rest after later = record {
+  text_before_semicolon rest after later = record {
     represents = subst (λ texts. CombinesTexts operation choice before texts after) (sym (split_at_semicolon before text rest no_semicolon)) (parsed, represents, later.represents);
     within = subst AreWithin (sym (split_at_semicolon before text rest no_semicolon)) (within, later.within);
   }
@@ -65,23 +66,23 @@ module _ (operation : Operation) (choice : FormatChoice) (before : Option Parsed
   }
 
 -- one more valid text before the invalid one
-later_fails : (number : ℕ) (choice : FormatChoice) (text : List ℕ) (texts : List (List ℕ)) (c : InputDiagnostic) → ((parsed : ParsedCoverage) × TextRepresents choice text parsed)
+later_fails : (number : ℕ) (choice : FormatChoice) (text : List ℕ) (texts : List (List ℕ)) (c : InputError) → ((parsed : ParsedCoverage) × TextRepresents choice text parsed)
     → ReportsFirstError (number + 1) choice texts c → ReportsFirstError number choice (text ∷ texts) c
 later_fails number choice text texts c represents fails = record {
   before = suc fails.before;
   text = fails.text;
-  stands = (represents, fails.stands);
-  diagnoses = subst (λ n. ReportsError (format_for choice fails.text) fails.text (Some n) c) (omega arith) fails.diagnoses;
+  follows_valid = (represents, fails.follows_valid);
+  reports = subst (λ n. ReportsError (format_for choice fails.text) fails.text (Some n) c) (omega arith) fails.reports;
 }
 
 -- the first text is invalid
-first_fails : (number : ℕ) (choice : FormatChoice) (text : List ℕ) (texts : List (List ℕ)) (c : InputDiagnostic) → ReportsError (format_for choice text) text (Some number) c
+first_fails : (number : ℕ) (choice : FormatChoice) (text : List ℕ) (texts : List (List ℕ)) (c : InputError) → ReportsError (format_for choice text) text (Some number) c
     → ReportsFirstError number choice (text ∷ texts) c
 first_fails number choice text texts c diagnoses = record {
   before = zero;
   text = text;
-  stands = refl;
-  diagnoses = subst (λ n. ReportsError (format_for choice text) text (Some n) c) (omega arith) diagnoses;
+  follows_valid = refl;
+  reports = subst (λ n. ReportsError (format_for choice text) text (Some n) c) (omega arith) diagnoses;
 }
 
 -- ---- bytes that are too long
@@ -105,40 +106,40 @@ first_part (b ∷ front) rest no_semicolon =
 
 -- the piece at this index, counted from 0, is longer than a text may be
 abbrev IsLongAt : ℕ → List ℕ → Type 0
-IsLongAt k bytes = 16777216 < length (slice_index_or (pieces_of bytes) k [])
+IsLongAt k bytes = input_limit < length (slice_index_or (pieces_of bytes) k [])
 
 -- the first piece is too long if these bytes begin it
-pub long_front : (front rest : List ℕ) → HasNoSemicolon front → 16777216 < length front → IsLongAt 0 (front ++ rest)
+pub long_front : (front rest : List ℕ) → HasNoSemicolon front → input_limit < length front → IsLongAt 0 (front ++ rest)
 long_front front rest no_semicolon long =
     let first = first_part front rest no_semicolon in
-    subst (λ (parts : List (List ℕ)). 16777216 < length (slice_index_or parts 0 [])) (sym first.2) (omega (arith, long, first.3))
+    subst (λ (parts : List (List ℕ)). input_limit < length (slice_index_or parts 0 [])) (sym first.2) (omega (arith, long, first.3))
 
 -- a piece after a semicolon is the next one
 long_after : (text rest : List ℕ) (k : ℕ) → HasNoSemicolon text → IsLongAt k rest → IsLongAt (suc k) (text ++ 59 ∷ rest)
 long_after text rest k no_semicolon long =
-    subst (λ (parts : List (List ℕ)). 16777216 < length (slice_index_or parts (suc k) [])) (sym (slice_split_at is_semicolon text 59 rest no_semicolon refl)) long
+    subst (λ (parts : List (List ℕ)). input_limit < length (slice_index_or parts (suc k) [])) (sym (slice_split_at is_semicolon text 59 rest no_semicolon refl)) long
 
 -- ---- a combination
 
 module _ (c d : Combination) (same_operation : d.operation ≡ c.operation) (same_choice : d.choice ≡ c.choice) (next : d.number ≡ c.number + 1) where
   -- a combination that has finished its text
-  text_ended_so : (after : ParsedCoverage) → IsOpen c → CombinesNext c c.before after → d.text.items ≡ [] → d.before ≡ Some after → Processes c semicolon d
-  text_ended_so after opened more bare before = record {
+  finishes_own_text : (after : ParsedCoverage) → IsOpen c → CombinesNext c c.before after → d.text.items ≡ [] → d.before ≡ Some after → Processes c semicolon d
+  finishes_own_text after opened more bare before = record {
     operation = same_operation;
     choice = same_choice;
     ends = λ rest end later.
-        ended c.operation c.choice c.before c.text.items more.0 opened.no_semicolon opened.within more.1 rest end
+        text_before_semicolon c.operation c.choice c.before c.text.items more.0 opened.no_semicolon opened.within more.1 rest end
         (subst (λ o. TextsCombine o c.choice (Some (combine_next c.operation c.before more.0)) rest end) same_operation
         (subst (λ f. TextsCombine d.operation f (Some (combine_next c.operation c.before more.0)) rest end) same_choice
         (subst (λ b. TextsCombine d.operation d.choice b rest end) (before ∙ ap (λ s. Some s) more.2)
         (subst (λ t. TextsCombine d.operation d.choice d.before (t ++ rest) end) bare later))));
-    fails = λ rest diagnostic later.
-        subst (λ texts. ReportsFirstError c.number c.choice texts diagnostic) (sym (split_at_semicolon c.before c.text.items rest opened.no_semicolon))
-        (later_fails c.number c.choice c.text.items (without_blank_end (pieces_of rest)) diagnostic (more.0, more.1)
-        (subst (λ n. ReportsFirstError n c.choice (without_blank_end (pieces_of rest)) diagnostic) next
-        (subst (λ f. ReportsFirstError d.number f (without_blank_end (pieces_of rest)) diagnostic) same_choice
-        (subst (λ b. ReportsFirstError d.number d.choice (texts_after b rest) diagnostic) before
-        (subst (λ t. ReportsFirstError d.number d.choice (texts_after d.before (t ++ rest)) diagnostic) bare later)))));
+    fails = λ rest error later.
+        subst (λ texts. ReportsFirstError c.number c.choice texts error) (sym (split_at_semicolon c.before c.text.items rest opened.no_semicolon))
+        (later_fails c.number c.choice c.text.items (without_blank_end (pieces_of rest)) error (more.0, more.1)
+        (subst (λ n. ReportsFirstError n c.choice (without_blank_end (pieces_of rest)) error) next
+        (subst (λ f. ReportsFirstError d.number f (without_blank_end (pieces_of rest)) error) same_choice
+        (subst (λ b. ReportsFirstError d.number d.choice (texts_after b rest) error) before
+        (subst (λ t. ReportsFirstError d.number d.choice (texts_after d.before (t ++ rest)) error) bare later)))));
     longer = λ rest number long. elim long [
       | inl piece ↦ inl (
         suc piece.0,
@@ -149,26 +150,26 @@ module _ (c d : Combination) (same_operation : d.operation ≡ c.operation) (sam
     ];
   }
 
-  pub text_ended : (before : Option ParsedCoverage) (after : ParsedCoverage) → before ≡ c.before → IsOpen c → CombinesNext c before after → d.text.items ≡ [] → d.before ≡ Some after → Processes c semicolon d
-  text_ended before after same opened more bare next_before =
-      text_ended_so after opened (subst (λ b. CombinesNext c b after) same more) bare next_before
+  pub finishes_text : (before : Option ParsedCoverage) (after : ParsedCoverage) → before ≡ c.before → IsOpen c → CombinesNext c before after → d.text.items ≡ [] → d.before ≡ Some after → Processes c semicolon d
+  finishes_text before after same opened more bare next_before =
+      finishes_own_text after opened (subst (λ b. CombinesNext c b after) same more) bare next_before
 
 -- a text that a semicolon ends is invalid
-pub ended_fails : (c : Combination) (diagnostic : InputDiagnostic) → IsOpen c → IsOutOfMemory diagnostic ⊎ ReportsError (format_for c.choice c.text.items) c.text.items (Some c.number) diagnostic
-    → AreRejected c semicolon diagnostic ⊎ FailsWithin c semicolon diagnostic
-ended_fails c diagnostic opened (inl memory) = inl (inl memory)
-ended_fails c diagnostic opened (inr diagnoses) = inr (λ rest.
-    subst (λ texts. ReportsFirstError c.number c.choice texts diagnostic) (sym (split_at_semicolon c.before c.text.items rest opened.no_semicolon))
-    (first_fails c.number c.choice c.text.items (without_blank_end (pieces_of rest)) diagnostic diagnoses))
+pub finished_text_fails : (c : Combination) (error : InputError) → IsOpen c → (error ≡ Memory) ⊎ ReportsError (format_for c.choice c.text.items) c.text.items (Some c.number) error
+    → AreRejected c semicolon error ⊎ FailsWithin c semicolon error
+finished_text_fails c error opened (inl memory) = inl (inl memory)
+finished_text_fails c error opened (inr diagnoses) = inr (λ rest.
+    subst (λ texts. ReportsFirstError c.number c.choice texts error) (sym (split_at_semicolon c.before c.text.items rest opened.no_semicolon))
+    (first_fails c.number c.choice c.text.items (without_blank_end (pieces_of rest)) error diagnoses))
 
 -- the last text is invalid
-pub last_fails : (c : Combination) (diagnostic : InputDiagnostic) → IsOpen c → (c.before ≡ None) ⊎ (are_blanks c.text.items ≡ false)
-    → IsOutOfMemory diagnostic ⊎ ReportsError (format_for c.choice c.text.items) c.text.items (Some c.number) diagnostic → IsOutOfMemory diagnostic ⊎ FailsCombination c [] diagnostic
-last_fails c diagnostic opened why (inl memory) = inl memory
-last_fails c diagnostic opened why (inr diagnoses) = inr (
-    subst (λ t. ReportsFirstError c.number c.choice (texts_after c.before t) diagnostic) (sym (append-nil c.text.items))
-    (subst (λ texts. ReportsFirstError c.number c.choice texts diagnostic) (sym (alone c.before c.text.items opened.no_semicolon why))
-    (first_fails c.number c.choice c.text.items [] diagnostic diagnoses)))
+pub last_fails : (c : Combination) (error : InputError) → IsOpen c → (c.before ≡ None) ⊎ (are_blanks c.text.items ≡ false)
+    → (error ≡ Memory) ⊎ ReportsError (format_for c.choice c.text.items) c.text.items (Some c.number) error → (error ≡ Memory) ⊎ FailsCombination c [] error
+last_fails c error opened why (inl memory) = inl memory
+last_fails c error opened why (inr diagnoses) = inr (
+    subst (λ t. ReportsFirstError c.number c.choice (texts_after c.before t) error) (sym (append-nil c.text.items))
+    (subst (λ texts. ReportsFirstError c.number c.choice texts error) (sym (alone c.before c.text.items opened.no_semicolon why))
+    (first_fails c.number c.choice c.text.items [] error diagnoses)))
 
 -- the last text is valid
 last_combines : (c : Combination) (after : ParsedCoverage) → IsOpen c → (c.before ≡ None) ⊎ (are_blanks c.text.items ≡ false) → CombinesNext c c.before after → EndsCombination c [] (Some after)
@@ -195,7 +196,7 @@ blanks_add_nothing c after opened before blank =
 
 -- no bytes change nothing
 pub processes_none : (c : Combination) → Processes c [] c
-processes_none c = record { operation = refl; choice = refl; ends = λ rest after end. end; fails = λ rest diagnostic fails. fails; longer = λ rest number long. long }
+processes_none c = record { operation = refl; choice = refl; ends = λ rest after end. end; fails = λ rest error fails. fails; longer = λ rest number long. long }
 
 -- one step after another
 pub processes_both : (a b c : Combination) (xs ys : List ℕ) → Processes a xs b → Processes b ys c → Processes a (xs ++ ys) c
@@ -205,9 +206,9 @@ processes_both a b c xs ys first second = record {
   ends = λ rest after end.
       subst (λ bytes. EndsCombination a bytes after) (sym (append_assoc xs ys rest))
       (first.ends (ys ++ rest) after (second.ends rest after end));
-  fails = λ rest diagnostic fails.
-      subst (λ bytes. FailsCombination a bytes diagnostic) (sym (append_assoc xs ys rest))
-      (first.fails (ys ++ rest) diagnostic (second.fails rest diagnostic fails));
+  fails = λ rest error fails.
+      subst (λ bytes. FailsCombination a bytes error) (sym (append_assoc xs ys rest))
+      (first.fails (ys ++ rest) error (second.fails rest error fails));
   longer = λ rest number long. subst (λ bytes. IsLong a bytes number) (sym (append_assoc xs ys rest)) (first.longer (ys ++ rest) number (second.longer rest number long));
 }
 
@@ -222,11 +223,11 @@ processes_appended c d bytes operation choice number before text = record {
       (subst (λ b. TextsCombine c.operation c.choice b (d.text.items ++ rest) after) before
       (subst (λ f. TextsCombine c.operation f d.before (d.text.items ++ rest) after) choice
       (subst (λ o. TextsCombine o d.choice d.before (d.text.items ++ rest) after) operation end)));
-  fails = λ rest diagnostic fails.
-      subst (λ t. ReportsFirstError c.number c.choice (texts_after c.before t) diagnostic) (following rest)
-      (subst (λ b. ReportsFirstError c.number c.choice (texts_after b (d.text.items ++ rest)) diagnostic) before
-      (subst (λ f. ReportsFirstError c.number f (texts_after d.before (d.text.items ++ rest)) diagnostic) choice
-      (subst (λ n. ReportsFirstError n d.choice (texts_after d.before (d.text.items ++ rest)) diagnostic) number fails)));
+  fails = λ rest error fails.
+      subst (λ t. ReportsFirstError c.number c.choice (texts_after c.before t) error) (following rest)
+      (subst (λ b. ReportsFirstError c.number c.choice (texts_after b (d.text.items ++ rest)) error) before
+      (subst (λ f. ReportsFirstError c.number f (texts_after d.before (d.text.items ++ rest)) error) choice
+      (subst (λ n. ReportsFirstError n d.choice (texts_after d.before (d.text.items ++ rest)) error) number fails)));
   longer = λ rest n long. elim long [
     | inl piece ↦ inl (piece.0, omega (arith, piece.1, number), subst (IsLongAt piece.0) (following rest) piece.2)
     | inr many ↦ inr (omega (arith, many, number, length-append bytes rest))
@@ -237,10 +238,9 @@ processes_appended c d bytes operation choice number before text = record {
     following rest = ap (λ t. t ++ rest) text ∙ append_assoc c.text.items bytes rest
 
 -- bytes that make the text too long are rejected
-pub too_long : (c : Combination) (bytes : List ℕ) (diagnostic : InputDiagnostic) → IsOpen c → HasNoSemicolon bytes → 16777216 < length c.text.items + length bytes
-    → IsOutOfMemory diagnostic ⊎ ReportsLongText c.number diagnostic → AreRejected c bytes diagnostic
-too_long c bytes diagnostic opened no_semicolon long (inl memory) = inl memory
-too_long c bytes diagnostic opened no_semicolon long (inr reports) =
+pub too_long : (c : Combination) (bytes : List ℕ) (error : InputError) → IsOpen c → HasNoSemicolon bytes → input_limit < length c.text.items + length bytes
+    → error ≡ TooLong (Some c.number) → AreRejected c bytes error
+too_long c bytes error opened no_semicolon long reports =
     let all : HasNoSemicolon (c.text.items ++ bytes) = All-append (λ b. is_semicolon b ≡ false) c.text.items bytes opened.no_semicolon no_semicolon in
     inr (
       c.number,
@@ -254,14 +254,13 @@ too_long c bytes diagnostic opened no_semicolon long (inr reports) =
     )
 
 -- a text whose number does not fit is not finished
-pub too_many : (c : Combination) (diagnostic : InputDiagnostic) → 18446744073709551615 ≤ c.number → IsOutOfMemory diagnostic ⊎ ReportsLongText c.number diagnostic → AreRejected c semicolon diagnostic
-too_many c diagnostic many (inl memory) = inl memory
-too_many c diagnostic many (inr reports) = inr (c.number, reports, λ rest. inr (omega (arith, many)))
+pub too_many : (c : Combination) (error : InputError) → count_limit ≤ c.number → error ≡ TooLong (Some c.number) → AreRejected c semicolon error
+too_many c error many reports = inr (c.number, reports, λ rest. inr (omega (arith, many)))
 
 -- bytes after processed ones are rejected
-pub rejected_later : (a b : Combination) (xs ys following : List ℕ) (diagnostic : InputDiagnostic) → Processes a xs b → AreRejected b ys diagnostic → AreRejected a (xs ++ (ys ++ following)) diagnostic
-rejected_later a b xs ys following diagnostic processes (inl memory) = inl memory
-rejected_later a b xs ys following diagnostic processes (inr (number, reports, long)) = inr (
+pub rejected_later : (a b : Combination) (xs ys following : List ℕ) (error : InputError) → Processes a xs b → AreRejected b ys error → AreRejected a (xs ++ (ys ++ following)) error
+rejected_later a b xs ys following error processes (inl memory) = inl memory
+rejected_later a b xs ys following error processes (inr (number, reports, long)) = inr (
   number,
   reports,
   λ rest.
@@ -270,19 +269,19 @@ rejected_later a b xs ys following diagnostic processes (inr (number, reports, l
 )
 
 -- an error after processed bytes
-pub fails_later : (a b : Combination) (xs ys following : List ℕ) (diagnostic : InputDiagnostic) → Processes a xs b → AreRejected b ys diagnostic ⊎ FailsWithin b ys diagnostic
-    → AreRejected a (xs ++ (ys ++ following)) diagnostic ⊎ FailsWithin a (xs ++ (ys ++ following)) diagnostic
-fails_later a b xs ys following diagnostic processes (inl not) = inl (rejected_later a b xs ys following diagnostic processes not)
-fails_later a b xs ys following diagnostic processes (inr fails) = inr (λ rest.
-    subst (λ bytes. FailsCombination a bytes diagnostic) (ap (λ more. xs ++ more) (sym (append_assoc ys following rest)) ∙ sym (append_assoc xs (ys ++ following) rest))
-    (processes.fails (ys ++ (following ++ rest)) diagnostic (fails (following ++ rest))))
+pub fails_later : (a b : Combination) (xs ys following : List ℕ) (error : InputError) → Processes a xs b → AreRejected b ys error ⊎ FailsWithin b ys error
+    → AreRejected a (xs ++ (ys ++ following)) error ⊎ FailsWithin a (xs ++ (ys ++ following)) error
+fails_later a b xs ys following error processes (inl not) = inl (rejected_later a b xs ys following error processes not)
+fails_later a b xs ys following error processes (inr fails) = inr (λ rest.
+    subst (λ bytes. FailsCombination a bytes error) (ap (λ more. xs ++ more) (sym (append_assoc ys following rest)) ∙ sym (append_assoc xs (ys ++ following) rest))
+    (processes.fails (ys ++ (following ++ rest)) error (fails (following ++ rest))))
 
 -- a new combination, in its result and in its errors
 module _ (operation : Operation) (choice : FormatChoice) (c : Combination) (begins : BeginsCombination operation choice c) where
-  pub begun : IsOpen c
-  begun = record {
+  pub begins_open : IsOpen c
+  begins_open = record {
     no_semicolon = subst HasNoSemicolon (sym begins.text) (λ k d below. absurd (omega arith));
-    within = subst (λ t. length t ≤ 16777216) (sym begins.text) (omega arith);
+    within = subst (λ t. length t ≤ input_limit) (sym begins.text) (omega arith);
   }
 
   begins_texts : (bytes : List ℕ) → texts_after c.before (c.text.items ++ bytes) ≡ texts_of bytes
@@ -292,82 +291,79 @@ module _ (operation : Operation) (choice : FormatChoice) (c : Combination) (begi
   pub whole : (d : Combination) (bytes : List ℕ) (after : ParsedCoverage) → Processes c bytes d → EndsCombination d [] (Some after) → TextsCombine operation choice None bytes (Some after)
   whole d bytes after processes all =
       let reported = processes.ends [] (Some after) all in
-      subst (λ o. TextsCombine o choice None bytes (Some after)) begins.operation
-      (subst (λ f. TextsCombine c.operation f None bytes (Some after)) begins.choice
+      subst (λ o. TextsCombine o choice None bytes (Some after)) begins.operates
+      (subst (λ f. TextsCombine c.operation f None bytes (Some after)) begins.chooses
       (subst (λ b. TextsCombine c.operation c.choice b bytes (Some after)) begins.before
       (subst (λ t. TextsCombine c.operation c.choice c.before t (Some after)) (ap (λ t. t ++ (bytes ++ [])) begins.text ∙ append-nil bytes) reported)))
 
   -- and for texts that are too long
-  pub longer_from_1 : (bytes : List ℕ) (number : ℕ) → IsLong c bytes number → IsLongPiece number bytes ⊎ (18446744073709551615 ≤ length bytes)
+  pub longer_from_1 : (bytes : List ℕ) (number : ℕ) → IsLong c bytes number → IsLongPiece number bytes ⊎ (count_limit ≤ length bytes)
   longer_from_1 bytes number (inl (k, is, long)) =
       let at : k ≡ number - 1 = omega (arith, is, begins.number) in
       inl (omega (arith, is, begins.number), subst (λ n. IsLongAt n bytes) at (subst (λ t. IsLongAt k (t ++ bytes)) begins.text long))
   longer_from_1 bytes number (inr many) = inr (omega (arith, many, begins.number))
 
-  pub fails_from_1 : (bytes : List ℕ) (diagnostic : InputDiagnostic) → FailsCombination c bytes diagnostic → ReportsFirstError 1 choice (texts_of bytes) diagnostic
-  fails_from_1 bytes diagnostic fails =
-      subst (λ n. ReportsFirstError n choice (texts_of bytes) diagnostic) begins.number
-      (subst (λ f. ReportsFirstError c.number f (texts_of bytes) diagnostic) begins.choice
-      (subst (λ texts. ReportsFirstError c.number c.choice texts diagnostic) (begins_texts bytes) fails))
+  pub fails_from_1 : (bytes : List ℕ) (error : InputError) → FailsCombination c bytes error → ReportsFirstError 1 choice (texts_of bytes) error
+  fails_from_1 bytes error fails =
+      subst (λ n. ReportsFirstError n choice (texts_of bytes) error) begins.number
+      (subst (λ f. ReportsFirstError c.number f (texts_of bytes) error) begins.chooses
+      (subst (λ texts. ReportsFirstError c.number c.choice texts error) (begins_texts bytes) fails))
 
 -- the piece that was read into an empty buffer
-module _ (left left' : Reading) (old new : List ℕ) (some : Bool) (bare : old ≡ []) (brings : ReadsPiece left old left' new some) where
-  pub piece_is : Delivers left left' new
-  piece_is = subst (Delivers left left') (sym (brings.text ∙ ap (λ o. o ++ brings.came) bare)) brings.consumed
+module _ (source source' : SourceState) (old new : List ℕ) (some : Bool) (bare : old ≡ []) (brings : ReadsPiece source old source' new some) where
+  pub piece_is : Delivers source source' new
+  piece_is = subst (Delivers source source') (sym (brings.text ∙ ap (λ o. o ++ brings.piece) bare)) brings.delivers
 
 -- the processed bytes, and a piece after them; there are at least as many bytes as pieces
-pub piece_processed : (a b c : Reading) (start d e : Combination) (piece : List ℕ) (pieces : ℕ) → Delivers b c piece → Processes d piece e → 0 < length piece
+pub piece_processed : (a b c : SourceState) (start d e : Combination) (piece : List ℕ) (pieces : ℕ) → Delivers b c piece → Processes d piece e → 0 < length piece
     → (runs : RunsTo a b start d) × (pieces ≤ length runs.0) → (runs : RunsTo a c start e) × (pieces + 1 ≤ length runs.0)
-piece_processed a b c start d e piece pieces consumed processes some ((taken, (before, processes_none)), counted) = (
-  (taken ++ piece, (Delivers-trans a b c taken piece before consumed, processes_both start d e taken piece processes_none processes)),
-  omega (arith, some, counted, length-append taken piece),
+piece_processed a b c start d e piece pieces consumed processes some ((processed, (before, processes_none)), counted) = (
+  (processed ++ piece, (Delivers-trans a b c processed piece before consumed, processes_both start d e processed piece processes_none processes)),
+  omega (arith, some, counted, length-append processed piece),
 )
 
-module _ (operation : Operation) (choice : FormatChoice) (a b c : Reading) (start d : Combination) (piece : List ℕ)
+module _ (operation : Operation) (choice : FormatChoice) (a b c : SourceState) (start d : Combination) (piece : List ℕ)
     (begins : BeginsCombination operation choice start) (runs : RunsTo a b start d) (consumed : Delivers b c piece) where
-  taken : List ℕ
-  taken = runs.0
-
   -- a piece was rejected
-  pub piece_rejected : (diagnostic : InputDiagnostic) → AreRejected d piece diagnostic → FailsReadingTexts a c diagnostic
-  piece_rejected diagnostic (inl (place, hint, memory)) = inl (place, hint, inr memory)
-  piece_rejected diagnostic (inr (number, reports, long)) =
+  pub piece_rejected : (error : InputError) → AreRejected d piece error → FailsReadingTexts a c error
+  piece_rejected error (inl memory) = inr (inl memory)
+  piece_rejected error (inr (number, reports, long)) =
       let longer = longer_from_1 operation choice start begins (runs.0 ++ piece) number
       (runs.1.1.longer piece number (subst (λ bytes. IsLong d bytes number) (append-nil piece) (long []))) in
-      inr (
+      inr (inr (
         runs.0 ++ piece,
         Delivers-trans a b c runs.0 piece runs.1.0 consumed,
-        elim longer [ inl long_piece ↦ inl (number, long_piece, reports) | inr many ↦ inr (reports.0, many) ],
-      )
+        elim longer [ inl long_piece ↦ inl (number, long_piece, reports) | inr many ↦ inr (Some number, reports, many) ],
+      ))
 
   -- a text was invalid in a piece
-  pub piece_fails : (diagnostic : InputDiagnostic) → AreRejected d piece diagnostic ⊎ FailsWithin d piece diagnostic → IsNotCombined choice a c diagnostic
-  piece_fails diagnostic (inl not) = inl (piece_rejected diagnostic not)
-  piece_fails diagnostic (inr fails) = inr (
+  pub piece_fails : (error : InputError) → AreRejected d piece error ⊎ FailsWithin d piece error → IsNotCombined choice a c error
+  piece_fails error (inl not) = inl (piece_rejected error not)
+  piece_fails error (inr fails) = inr (
     runs.0 ++ piece,
     Delivers-trans a b c runs.0 piece runs.1.0 consumed,
     λ rest at_end.
-        subst (λ bytes. ReportsFirstError 1 choice (texts_of bytes) diagnostic) (sym (append_assoc runs.0 piece rest))
-        (fails_from_1 operation choice start begins (runs.0 ++ (piece ++ rest)) diagnostic (runs.1.1.fails (piece ++ rest) diagnostic (fails rest))),
+        subst (λ bytes. ReportsFirstError 1 choice (texts_of bytes) error) (sym (append_assoc runs.0 piece rest))
+        (fails_from_1 operation choice start begins (runs.0 ++ (piece ++ rest)) error (runs.1.1.fails (piece ++ rest) error (fails rest))),
   )
 
-  -- everything left was processed
+  -- the whole input was processed
   module _ (empty : piece ≡ []) (end : IsEnded c) where
-    all_consumed : Delivers a c runs.0
-    all_consumed = subst (Delivers a c) (ap (λ p. runs.0 ++ p) empty ∙ append-nil runs.0) (Delivers-trans a b c runs.0 piece runs.1.0 consumed)
+    all_delivered : Delivers a c runs.0
+    all_delivered = subst (Delivers a c) (ap (λ p. runs.0 ++ p) empty ∙ append-nil runs.0) (Delivers-trans a b c runs.0 piece runs.1.0 consumed)
 
-    pub all_taken : (after : ParsedCoverage) → EndsCombination d [] (Some after) → IsInputCombination operation choice a c after
-    all_taken after ends =
+    pub all_combined : (after : ParsedCoverage) → EndsCombination d [] (Some after) → IsInputCombination operation choice a c after
+    all_combined after ends =
         let reported = whole operation choice start begins d runs.0 after runs.1.1 ends in
-        (runs.0, all_consumed, (end, reported.within, reported.represents))
+        (runs.0, all_delivered, (end, reported.within, reported.represents))
 
     -- the last text was invalid
-    pub all_fails : (diagnostic : InputDiagnostic) → IsOutOfMemory diagnostic ⊎ FailsCombination d [] diagnostic → IsNotCombined choice a c diagnostic
-    all_fails diagnostic (inl (place, hint, memory)) = inl (inl (place, hint, inr memory))
-    all_fails diagnostic (inr fails) = inr (
+    pub all_fails : (error : InputError) → (error ≡ Memory) ⊎ FailsCombination d [] error → IsNotCombined choice a c error
+    all_fails error (inl memory) = inl (inr (inl memory))
+    all_fails error (inr fails) = inr (
       runs.0,
-      all_consumed,
+      all_delivered,
       λ rest at_end.
-          subst (λ r. ReportsFirstError 1 choice (texts_of (runs.0 ++ r)) diagnostic) (sym (at_end end))
-          (fails_from_1 operation choice start begins (runs.0 ++ []) diagnostic (runs.1.1.fails [] diagnostic fails)),
+          subst (λ r. ReportsFirstError 1 choice (texts_of (runs.0 ++ r)) error) (sym (at_end end))
+          (fails_from_1 operation choice start begins (runs.0 ++ []) error (runs.1.1.fails [] error fails)),
     )

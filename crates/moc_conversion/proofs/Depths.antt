@@ -1,7 +1,7 @@
 -- The coverages of texts, and what is made from them, have no cell that is deeper than the stated MOC order.
 use Rattle.std.proofs.Common.{◌≡◌, ℕ, Bool, true, false, List, [], ◌∷◌, Option, None, Some, sym, ap, ap₂, subst}
 use Rattle.std.specs.Prelude.{⊤, option_map, min, ◌==◌, if◌then◌else◌}
-use Rattle.moc_devices.specs.Devices.{Reading}
+use Rattle.moc_devices.specs.Devices.{SourceState}
 use Rattle.moc_lists.specs.RangeList.{NumberSet}
 use Rattle.moc_text.specs.Ascii.{deeper}
 use Rattle.moc_text.specs.AsciiText.{IsTooCoarse}
@@ -59,18 +59,18 @@ change_fit Complement Json a k fit = complement_depth a k fit
 change_fit Complement Uniq a k fit = fit
 
 -- and so can a change of it
-pub change_written : (change : Change) (choice : FormatChoice) (left left' : Reading) (parsed : ParsedCoverage)
-    → InputRepresents choice left left' parsed → IsTooCoarse (changed_set change parsed.set) (changed_order change parsed.deepest) → ⊥
-change_written change choice left left' parsed (text, came, (end, within, represents)) =
-    fit_written parsed.format _ _ (change_fit change parsed.format parsed.set parsed.deepest (text_fit parsed.format text parsed.set parsed.deepest represents.0))
+pub change_written : (change : Change) (choice : FormatChoice) (source source' : SourceState) (parsed : ParsedCoverage)
+    → InputRepresents choice source source' parsed → IsTooCoarse (changed_set change parsed.set) (changed_order change parsed.moc_order) → ⊥
+change_written change choice source source' parsed (text, delivers, (end, within, represents)) =
+    fit_written parsed.format _ _ (change_fit change parsed.format parsed.set parsed.moc_order (text_fit parsed.format text parsed.set parsed.moc_order represents.0))
 
 -- ---- texts together
 
 -- the combination of texts in a chosen format: NUNIQ lists state no order; for the other formats, the only ones that
 -- Auto selects, the set has its depth
 abbrev AreFit : FormatChoice → ParsedCoverage → Type 0
-AreFit Auto parsed = HasMaxOrder parsed.set parsed.deepest
-AreFit (Named format) parsed = IsFit format parsed.set parsed.deepest
+AreFit Auto parsed = HasMaxOrder parsed.set parsed.moc_order
+AreFit (Named format) parsed = IsFit format parsed.set parsed.moc_order
 
 -- the format of a text that Auto selects by its first byte
 abbrev format_by : Option ℕ → Format
@@ -87,10 +87,10 @@ auto_fit (Some b) a k fit = one (b == 123) fit
 
 parsed_fit : (choice : FormatChoice) (text : List ℕ) (parsed : ParsedCoverage) → TextRepresents choice text parsed → AreFit choice parsed
 parsed_fit Auto text parsed represents =
-    auto_fit (first_nonblank_byte text) parsed.set parsed.deepest
-    (subst (λ (format : Format). IsFit format parsed.set parsed.deepest) represents.1 (text_fit parsed.format text parsed.set parsed.deepest represents.0))
+    auto_fit (first_nonblank_byte text) parsed.set parsed.moc_order
+    (subst (λ (format : Format). IsFit format parsed.set parsed.moc_order) represents.1 (text_fit parsed.format text parsed.set parsed.moc_order represents.0))
 parsed_fit (Named format) text parsed represents =
-    subst (λ (f : Format). IsFit f parsed.set parsed.deepest) represents.1 (text_fit parsed.format text parsed.set parsed.deepest represents.0)
+    subst (λ (f : Format). IsFit f parsed.set parsed.moc_order) represents.1 (text_fit parsed.format text parsed.set parsed.moc_order represents.0)
 
 depth_combined : (operation : Operation) (a b : NumberSet) (x y : Option ℕ) → HasMaxOrder a x → HasMaxOrder b y
     → HasMaxOrder (set_of_two operation a b) (deeper x y)
@@ -101,11 +101,11 @@ depth_combined Symmetric a b x y of_a of_b = symmetric_depth a b x y of_a of_b
 
 combined_fit : (operation : Operation) (choice : FormatChoice) (before parsed : ParsedCoverage) → AreFit choice before → AreFit choice parsed
     → AreFit choice (combine_next operation (Some before) parsed)
-combined_fit operation Auto before parsed old new = depth_combined operation before.set parsed.set before.deepest parsed.deepest old new
+combined_fit operation Auto before parsed old new = depth_combined operation before.set parsed.set before.moc_order parsed.moc_order old new
 combined_fit operation (Named Ascii) before parsed old new =
-    depth_combined operation before.set parsed.set before.deepest parsed.deepest old new
+    depth_combined operation before.set parsed.set before.moc_order parsed.moc_order old new
 combined_fit operation (Named Json) before parsed old new =
-    depth_combined operation before.set parsed.set before.deepest parsed.deepest old new
+    depth_combined operation before.set parsed.set before.moc_order parsed.moc_order old new
 combined_fit operation (Named Uniq) before parsed old new = ap₂ deeper old new
 
 abbrev AreAllFit : FormatChoice → Option ParsedCoverage → Type 0
@@ -124,12 +124,12 @@ texts_fit operation choice before (text ∷ texts) after fit (parsed, represents
     texts_fit operation choice (Some (combine_next operation before parsed)) texts after
     (combined_after operation choice before parsed fit (parsed_fit choice text parsed represents)) later
 
-all_written : (choice : FormatChoice) (parsed : ParsedCoverage) → AreFit choice parsed → IsTooCoarse parsed.set parsed.deepest → ⊥
-all_written Auto parsed fit = not_too_coarse parsed.set parsed.deepest fit
-all_written (Named format) parsed fit = fit_written format parsed.set parsed.deepest fit
+all_written : (choice : FormatChoice) (parsed : ParsedCoverage) → AreFit choice parsed → IsTooCoarse parsed.set parsed.moc_order → ⊥
+all_written Auto parsed fit = not_too_coarse parsed.set parsed.moc_order fit
+all_written (Named format) parsed fit = fit_written format parsed.set parsed.moc_order fit
 
 -- the combination of texts can be written
-pub together_written : (operation : Operation) (choice : FormatChoice) (left left' : Reading) (parsed : ParsedCoverage)
-    → IsInputCombination operation choice left left' parsed → IsTooCoarse parsed.set parsed.deepest → ⊥
-together_written operation choice left left' parsed (given, consumed, (at_end, within, combines)) =
+pub together_written : (operation : Operation) (choice : FormatChoice) (source source' : SourceState) (parsed : ParsedCoverage)
+    → IsInputCombination operation choice source source' parsed → IsTooCoarse parsed.set parsed.moc_order → ⊥
+together_written operation choice source source' parsed (given, consumed, (at_end, within, combines)) =
     all_written choice parsed (texts_fit operation choice None (texts_of given) (Some parsed) tt combines)

@@ -1,4 +1,4 @@
-pub mod Faults
+pub mod Errors
 pub mod Conversion
 pub mod Combining
 pub mod Private

@@ -1,20 +1,19 @@
 //! Combination of coverages whose texts are separated by semicolons, computed while their bytes arrive.
-ghost use Rattle.std.specs.Prelude.{◌≡◌, ◌≢◌, ◌↔◌, ◌⊎◌, [], false, IfErr, IfOk, IsErrAnd, IsTrue, OnOk, Some};
+ghost use Rattle.std.specs.Prelude.{◌≡◌, ◌≢◌, ◌↔◌, ◌⊎◌, [], false, IfErr, IfOk, IsErrOf, IsTrue, OnOk, Some};
 ghost use Rattle.std.specs.String.{string_bytes};
 ghost use Rattle.moc_forms.specs.Finding.{format_for};
-ghost use Rattle.moc_conversion.specs.Combining.{CombinesAll, IsNotCombined, ReportsLongText, IsInputCombination};
-ghost use Rattle.moc_conversion.specs.Conversion.{IsOutOfMemory, ReportsError};
-ghost use Rattle.moc_conversion.specs.Private.Pieces.{HasNoSemicolon};
+ghost use Rattle.moc_conversion.specs.Combining.{CombinesAll, IsInputCombination, IsNotCombined};
+ghost use Rattle.moc_conversion.specs.Conversion.{ReportsError};
+ghost use Rattle.moc_conversion.specs.Private.Pieces.{HasNoSemicolon, semicolon};
 ghost use Rattle.moc_conversion.specs.Private.Running.{AreRejected, BeginsCombination, EndsCombination};
 ghost use Rattle.moc_conversion.specs.Private.Running.{FailsCombination, FailsWithin, IsOpen, Processes};
-ghost use Rattle.moc_conversion.specs.Private.Running.{CombinesNext, semicolon};
+ghost use Rattle.moc_conversion.specs.Private.Running.{CombinesNext};
 
-use crate::diagnostic::InputDiagnostic;
-use crate::fault::InputError;
+use crate::error::InputError;
 use crate::parsing::{parse_or_diagnose, text_of};
 use crate::reading::{INPUT_LIMIT, buffer, read_chunk, split_at_semicolon};
 use moc_devices::Source;
-use moc_forms::{FormatChoice, Operation, ParsedCoverage, is_blank, place_line};
+use moc_forms::{FormatChoice, Operation, ParsedCoverage, is_blank};
 use std::alloc::Global;
 
 /// The state of a combination: the unfinished text, and the combination of the texts before it.
@@ -44,31 +43,26 @@ impl Combination {
         }
     }
 
-    /// Returns the diagnostic that the unfinished text is too long.
-    fn too_long(&self, alloc: Global) -> InputDiagnostic
-        ensures { IsOutOfMemory result ⊎ ReportsLongText self.now.number result }
+    /// Returns the error that the unfinished text is too long.
+    fn too_long(&self) -> InputError
+        ensures { result ≡ InputError.TooLong (Some self.now.number) }
     {
-        match place_line(alloc, Some(self.number), None, None) {
-            Ok(line) => InputDiagnostic {
-                fault: InputError::TooLong,
-                place_line: line,
-                hint: None,
-            },
-            Err(error) => InputDiagnostic::from(error),
+        InputError::TooLong {
+            number: Some(self.number),
         }
     }
 
     /// Appends bytes without a semicolon to the unfinished text. Fails with `TooLong` if it becomes too long.
-    fn extend(&mut self, alloc: Global, bytes: &[u8]) -> Result<(), InputDiagnostic>
+    fn extend(&mut self, bytes: &[u8]) -> Result<(), InputError>
         requires open { IsOpen self.old }
         requires no_semicolon { HasNoSemicolon bytes.now }
-        ensures device { IfErr result (λ c. c.fault ≢ InputError.Read) }
-        ensures error { IfErr result (λ c. AreRejected self.old bytes.now c) }
+        ensures device { IfErr result (λ e. e ≢ InputError.Read) }
+        ensures error { IfErr result (AreRejected self.old bytes.now) }
         ensures open { OnOk result (IsOpen self.new) }
         ensures processes { OnOk result (Processes self.old bytes.now self.new) }
     {
         if bytes.len() > INPUT_LIMIT - self.text.len() {
-            return Err(self.too_long(alloc));
+            return Err(self.too_long());
         }
         Ok(self.text.extend_from_slice(bytes)?)
     }
@@ -78,29 +72,30 @@ impl Combination {
         &self,
         alloc: Global,
         before: Option<ParsedCoverage>,
-    ) -> Result<ParsedCoverage, InputDiagnostic>
-        ensures device { IfErr result (λ c. c.fault ≢ InputError.Read) }
+    ) -> Result<ParsedCoverage, InputError>
+        ensures device { IfErr result (λ e. e ≢ InputError.Read) }
         ensures represents { IfOk result (λ after. CombinesNext self.now before after) }
-        ensures reported { IfErr result (λ c.
-            IsOutOfMemory c ⊎ ReportsError (format_for self.now.choice self.now.text.items) self.now.text.items
-            (Some self.now.number) c) }
+        ensures reported { IfErr result (λ e.
+            (e ≡ InputError.Memory)
+            ⊎ ReportsError (format_for self.now.choice self.now.text.items) self.now.text.items
+            (Some self.now.number) e) }
     {
         let parsed = parse_or_diagnose(alloc, self.choice, &self.text, Some(self.number))?;
         Ok(self.operation.combine(alloc, before, parsed)?)
     }
 
     /// Finishes the text and starts the next.
-    fn finish_text(&mut self, alloc: Global) -> Result<(), InputDiagnostic>
+    fn finish_text(&mut self, alloc: Global) -> Result<(), InputError>
         requires { IsOpen self.old }
-        ensures device { IfErr result (λ c. c.fault ≢ InputError.Read) }
-        ensures error { IfErr result (λ c. AreRejected self.old semicolon c ⊎ FailsWithin self.old semicolon c) }
+        ensures device { IfErr result (λ e. e ≢ InputError.Read) }
+        ensures error { IfErr result (λ e. AreRejected self.old semicolon e ⊎ FailsWithin self.old semicolon e) }
         ensures open { OnOk result (IsOpen self.new) }
         ensures processes { OnOk result (Processes self.old semicolon self.new) }
     {
         let before = self.before.take();
         let parsed = self.combine(alloc, before)?;
         let Some(number) = self.number.checked_add(1) else {
-            return Err(self.too_long(alloc));
+            return Err(self.too_long());
         };
         self.before = Some(parsed);
         self.number = number;
@@ -109,28 +104,28 @@ impl Combination {
     }
 
     /// Processes the next bytes. Each semicolon finishes a text.
-    fn push_bytes(&mut self, alloc: Global, bytes: &[u8]) -> Result<(), InputDiagnostic>
+    fn push_bytes(&mut self, alloc: Global, bytes: &[u8]) -> Result<(), InputError>
         requires { IsOpen self.old }
-        ensures device { IfErr result (λ c. c.fault ≢ InputError.Read) }
-        ensures error { IfErr result (λ c. AreRejected self.old bytes.now c ⊎ FailsWithin self.old bytes.now c) }
+        ensures device { IfErr result (λ e. e ≢ InputError.Read) }
+        ensures error { IfErr result (λ e. AreRejected self.old bytes.now e ⊎ FailsWithin self.old bytes.now e) }
         ensures open { OnOk result (IsOpen self.new) }
         ensures processes { OnOk result (Processes self.old bytes.now self.new) }
     {
         let mut rest = bytes;
         while let Some((part, following)) = split_at_semicolon(rest) {
-            self.extend(alloc, part)?;
+            self.extend(part)?;
             self.finish_text(alloc)?;
             rest = following;
         }
-        self.extend(alloc, rest)
+        self.extend(rest)
     }
 
     /// Returns the combination of all texts after the last byte. If only blanks follow the last semicolon, they do not
     /// count as a text. The combination loses what was read before.
-    fn finish(&mut self, alloc: Global) -> Result<ParsedCoverage, InputDiagnostic>
+    fn finish(&mut self, alloc: Global) -> Result<ParsedCoverage, InputError>
         requires { IsOpen self.old }
-        ensures device { IfErr result (λ c. c.fault ≢ InputError.Read) }
-        ensures error { IfErr result (λ c. IsOutOfMemory c ⊎ FailsCombination self.old [] c) }
+        ensures device { IfErr result (λ e. e ≢ InputError.Read) }
+        ensures error { IfErr result (λ e. (e ≡ InputError.Memory) ⊎ FailsCombination self.old [] e) }
         ensures represents { IfOk result (λ after. EndsCombination self.old [] (Some after)) }
     {
         let Some(before) = self.before.take() else {
@@ -149,10 +144,10 @@ fn read_texts<R: Source>(
     operation: Operation,
     choice: FormatChoice,
     input: &mut R,
-) -> Result<ParsedCoverage, InputDiagnostic>
+) -> Result<ParsedCoverage, InputError>
     requires { R.mark input.old ≡ false }
-    ensures read { IsErrAnd result (λ c. c.fault ≡ InputError.Read) ↔ IsTrue (R.mark input.new) }
-    ensures error { IfErr result (λ c. IsNotCombined choice (R.reading input.old) (R.reading input.new) c) }
+    ensures read { IsErrOf result InputError.Read ↔ IsTrue (R.mark input.new) }
+    ensures error { IfErr result (IsNotCombined choice (R.reading input.old) (R.reading input.new)) }
     ensures represents { IfOk result (λ r.
         IsInputCombination operation choice (R.reading input.old) (R.reading input.new) r) }
 {
@@ -166,7 +161,7 @@ fn read_texts<R: Source>(
         }
         texts.push_bytes(alloc, &piece)?;
     }
-    Err(InputDiagnostic::from(InputError::TooLong))
+    Err(InputError::TooLong { number: None })
 }
 
 /// Combines the texts of the input by an operation. Returns the text of the result in the format of the first text,
@@ -177,7 +172,7 @@ fn read_texts<R: Source>(
 ///
 /// # Errors
 /// Fails with `Read` if reading fails, with `TooLong` if a text has more than 16,777,216 bytes, with the first error of
-/// a text, or with `FormatError::Memory`.
+/// a text, or with `Memory`.
 ///
 /// # Complexity
 /// Time of the readers of the texts, and for each text one operation on the set so far.
@@ -189,13 +184,13 @@ pub fn combine_input<R: Source>(
     operation: Operation,
     choice: FormatChoice,
     input: &mut R,
-) -> Result<String, InputDiagnostic>
+) -> Result<String, InputError>
     requires { R.mark input.old ≡ false }
-    ensures read { IsErrAnd result (λ c. c.fault ≡ InputError.Read) ↔ IsTrue (R.mark input.new) }
-    ensures error { IfErr result (λ c. IsNotCombined choice (R.reading input.old) (R.reading input.new) c) }
+    ensures read { IsErrOf result InputError.Read ↔ IsTrue (R.mark input.new) }
+    ensures error { IfErr result (IsNotCombined choice (R.reading input.old) (R.reading input.new)) }
     ensures combines { IfOk result (λ t.
         CombinesAll operation choice (R.reading input.old) (R.reading input.new) (string_bytes t)) }
 {
     let parsed = read_texts(alloc, operation, choice, input)?;
-    Ok(text_of(alloc, parsed.format, &parsed.set, parsed.deepest)?)
+    Ok(text_of(alloc, parsed.format, &parsed.set, parsed.moc_order)?)
 }

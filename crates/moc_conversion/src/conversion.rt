@@ -1,11 +1,10 @@
 //! Conversion, description, change and check of the coverage of an input.
-ghost use Rattle.std.specs.Prelude.{◌≡◌, ◌↔◌, false, IfErr, IfOk, IsErrAnd, IsTrue, OnOk};
+ghost use Rattle.std.specs.Prelude.{◌≡◌, ◌↔◌, false, IfErr, IfOk, IsErrOf, IsTrue, OnOk};
 ghost use Rattle.std.specs.String.{string_bytes};
 ghost use Rattle.moc_conversion.specs.Conversion.{ChangesAll, ConvertsAll, DescribesAll};
 ghost use Rattle.moc_conversion.specs.Conversion.{IsNotConverted, FailsParsing, IsValidInput};
 
-use crate::diagnostic::InputDiagnostic;
-use crate::fault::InputError;
+use crate::error::InputError;
 use crate::parsing::{parse_input, text_of};
 use crate::reading::read_whole;
 use moc_devices::Source;
@@ -19,7 +18,7 @@ use std::alloc::Global;
 ///
 /// # Errors
 /// Fails with `Read` if reading fails, with `TooLong` above 16,777,216 bytes, with the first error of the text, or with
-/// `FormatError::Memory`.
+/// `Memory`.
 ///
 /// # Complexity
 /// Time of the reader of one format and the writer of the other: O(n log n) for n cells, or O(n) if the cells are
@@ -32,16 +31,18 @@ pub fn convert_input<R: Source>(
     from: Format,
     to: Format,
     input: &mut R,
-) -> Result<String, InputDiagnostic>
+) -> Result<String, InputError>
     requires { R.mark input.old ≡ false }
-    ensures read { IsErrAnd result (λ c. c.fault ≡ InputError.Read) ↔ IsTrue (R.mark input.new) }
-    ensures error { IfErr result (λ c. IsNotConverted from (R.reading input.old) (R.reading input.new) c) }
+    ensures read { IsErrOf result InputError.Read ↔ IsTrue (R.mark input.new) }
+    ensures error { IfErr result (IsNotConverted from (R.reading input.old) (R.reading input.new)) }
     ensures converts { IfOk result (λ t.
         ConvertsAll from to (R.reading input.old) (R.reading input.new) (string_bytes t)) }
 {
     let text = read_whole(alloc, input)?;
-    let (set, deepest) = from.read(alloc, &text)?;
-    Ok(text_of(alloc, to, &set, deepest)?)
+    match from.read(alloc, &text) {
+        Ok((set, moc_order)) => Ok(text_of(alloc, to, &set, moc_order)?),
+        Err(error) => Err(InputError::without_position(error)),
+    }
 }
 
 /// Returns the statistics of the coverage of the input.
@@ -50,7 +51,7 @@ pub fn convert_input<R: Source>(
 ///
 /// # Errors
 /// Fails with `Read` if reading fails, with `TooLong` above 16,777,216 bytes, with the first error of the text, or with
-/// `FormatError::Memory`.
+/// `Memory`.
 ///
 /// # Complexity
 /// Time of the format's reader and `describe`.
@@ -61,15 +62,15 @@ pub fn describe_input<R: Source>(
     alloc: Global,
     choice: FormatChoice,
     input: &mut R,
-) -> Result<String, InputDiagnostic>
+) -> Result<String, InputError>
     requires { R.mark input.old ≡ false }
-    ensures read { IsErrAnd result (λ c. c.fault ≡ InputError.Read) ↔ IsTrue (R.mark input.new) }
-    ensures error { IfErr result (λ c. FailsParsing choice (R.reading input.old) (R.reading input.new) c) }
+    ensures read { IsErrOf result InputError.Read ↔ IsTrue (R.mark input.new) }
+    ensures error { IfErr result (FailsParsing choice (R.reading input.old) (R.reading input.new)) }
     ensures describes { IfOk result (λ t.
         DescribesAll choice (R.reading input.old) (R.reading input.new) (string_bytes t)) }
 {
     let parsed = parse_input(alloc, choice, input)?;
-    Ok(describe(alloc, &parsed.set, parsed.deepest)?)
+    Ok(describe(alloc, &parsed.set, parsed.moc_order)?)
 }
 
 /// Changes the coverage of the input. Returns the text of the result in the format in which the input was read, with
@@ -79,7 +80,7 @@ pub fn describe_input<R: Source>(
 ///
 /// # Errors
 /// Fails with `Read` if reading fails, with `TooLong` above 16,777,216 bytes, with the first error of the text, or with
-/// `FormatError::Memory`.
+/// `Memory`.
 ///
 /// # Complexity
 /// Time of the format's reader and writer, and one pass over the ranges.
@@ -91,20 +92,20 @@ pub fn change_input<R: Source>(
     change: Change,
     choice: FormatChoice,
     input: &mut R,
-) -> Result<String, InputDiagnostic>
+) -> Result<String, InputError>
     requires { R.mark input.old ≡ false }
-    ensures read { IsErrAnd result (λ c. c.fault ≡ InputError.Read) ↔ IsTrue (R.mark input.new) }
-    ensures error { IfErr result (λ c. FailsParsing choice (R.reading input.old) (R.reading input.new) c) }
+    ensures read { IsErrOf result InputError.Read ↔ IsTrue (R.mark input.new) }
+    ensures error { IfErr result (FailsParsing choice (R.reading input.old) (R.reading input.new)) }
     ensures changes { IfOk result (λ t.
         ChangesAll change choice (R.reading input.old) (R.reading input.new) (string_bytes t)) }
 {
     let parsed = parse_input(alloc, choice, input)?;
-    let after = change.of(alloc, &parsed.set)?;
+    let after = change.apply(alloc, &parsed.set)?;
     Ok(text_of(
         alloc,
         parsed.format,
         &after,
-        change.order_to_state(parsed.deepest),
+        change.order_to_state(parsed.moc_order),
     )?)
 }
 
@@ -114,7 +115,7 @@ pub fn change_input<R: Source>(
 ///
 /// # Errors
 /// Fails with `Read` if reading fails, with `TooLong` above 16,777,216 bytes, with the first error of the text and its
-/// position, or with `FormatError::Memory`.
+/// position, or with `Memory`.
 ///
 /// # Complexity
 /// Time of `check`.
@@ -125,10 +126,10 @@ pub fn check_input<R: Source>(
     alloc: Global,
     choice: FormatChoice,
     input: &mut R,
-) -> Result<(), InputDiagnostic>
+) -> Result<(), InputError>
     requires { R.mark input.old ≡ false }
-    ensures read { IsErrAnd result (λ c. c.fault ≡ InputError.Read) ↔ IsTrue (R.mark input.new) }
-    ensures error { IfErr result (λ c. FailsParsing choice (R.reading input.old) (R.reading input.new) c) }
+    ensures read { IsErrOf result InputError.Read ↔ IsTrue (R.mark input.new) }
+    ensures error { IfErr result (FailsParsing choice (R.reading input.old) (R.reading input.new)) }
     ensures represents { OnOk result (IsValidInput choice (R.reading input.old) (R.reading input.new)) }
 {
     parse_input(alloc, choice, input)?;

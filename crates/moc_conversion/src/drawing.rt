@@ -1,14 +1,12 @@
 //! Pictures of the one or two coverages of an input.
-ghost use Rattle.std.specs.Prelude.{◌≡◌, ◌≢◌, ◌↔◌, ◌⊎◌, false, IfErr, IfOk, IsErrAnd, IsTrue, option_map};
+ghost use Rattle.std.specs.Prelude.{◌≡◌, ◌≢◌, ◌↔◌, ◌⊎◌, false, IfErr, IfOk, IsErrOf, IsTrue, option_map};
 ghost use Rattle.std.specs.String.{string_bytes};
 ghost use Rattle.std.specs.List.{before_first};
 ghost use Rattle.moc_text.specs.Lines.{is_semicolon};
 ghost use Rattle.moc_conversion.specs.Conversion.{DrawsAll, IsNotDrawn};
-ghost use Rattle.moc_conversion.specs.Conversion.{IsOutOfMemory, IsPictureOf, ReportsFirstOfTexts};
-ghost use Rattle.moc_conversion.specs.Conversion.{second_text};
+ghost use Rattle.moc_conversion.specs.Conversion.{IsPictureOf, ReportsFirstOfTexts, second_text};
 
-use crate::diagnostic::InputDiagnostic;
-use crate::fault::InputError;
+use crate::error::InputError;
 use crate::parsing::parse_or_diagnose;
 use crate::reading::{read_whole, split_at_semicolon};
 use moc_devices::Source;
@@ -21,7 +19,7 @@ use std::alloc::Global;
 ///
 /// # Errors
 /// Fails with `Read` if reading fails, with `TooLong` above 16,777,216 bytes, with the first error of a text, or with
-/// `FormatError::Memory`.
+/// `Memory`.
 ///
 /// # Complexity
 /// Time of the format's reader, and of `draw` or `draw_two`.
@@ -32,10 +30,10 @@ pub fn draw_input<R: Source>(
     alloc: Global,
     choice: FormatChoice,
     input: &mut R,
-) -> Result<String, InputDiagnostic>
+) -> Result<String, InputError>
     requires { R.mark input.old ≡ false }
-    ensures read { IsErrAnd result (λ c. c.fault ≡ InputError.Read) ↔ IsTrue (R.mark input.new) }
-    ensures error { IfErr result (λ c. IsNotDrawn choice (R.reading input.old) (R.reading input.new) c) }
+    ensures read { IsErrOf result InputError.Read ↔ IsTrue (R.mark input.new) }
+    ensures error { IfErr result (IsNotDrawn choice (R.reading input.old) (R.reading input.new)) }
     ensures draws { IfOk result (λ t. DrawsAll choice (R.reading input.old) (R.reading input.new) (string_bytes t)) }
 {
     let text = read_whole(alloc, input)?;
@@ -43,10 +41,10 @@ pub fn draw_input<R: Source>(
 }
 
 /// Returns the picture of one text, or of two. Fails with the first error of the first invalid text.
-fn draw_texts(alloc: Global, choice: FormatChoice, text: &[u8]) -> Result<String, InputDiagnostic>
-    ensures device { IfErr result (λ c. c.fault ≢ InputError.Read) }
-    ensures error { IfErr result (λ c. IsOutOfMemory c
-        ⊎ ReportsFirstOfTexts choice (before_first is_semicolon text.now) (second_text text.now) c) }
+fn draw_texts(alloc: Global, choice: FormatChoice, text: &[u8]) -> Result<String, InputError>
+    ensures device { IfErr result (λ e. e ≢ InputError.Read) }
+    ensures error { IfErr result (λ e. (e ≡ InputError.Memory)
+        ⊎ ReportsFirstOfTexts choice (before_first is_semicolon text.now) (second_text text.now) e) }
     ensures picture { IfOk result (λ t.
         IsPictureOf choice (before_first is_semicolon text.now) (second_text text.now) (string_bytes t)) }
 {

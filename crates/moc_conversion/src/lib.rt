@@ -3,14 +3,14 @@
 
 mod combination;
 mod conversion;
-mod diagnostic;
 mod drawing;
-mod fault;
+mod error;
 mod parsing;
 mod reading;
+mod reporting;
 
 pub use combination::combine_input;
 pub use conversion::{change_input, check_input, convert_input, describe_input};
-pub use diagnostic::InputDiagnostic;
 pub use drawing::draw_input;
-pub use fault::{InputError, report_error};
+pub use error::InputError;
+pub use reporting::report_error;

@@ -2,25 +2,21 @@
 ghost use Rattle.std.specs.Prelude.{◌≡◌, ◌<◌, ◌≤◌, ◌↔◌, ◌⊎◌, false, IfErr, IfOk, IsErrOf, IsTrue, length};
 ghost use Rattle.moc_devices.specs.Devices.{Delivers, IsEnded};
 ghost use Rattle.moc_conversion.specs.Conversion.{FailsReading, input_limit};
-ghost use Rattle.moc_conversion.specs.Faults.{out_of_memory};
 ghost use Rattle.moc_conversion.specs.Private.Pieces.{ReadsPiece, IsSplit};
 
-use crate::fault::InputError;
+use crate::error::InputError;
 use memchr::memchr;
-use moc_devices::Source;
+use moc_devices::{BUFFER_SIZE, Source};
 use std::alloc::{AllocError, Global};
 
-/// The maximal number of bytes of an input.
+/// The maximal number of bytes of a text.
 pub(crate) const INPUT_LIMIT: usize = 16_777_216;
-
-/// The number of bytes to read at a time.
-const PIECE_SIZE: usize = 65_536;
 
 /// Allocates a buffer for one piece.
 pub(crate) fn buffer(alloc: Global) -> Result<Vec<u8>, AllocError>
     ensures { IfOk result (λ v. 0 < length v.items) }
 {
-    vec![in alloc; 0u8; PIECE_SIZE]
+    vec![in alloc; 0u8; BUFFER_SIZE]
 }
 
 /// Reads one more piece and appends it to the text. Returns whether there was one.
@@ -32,7 +28,7 @@ pub(crate) fn read_chunk<R: Source>(
     requires capacity { 0 < length buffer.old }
     requires input { R.mark input.old ≡ false }
     ensures read { IsErrOf result InputError.Read ↔ IsTrue (R.mark input.new) }
-    ensures error { IfErr result (λ f. (f ≡ InputError.Read) ⊎ (f ≡ out_of_memory)) }
+    ensures error { IfErr result (λ e. (e ≡ InputError.Read) ⊎ (e ≡ InputError.Memory)) }
     ensures reads_more { IfOk result (λ some.
         ReadsPiece (R.reading input.old) text.old.items (R.reading input.new) text.new.items some) }
 {
@@ -48,7 +44,7 @@ pub(crate) fn read_chunk<R: Source>(
 pub(crate) fn read_whole<R: Source>(alloc: Global, input: &mut R) -> Result<Vec<u8>, InputError>
     requires { R.mark input.old ≡ false }
     ensures read { IsErrOf result InputError.Read ↔ IsTrue (R.mark input.new) }
-    ensures error { IfErr result (λ f. FailsReading (R.reading input.old) (R.reading input.new) f) }
+    ensures error { IfErr result (FailsReading (R.reading input.old) (R.reading input.new)) }
     ensures whole { IfOk result (λ v. Delivers (R.reading input.old) (R.reading input.new) v.items
         × IsEnded (R.reading input.new) × (length v.items ≤ input_limit)) }
 {
@@ -59,7 +55,7 @@ pub(crate) fn read_whole<R: Source>(alloc: Global, input: &mut R) -> Result<Vec<
             return Ok(text);
         }
     }
-    Err(InputError::TooLong)
+    Err(InputError::TooLong { number: None })
 }
 
 /// Splits bytes at the first semicolon, if there is one: returns the bytes before it and after it.

@@ -3,15 +3,15 @@ use Rattle.std.proofs.Common.{◌≡◌, Bool, false, ℕ, List, [], ◌++◌, O
 use Rattle.std.proofs.Common.{append-nil, subst}
 use Rattle.std.proofs.Common.{append_assoc}
 use Rattle.std.proofs.KnownBytes.{Appends-nil, Appends-trans, Appends-kept, Consumes-nil, Consumes-trans, Keeps-refl}
-use Rattle.moc_devices.specs.Devices.{Reading, Delivers, Writing, Accepts, AcceptsNone}
+use Rattle.moc_devices.specs.Devices.{SourceState, Delivers, SinkState, Accepts, AcceptsNone}
 use Rattle.moc_devices.specs.Devices.{CallsMore, FlushesNothing, OnlyWrites, Sends}
 
 -- nothing is delivered yet
-pub Delivers-nil : (a : Reading) → Delivers a a []
+pub Delivers-nil : (a : SourceState) → Delivers a a []
 Delivers-nil a = record { delivered = sym (append-nil a.delivered); consumed = Consumes-nil a.left }
 
 -- more is delivered
-pub Delivers-trans : (a b c : Reading) (bytes more : List ℕ) → Delivers a b bytes → Delivers b c more
+pub Delivers-trans : (a b c : SourceState) (bytes more : List ℕ) → Delivers a b bytes → Delivers b c more
     → Delivers a c (bytes ++ more)
 Delivers-trans a b c bytes more first later = record {
   delivered = later.delivered ∙ ap (λ l. l ++ more) first.delivered ∙ append_assoc a.delivered bytes more;
@@ -19,11 +19,11 @@ Delivers-trans a b c bytes more first later = record {
 }
 
 -- nothing is accepted yet
-pub Accepts-nil : (a : Writing) → Accepts a a []
+pub Accepts-nil : (a : SinkState) → Accepts a a []
 Accepts-nil a = record { accepted = sym (append-nil a.accepted); appended = Appends-nil a.written }
 
 -- more is accepted
-pub Accepts-trans : (a b c : Writing) (bytes more : List ℕ) → Accepts a b bytes → Accepts b c more
+pub Accepts-trans : (a b c : SinkState) (bytes more : List ℕ) → Accepts a b bytes → Accepts b c more
     → Accepts a c (bytes ++ more)
 Accepts-trans a b c bytes more first later = record {
   accepted = later.accepted ∙ ap (λ l. l ++ more) first.accepted ∙ append_assoc a.accepted bytes more;
@@ -31,14 +31,14 @@ Accepts-trans a b c bytes more first later = record {
 }
 
 -- nothing more is accepted
-pub Accepts-kept : (a b c : Writing) (bytes : List ℕ) → Accepts a b bytes → AcceptsNone b c → Accepts a c bytes
+pub Accepts-kept : (a b c : SinkState) (bytes : List ℕ) → Accepts a b bytes → AcceptsNone b c → Accepts a c bytes
 Accepts-kept a b c bytes first later = record {
   accepted = later.accepted ∙ first.accepted;
   appended = Appends-kept a.written b.written c.written bytes first.appended later.kept;
 }
 
 -- a sink that was not called
-pub AcceptsNone-refl : (a : Writing) → AcceptsNone a a
+pub AcceptsNone-refl : (a : SinkState) → AcceptsNone a a
 AcceptsNone-refl a = record { accepted = refl; kept = Keeps-refl a.written }
 
 -- no more calls
@@ -81,7 +81,7 @@ OnlyWrites-later first later = record {
 }
 
 -- nothing is left
-pub Sends-all : {E : Type 0} (bytes rest : List ℕ) (a b : Writing) → Sends {E = E} bytes a rest b (Ok tt)
+pub Sends-all : {E : Type 0} (bytes rest : List ℕ) (a b : SinkState) → Sends {E = E} bytes a rest b (Ok tt)
     → rest ≡ [] → Accepts a b bytes
 Sends-all bytes rest a b sends none =
     let all : bytes ≡ sends.sent =

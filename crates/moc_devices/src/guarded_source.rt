@@ -1,6 +1,6 @@
 //! Sources that may be read only in some states.
 ghost use Rattle.std.specs.Prelude.{◌≡◌, ◌≤◌, ◌||◌, Bool, ⊤, IfOk, is_err, length};
-ghost use Rattle.moc_devices.specs.Devices.{Reading, Reads, found_end};
+ghost use Rattle.moc_devices.specs.Devices.{SourceState, Reads, found_end};
 
 use crate::device::DeviceFault;
 use crate::source::Source;
@@ -13,7 +13,7 @@ use crate::source::Source;
 pub trait GuardedSource<W> {
     /// The bytes that its reads have delivered, whether the last read found the end, and, if the source reports them,
     /// the bytes that are still to come.
-    ghost reading: { Self → Reading };
+    ghost reading: { Self → SourceState };
 
     /// Whether one of the source's calls has failed.
     ghost mark: { Self → Bool };

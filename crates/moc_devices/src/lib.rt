@@ -7,8 +7,8 @@ mod log;
 mod sink;
 mod source;
 
-pub use device::DeviceFault;
+pub use device::{BUFFER_SIZE, DeviceFault};
 pub use guarded_source::GuardedSource;
 pub use log::Log;
-pub use sink::{OverWriter, Sink, write_all};
+pub use sink::{OverWriter, Sink, write_all, write_pending};
 pub use source::{OverReader, Source};

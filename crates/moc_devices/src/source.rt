@@ -1,6 +1,6 @@
 //! Readers of bytes.
 ghost use Rattle.std.specs.Prelude.{◌≡◌, ◌≤◌, ◌||◌, Bool, [], false, IfOk, is_err, length};
-ghost use Rattle.moc_devices.specs.Devices.{Reading, Reads, found_end};
+ghost use Rattle.moc_devices.specs.Devices.{SourceState, Reads, found_end};
 
 use crate::device::DeviceFault;
 use crate::log::Log;
@@ -10,7 +10,7 @@ use std::io::Read;
 pub trait Source {
     /// The bytes that its reads have delivered, whether the last read found the end, and, if the source reports them,
     /// the bytes that are still to come.
-    ghost reading: { Self → Reading };
+    ghost reading: { Self → SourceState };
 
     /// Whether one of the source's calls has failed.
     ghost mark: { Self → Bool };

@@ -14,5 +14,5 @@ changed_set Complement a = complement a
 -- the MOC order that is stated after a change: for a degraded set the coarser of the text's MOC order and the order
 -- that it is degraded to, for a complement the text's MOC order; none if the text states none
 abbrev pub changed_order : Change → Option ℕ → Option ℕ
-changed_order (Degrade order) deepest = option_map (λ k. min k order) deepest
-changed_order Complement deepest = deepest
+changed_order (Degrade order) moc_order = option_map (λ k. min k order) moc_order
+changed_order Complement moc_order = moc_order

@@ -30,7 +30,7 @@ set_of_two Symmetric a b = symmetric a b
 -- the parsed text of a text that is read in the chosen format
 abbrev pub TextRepresents : FormatChoice → List ℕ → ParsedCoverage → Type 0
 TextRepresents choice text parsed =
-    FormatRepresents parsed.format text parsed.set parsed.deepest × (parsed.format ≡ format_for choice text)
+    FormatRepresents parsed.format text parsed.set parsed.moc_order × (parsed.format ≡ format_for choice text)
 
 -- the combination with one more text: this text alone if it is the first; else the operation on the sets, the deeper
 -- MOC order and the first format
@@ -38,7 +38,7 @@ abbrev pub combine_next : Operation → Option ParsedCoverage → ParsedCoverage
 combine_next operation None parsed = parsed
 combine_next operation (Some before) parsed = record {
   set = set_of_two operation before.set parsed.set;
-  deepest = deeper before.deepest parsed.deepest;
+  moc_order = deeper before.moc_order parsed.moc_order;
   format = before.format;
 }
 

@@ -1,5 +1,5 @@
 -- The text formats of a coverage.
-use Rattle.std.specs.Prelude.{◌≡◌, ◌≢◌, ℕ, List, [], ◌∷◌, ◌++◌, codes, ◌⊎◌, Option, None, Some}
+use Rattle.std.specs.Prelude.{◌≡◌, ℕ, Bool, true, false, List, [], ◌∷◌, ◌++◌, codes, ◌⊎◌, Option, None, Some}
 use Rattle.moc_lists.specs.RangeList.{NumberSet}
 use Rattle.moc_text.specs.Ascii.{Represents, IsFirstError}
 use Rattle.moc_text.specs.AsciiText.{ascii_text, IsTooCoarse}
@@ -8,8 +8,13 @@ use Rattle.moc_text.specs.JsonText.{json_text}
 use Rattle.moc_text.specs.Names.{name_of_json, name_of_text, name_of_uniq}
 use Rattle.moc_text.specs.UniqList.{RepresentsUniq, uniq_error, uniq_text}
 use Rattle.moc_text.specs.declared.ascii.error.TextError.{TextError}
+use Rattle.moc_text.specs.declared.ascii.error.TextError.TheVariants as text
 use Rattle.moc_text.specs.declared.json_format.error.JsonError.{JsonError}
+use Rattle.moc_text.specs.declared.json_format.error.JsonError.TheVariants as json
 use Rattle.moc_text.specs.declared.uniq.UniqError.{UniqError}
+use Rattle.moc_text.specs.declared.uniq.UniqError.TheVariants as uniq
+use Rattle.moc_text.specs.declared.write_error.WriteError.{WriteError}
+use Rattle.moc_text.specs.declared.write_error.WriteError.TheVariants as write
 use Rattle.moc_forms.specs.declared.format.Format.{Format}
 use Rattle.moc_forms.specs.declared.format.Format.TheVariants.{Ascii, Json, Uniq}
 use Rattle.moc_forms.specs.declared.format.FormatError.{FormatError}
@@ -23,32 +28,38 @@ format_name Uniq = codes "uniq"
 
 -- the set and the MOC order of a text in a format; a NUNIQ list states no MOC order
 abbrev pub FormatRepresents : Format → List ℕ → NumberSet → Option ℕ → Type 0
-FormatRepresents Ascii text a deepest = Represents text a deepest
-FormatRepresents Json text a deepest = RepresentsJson text a deepest
-FormatRepresents Uniq text a deepest = RepresentsUniq text a × (deepest ≡ None)
+FormatRepresents Ascii text a moc_order = Represents text a moc_order
+FormatRepresents Json text a moc_order = RepresentsJson text a moc_order
+FormatRepresents Uniq text a moc_order = RepresentsUniq text a × (moc_order ≡ None)
 
 -- the first error of a text in a format
 abbrev pub IsFirstFormatError : Format → List ℕ → FormatError → Type 0
-IsFirstFormatError Ascii text e = (fault : TextError) × (e ≡ error.Ascii fault) × IsFirstError text fault
-IsFirstFormatError Json text e = (fault : JsonError) × (e ≡ error.Json fault) × IsJsonError text fault
-IsFirstFormatError Uniq text e = (fault : UniqError) × (e ≡ error.Uniq fault) × (uniq_error text ≡ Some fault)
-
--- the error of one format as an error of any format: the error itself, except that an allocation failure is `Memory` in
--- each format
-abbrev pub IsFormatErrorOf : {E : Type 0} → (E → FormatError) → E → E → FormatError → Type 0
-IsFormatErrorOf in_form memory e f = ((e ≡ memory) × (f ≡ error.Memory)) ⊎ ((e ≢ memory) × (f ≡ in_form e))
+IsFirstFormatError Ascii text e = (first : TextError) × (e ≡ error.Ascii first) × IsFirstError text first
+IsFirstFormatError Json text e = (first : JsonError) × (e ≡ error.Json first) × IsJsonError text first
+IsFirstFormatError Uniq text e = (first : UniqError) × (e ≡ error.Uniq first) × (uniq_error text ≡ Some first)
 
 -- the name of the error, as it is printed
 abbrev pub name_of_format_error : FormatError → List ℕ
 name_of_format_error (error.Ascii e) = name_of_text e
 name_of_format_error (error.Json e) = name_of_json e
 name_of_format_error (error.Uniq e) = name_of_uniq e
-name_of_format_error error.TooCoarse = codes "TooCoarse"
-name_of_format_error error.Memory = codes "Memory"
+
+-- whether the error is an allocation failure
+abbrev pub is_memory : FormatError → Bool
+is_memory (error.Ascii text.Memory) = true
+is_memory (error.Json json.Memory) = true
+is_memory (error.Uniq uniq.Memory) = true
+is_memory e = false
+
+-- an allocation failure of the parser of a format
+abbrev pub out_of_memory_in : Format → FormatError
+out_of_memory_in Ascii = error.Ascii text.Memory
+out_of_memory_in Json = error.Json json.Memory
+out_of_memory_in Uniq = error.Uniq uniq.Memory
 
 -- the error is an allocation failure, or the first error of the text
 abbrev pub FormatFails : Format → List ℕ → FormatError → Type 0
-FormatFails format text e = (e ≡ error.Memory) ⊎ IsFirstFormatError format text e
+FormatFails format text e = (e ≡ out_of_memory_in format) ⊎ IsFirstFormatError format text e
 
 -- the text of a set in a format, with its last line feed
 abbrev pub format_text : Format → NumberSet → Option ℕ → List ℕ
@@ -57,7 +68,7 @@ format_text Json a stated = json_text a stated ++ 10 ∷ []
 format_text Uniq a stated = uniq_text a
 
 -- the error is an allocation failure, or a cell of the set is deeper than the stated order
-abbrev pub IsWriteError : Format → NumberSet → Option ℕ → FormatError → Type 0
-IsWriteError Ascii a stated e = (e ≡ error.Memory) ⊎ ((e ≡ error.TooCoarse) × IsTooCoarse a stated)
-IsWriteError Json a stated e = (e ≡ error.Memory) ⊎ ((e ≡ error.TooCoarse) × IsTooCoarse a stated)
-IsWriteError Uniq a stated e = e ≡ error.Memory
+abbrev pub IsWriteError : Format → NumberSet → Option ℕ → WriteError → Type 0
+IsWriteError Ascii a stated e = (e ≡ write.Memory) ⊎ ((e ≡ write.TooCoarse) × IsTooCoarse a stated)
+IsWriteError Json a stated e = (e ≡ write.Memory) ⊎ ((e ≡ write.TooCoarse) × IsTooCoarse a stated)
+IsWriteError Uniq a stated e = e ≡ write.Memory

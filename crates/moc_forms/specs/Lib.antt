@@ -1,6 +1,7 @@
 pub mod Changing
 pub mod Combining
 pub mod Describing
+pub mod Diagnostics
 pub mod Drawing
 pub mod Finding
 pub mod Formats

@@ -39,8 +39,6 @@ abbrev pub IsPlace : List ℕ → FormatError → Option Place → Type 0
 IsPlace bytes (error.Ascii e) found = found ≡ option_map (byte_place bytes) (error_byte e)
 IsPlace bytes (error.Json e) found = IsJsonPlace bytes e found
 IsPlace bytes (error.Uniq e) found = found ≡ option_map (λ line. Line line) (error_line e)
-IsPlace bytes error.TooCoarse found = found ≡ None
-IsPlace bytes error.Memory found = found ≡ None
 
 -- a position in words
 abbrev pub place_text : Place → List ℕ
@@ -58,10 +56,10 @@ abbrev pub quote_after : Option (List ℕ) → List ℕ
 quote_after quote = option_map_or (λ q. codes ": " ++ q) quote []
 
 -- the line for the position of an error: the number of the text if texts are counted, the position if there is one, and
--- the quote if there is one
-abbrev pub line_of_place : Option ℕ → Option Place → Option (List ℕ) → Option (List ℕ)
-line_of_place None None quote = None
-line_of_place None (Some place) quote = Some (place_text place ++ quote_after quote ++ 10 ∷ [])
-line_of_place (Some number) None quote = Some ((codes "text " ++ decimal number) ++ 10 ∷ [])
-line_of_place (Some number) (Some place) quote =
-    Some ((codes "text " ++ decimal number) ++ codes ", " ++ place_text place ++ quote_after quote ++ 10 ∷ [])
+-- the quote if there is one; nothing without a number and a position
+abbrev pub position_line : Option ℕ → Option Place → Option (List ℕ) → List ℕ
+position_line None None quote = []
+position_line None (Some place) quote = place_text place ++ quote_after quote ++ 10 ∷ []
+position_line (Some number) None quote = (codes "text " ++ decimal number) ++ 10 ∷ []
+position_line (Some number) (Some place) quote =
+    (codes "text " ++ decimal number) ++ codes ", " ++ (place_text place ++ quote_after quote ++ 10 ∷ [])

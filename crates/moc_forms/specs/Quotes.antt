@@ -7,10 +7,8 @@ use Rattle.moc_text.specs.Ascii.{is_separator}
 use Rattle.moc_text.specs.JsonFormat.{HasText}
 use Rattle.moc_text.specs.Lines.{lines_of}
 use Rattle.moc_text.specs.Places.{error_byte, error_line, json_error_at}
-use Rattle.moc_forms.specs.Places.{line_of_place}
 use Rattle.moc_forms.specs.declared.format.FormatError.{FormatError}
 use Rattle.moc_forms.specs.declared.format.FormatError.TheVariants as error
-use Rattle.moc_forms.specs.declared.place.Place.{Place}
 
 -- the word around a position: from after the last separator before it up to the next one
 abbrev pub word_around : List ℕ → ℕ → List ℕ
@@ -26,8 +24,6 @@ IsQuotedText bytes (error.Ascii e) found = found ≡ option_map (word_around byt
 IsQuotedText bytes (error.Json e) found =
     MatchOption (json_error_at e) (found ≡ None) (λ at. HasText bytes at.0 at.1 found)
 IsQuotedText bytes (error.Uniq e) found = found ≡ option_map (line_numbered bytes) (error_line e)
-IsQuotedText bytes error.TooCoarse found = found ≡ None
-IsQuotedText bytes error.Memory found = found ≡ None
 
 -- the hexadecimal digit of a number below 16
 abbrev pub hex_digit : ℕ → ℕ
@@ -49,8 +45,6 @@ bytes_quoted bytes = flat_map byte_quoted bytes
 abbrev pub quote_text : List ℕ → List ℕ
 quote_text bytes = 96 ∷ bytes_quoted (take 40 bytes) ++ 96 ∷ (if nat_lt 40 (length bytes) then codes ".." else [])
 
--- the line that reports an error at its position, and quotes the text there
-abbrev pub IsPositionLine : Option ℕ → List ℕ → FormatError → Option Place → Option (List ℕ) → Type 0
-IsPositionLine number bytes e place line =
-    (found : Option (List ℕ)) × IsQuotedText bytes e found
-    × (line ≡ line_of_place number place (option_map quote_text found))
+-- the quote of the faulty part of a text
+abbrev pub IsQuote : List ℕ → FormatError → Option (List ℕ) → Type 0
+IsQuote bytes e quote = (found : Option (List ℕ)) × IsQuotedText bytes e found × (quote ≡ option_map quote_text found)

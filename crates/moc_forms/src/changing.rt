@@ -23,7 +23,7 @@ impl Change {
     ///
     /// # Complexity
     /// One pass over the ranges of the set.
-    pub fn of(self, alloc: Global, set: &Coverage) -> Result<Coverage, Memory>
+    pub fn apply(self, alloc: Global, set: &Coverage) -> Result<Coverage, Memory>
         ensures set { IfOk result (λ c. c ≡ changed_set self set.now) }
     {
         match self {
@@ -34,12 +34,12 @@ impl Change {
 
     /// Returns the MOC order to state for the changed set, given the MOC order of the original text. For a degraded set
     /// it is the coarser of this order and the order that the set is degraded to; for a complement it is unchanged.
-    pub fn order_to_state(self, deepest: Option<Order>) -> Option<Order>
-        ensures order { result ≡ changed_order self deepest }
+    pub fn order_to_state(self, moc_order: Option<Order>) -> Option<Order>
+        ensures order { result ≡ changed_order self moc_order }
     {
         match self {
-            Change::Degrade(order) => coarser(deepest, order),
-            Change::Complement => deepest,
+            Change::Degrade(order) => coarser(moc_order, order),
+            Change::Complement => moc_order,
         }
     }
 }

@@ -3,9 +3,8 @@ ghost use Rattle.std.specs.Prelude.{◌≡◌, IfOk, Some};
 ghost use Rattle.moc_forms.specs.Combining.{combine_next, set_of_two};
 
 use crate::format::Format;
-use crate::name_error::FormatNameError;
 use moc_ranges::{Coverage, Memory};
-use moc_sphere::Order;
+use moc_sphere::{InvalidName, Order};
 use moc_text::deeper;
 use std::alloc::Global;
 use std::fmt;
@@ -25,23 +24,25 @@ pub enum Operation {
 }
 
 /// Parses the name of an operation on the command line: `union`, `intersection`, `difference` or `symmetric`. Fails
-/// with `NotOperation` for any other word.
+/// for any other word.
 impl FromStr for Operation {
-    type Err = FormatNameError;
+    type Err = InvalidName;
 
+    ghost use Rattle.std.specs.Prelude.{codes};
     ghost use Rattle.moc_sphere.specs.Names.{ParsesName};
     ghost use Rattle.moc_forms.specs.Combining.{operation_name};
-    ghost use Rattle.moc_forms.specs.declared.name_error.FormatNameError.TheVariants.{NotOperation};
 
-    ghost from_str_gives = { ParsesName operation_name NotOperation };
+    ghost from_str_gives = { ParsesName operation_name (codes "`union`, `intersection`, `difference` or `symmetric`") };
 
-    fn from_str(word: &str) -> Result<Operation, FormatNameError> {
+    fn from_str(word: &str) -> Result<Operation, InvalidName> {
         match word {
             "union" => Ok(Operation::Union),
             "intersection" => Ok(Operation::Intersection),
             "difference" => Ok(Operation::Difference),
             "symmetric" => Ok(Operation::Symmetric),
-            _ => Err(FormatNameError::NotOperation),
+            _ => Err(InvalidName {
+                expected: "`union`, `intersection`, `difference` or `symmetric`",
+            }),
         }
     }
 }
@@ -69,7 +70,7 @@ pub struct ParsedCoverage {
     /// The set.
     pub set: Coverage,
     /// The MOC order that the text states; `None` if it states none.
-    pub deepest: Option<Order>,
+    pub moc_order: Option<Order>,
     /// The format of the text.
     pub format: Format,
 }
@@ -82,7 +83,12 @@ impl Operation {
     ///
     /// # Complexity
     /// O(n + m) for n and m ranges, as the method of `Coverage`.
-    pub fn of(self, alloc: Global, first: &Coverage, second: &Coverage) -> Result<Coverage, Memory>
+    pub fn apply(
+        self,
+        alloc: Global,
+        first: &Coverage,
+        second: &Coverage,
+    ) -> Result<Coverage, Memory>
         ensures set { IfOk result (λ c. c ≡ set_of_two self first.now second.now) }
     {
         match self {
@@ -100,7 +106,7 @@ impl Operation {
     /// Fails with `Memory` if an allocation fails.
     ///
     /// # Complexity
-    /// As `of`.
+    /// As `apply`.
     pub fn combine(
         self,
         alloc: Global,
@@ -112,10 +118,10 @@ impl Operation {
         let Some(before) = before else {
             return Ok(parsed);
         };
-        let set = self.of(alloc, &before.set, &parsed.set)?;
+        let set = self.apply(alloc, &before.set, &parsed.set)?;
         Ok(ParsedCoverage {
             set,
-            deepest: deeper(before.deepest, parsed.deepest),
+            moc_order: deeper(before.moc_order, parsed.moc_order),
             format: before.format,
         })
     }

@@ -6,7 +6,7 @@ ghost use Rattle.moc_forms.specs.Finding.{hint_of, hint_text};
 ghost use Rattle.moc_forms.specs.Finding.{is_blank_byte as is_blank_byte_of, looks_like};
 
 use crate::format::Format;
-use crate::name_error::FormatNameError;
+use moc_sphere::InvalidName;
 use std::fmt;
 use std::str::FromStr;
 
@@ -19,20 +19,25 @@ pub enum FormatChoice {
     Auto,
 }
 
-/// Parses a choice on the command line: `auto` or the name of a format. Fails with `NotFormat` for any other word.
+/// Parses a choice on the command line: `auto` or the name of a format. Fails for any other word.
 impl FromStr for FormatChoice {
-    type Err = FormatNameError;
+    type Err = InvalidName;
 
+    ghost use Rattle.std.specs.Prelude.{codes};
     ghost use Rattle.moc_sphere.specs.Names.{ParsesName};
     ghost use Rattle.moc_forms.specs.Finding.{choice_name};
-    ghost use Rattle.moc_forms.specs.declared.name_error.FormatNameError.TheVariants.{NotFormat};
 
-    ghost from_str_gives = { ParsesName choice_name NotFormat };
+    ghost from_str_gives = { ParsesName choice_name (codes "`auto`, `ascii`, `json` or `uniq`") };
 
-    fn from_str(word: &str) -> Result<FormatChoice, FormatNameError> {
-        match word {
-            "auto" => Ok(FormatChoice::Auto),
-            _ => Ok(FormatChoice::Named(Format::from_str(word)?)),
+    fn from_str(word: &str) -> Result<FormatChoice, InvalidName> {
+        if word == "auto" {
+            return Ok(FormatChoice::Auto);
+        }
+        match Format::from_str(word) {
+            Ok(format) => Ok(FormatChoice::Named(format)),
+            Err(_) => Err(InvalidName {
+                expected: "`auto`, `ascii`, `json` or `uniq`",
+            }),
         }
     }
 }

@@ -1,17 +1,16 @@
 //! The text formats of a coverage as one type.
-ghost use Rattle.std.specs.Prelude.{◌≡◌, IfErr, IfOk, Some};
+ghost use Rattle.std.specs.Prelude.{◌≡◌, IfErr, IfOk};
 ghost use Rattle.std.specs.String.{string_bytes};
 ghost use Rattle.moc_forms.specs.Formats.{FormatFails, FormatRepresents};
-ghost use Rattle.moc_forms.specs.Formats.{IsWriteError, format_text, name_of_format_error};
+ghost use Rattle.moc_forms.specs.Formats.{IsWriteError, format_text, is_memory, name_of_format_error};
 
-use crate::name_error::FormatNameError;
-use moc_ranges::{Coverage, Memory as OutOfMemory};
-use moc_sphere::Order;
+use moc_ranges::Coverage;
+use moc_sphere::{InvalidName, Order};
 use moc_text::{
     JsonError, TextError, UniqError, WriteError, read_ascii, read_json, read_uniq, write_ascii,
     write_json, write_uniq,
 };
-use std::alloc::{AllocError, Global};
+use std::alloc::Global;
 use std::fmt;
 use std::str::FromStr;
 use thiserror::Error;
@@ -27,25 +26,18 @@ pub enum Format {
     Uniq,
 }
 
-/// Why a text could not be read or written: the error of the format's reader, the writers' `TooCoarse`, or `Memory`,
-/// which stands for an allocation failure in every format.
+/// Why a text could not be parsed: the error of the parser of its format.
 #[derive(Debug, Clone, Copy, PartialEq, Eq, Error)]
 pub enum FormatError {
-    /// An error of a text in the ASCII format; never `TextError::Memory`.
+    /// An error of a text in the ASCII format.
     #[error("{0}")]
     Ascii(TextError),
-    /// An error of a text in the JSON format; never `JsonError::Memory`.
+    /// An error of a text in the JSON format.
     #[error("{0}")]
     Json(JsonError),
-    /// An error of a NUNIQ list; never `UniqError::Memory`.
+    /// An error of a NUNIQ list.
     #[error("{0}")]
     Uniq(UniqError),
-    /// The set to be written has a cell of a deeper order than the stated one.
-    #[error("a cell is deeper than the stated order")]
-    TooCoarse,
-    /// An allocation failed.
-    #[error("out of memory")]
-    Memory,
 }
 
 impl FormatError {
@@ -57,112 +49,40 @@ impl FormatError {
             FormatError::Ascii(error) => error.name(),
             FormatError::Json(error) => error.name(),
             FormatError::Uniq(error) => error.name(),
-            FormatError::TooCoarse => "TooCoarse",
-            FormatError::Memory => "Memory",
         }
     }
-}
 
-impl From<TextError> for FormatError {
-    ghost use Rattle.moc_text.specs.declared.ascii.error.TextError.TheVariants as text;
-    ghost use Rattle.moc_forms.specs.Formats.{IsFormatErrorOf};
-    ghost use Rattle.moc_forms.specs.declared.format.FormatError.TheVariants as error;
-
-    ghost from_gives = { IsFormatErrorOf (λ e. error.Ascii e) text.Memory };
-
-    fn from(error: TextError) -> FormatError {
-        match error {
-            TextError::Memory => FormatError::Memory,
-            error => FormatError::Ascii(error),
-        }
+    /// Returns whether the error is an allocation failure.
+    pub fn is_memory(self) -> bool
+        ensures { result ≡ is_memory self }
+    {
+        matches!(
+            self,
+            FormatError::Ascii(TextError::Memory)
+                | FormatError::Json(JsonError::Memory)
+                | FormatError::Uniq(UniqError::Memory)
+        )
     }
 }
 
-impl From<JsonError> for FormatError {
-    ghost use Rattle.moc_text.specs.declared.json_format.error.JsonError.TheVariants as json;
-    ghost use Rattle.moc_forms.specs.Formats.{IsFormatErrorOf};
-    ghost use Rattle.moc_forms.specs.declared.format.FormatError.TheVariants as error;
-
-    ghost from_gives = { IsFormatErrorOf (λ e. error.Json e) json.Memory };
-
-    fn from(error: JsonError) -> FormatError {
-        match error {
-            JsonError::Memory => FormatError::Memory,
-            error => FormatError::Json(error),
-        }
-    }
-}
-
-impl From<UniqError> for FormatError {
-    ghost use Rattle.moc_text.specs.declared.uniq.UniqError.TheVariants as uniq;
-    ghost use Rattle.moc_forms.specs.Formats.{IsFormatErrorOf};
-    ghost use Rattle.moc_forms.specs.declared.format.FormatError.TheVariants as error;
-
-    ghost from_gives = { IsFormatErrorOf (λ e. error.Uniq e) uniq.Memory };
-
-    fn from(error: UniqError) -> FormatError {
-        match error {
-            UniqError::Memory => FormatError::Memory,
-            error => FormatError::Uniq(error),
-        }
-    }
-}
-
-impl From<WriteError> for FormatError {
-    ghost use Rattle.std.specs.Prelude.{◌≡◌, ◌⊎◌};
-    ghost use Rattle.moc_text.specs.declared.write_error.WriteError.TheVariants as write;
-    ghost use Rattle.moc_forms.specs.declared.format.FormatError.TheVariants as error;
-
-    ghost from_gives = { λ e f. ((e ≡ write.Memory) × (f ≡ error.Memory))
-        ⊎ ((e ≡ write.TooCoarse) × (f ≡ error.TooCoarse)) };
-
-    fn from(error: WriteError) -> FormatError {
-        match error {
-            WriteError::Memory => FormatError::Memory,
-            WriteError::TooCoarse => FormatError::TooCoarse,
-        }
-    }
-}
-
-impl From<AllocError> for FormatError {
-    ghost use Rattle.std.specs.Prelude.{◌≡◌};
-    ghost use Rattle.moc_forms.specs.declared.format.FormatError.TheVariants as error;
-
-    ghost from_gives = { λ _ f. f ≡ error.Memory };
-
-    fn from(_error: AllocError) -> FormatError {
-        FormatError::Memory
-    }
-}
-
-impl From<OutOfMemory> for FormatError {
-    ghost use Rattle.std.specs.Prelude.{◌≡◌};
-    ghost use Rattle.moc_forms.specs.declared.format.FormatError.TheVariants as error;
-
-    ghost from_gives = { λ _ f. f ≡ error.Memory };
-
-    fn from(_error: OutOfMemory) -> FormatError {
-        FormatError::Memory
-    }
-}
-
-/// Parses the name of a format on the command line: `ascii`, `json` or `uniq`. Fails with `NotFormat` for any other
-/// word.
+/// Parses the name of a format on the command line: `ascii`, `json` or `uniq`. Fails for any other word.
 impl FromStr for Format {
-    type Err = FormatNameError;
+    type Err = InvalidName;
 
+    ghost use Rattle.std.specs.Prelude.{codes};
     ghost use Rattle.moc_sphere.specs.Names.{ParsesName};
     ghost use Rattle.moc_forms.specs.Formats.{format_name};
-    ghost use Rattle.moc_forms.specs.declared.name_error.FormatNameError.TheVariants.{NotFormat};
 
-    ghost from_str_gives = { ParsesName format_name NotFormat };
+    ghost from_str_gives = { ParsesName format_name (codes "`ascii`, `json` or `uniq`") };
 
-    fn from_str(word: &str) -> Result<Format, FormatNameError> {
+    fn from_str(word: &str) -> Result<Format, InvalidName> {
         match word {
             "ascii" => Ok(Format::Ascii),
             "json" => Ok(Format::Json),
             "uniq" => Ok(Format::Uniq),
-            _ => Err(FormatNameError::NotFormat),
+            _ => Err(InvalidName {
+                expected: "`ascii`, `json` or `uniq`",
+            }),
         }
     }
 }
@@ -187,7 +107,7 @@ impl Format {
     /// Parses a text: returns the set and the MOC order that the text states. A NUNIQ list states none.
     ///
     /// # Errors
-    /// Fails with the first error of the text, as the format's error, or with `Memory`.
+    /// Fails with the error of the format's parser: the first error of the text, or `Memory`.
     ///
     /// # Complexity
     /// Time and memory are those of `read_ascii`, `read_json` or `read_uniq`.
@@ -195,11 +115,20 @@ impl Format {
         ensures represents { IfOk result (λ r. FormatRepresents self text.now r.0 r.1) }
         ensures error { IfErr result (λ e. FormatFails self text.now e) }
     {
-        Ok(match self {
-            Format::Ascii => read_ascii(alloc, text)?,
-            Format::Json => read_json(alloc, text)?,
-            Format::Uniq => (read_uniq(alloc, text)?, None),
-        })
+        match self {
+            Format::Ascii => match read_ascii(alloc, text) {
+                Ok(parsed) => Ok(parsed),
+                Err(error) => Err(FormatError::Ascii(error)),
+            },
+            Format::Json => match read_json(alloc, text) {
+                Ok(parsed) => Ok(parsed),
+                Err(error) => Err(FormatError::Json(error)),
+            },
+            Format::Uniq => match read_uniq(alloc, text) {
+                Ok(set) => Ok((set, None)),
+                Err(error) => Err(FormatError::Uniq(error)),
+            },
+        }
     }
 
     /// Returns the text of a set with a stated MOC order, ended by a line feed.
@@ -215,7 +144,7 @@ impl Format {
         alloc: Global,
         set: &Coverage,
         stated: Option<Order>,
-    ) -> Result<String, FormatError>
+    ) -> Result<String, WriteError>
         ensures text { IfOk result (λ t. string_bytes t ≡ format_text self set.now stated) }
         ensures error { IfErr result (λ e. IsWriteError self set.now stated e) }
     {
@@ -223,7 +152,7 @@ impl Format {
             Format::Ascii => write_ascii(alloc, set, stated)?,
             Format::Json => write_json(alloc, set, stated)?,
             // Each line of a NUNIQ list already ends with a line feed.
-            Format::Uniq => return Ok(write_uniq(alloc, set)?),
+            Format::Uniq => return write_uniq(alloc, set).map_err(|_| WriteError::Memory),
         };
         text.push('\n')?;
         Ok(text)

@@ -1,15 +1,14 @@
-//! Coverages in any of their text formats: checks with the position of the first error, combinations of several texts,
+//! Coverages in any of their text formats: parsing, diagnostics of the first error, combinations of several texts,
 //! changes, statistics and pictures.
 #![tactic(auto)]
 
 mod changing;
-mod checking;
 mod combining;
+mod diagnostic;
 mod drawing;
 mod finding;
 mod format;
 mod marks;
-mod name_error;
 mod pair;
 mod place;
 mod quoting;
@@ -17,13 +16,12 @@ mod statistics;
 mod texts;
 
 pub use changing::Change;
-pub use checking::{Diagnostic, check, examine};
 pub use combining::{Operation, ParsedCoverage};
+pub use diagnostic::Diagnostic;
 pub use drawing::draw;
 pub use finding::{FormatChoice, hint, hint_line, is_blank};
 pub use format::{Format, FormatError};
-pub use name_error::FormatNameError;
 pub use pair::draw_two;
-pub use place::{Place, place_line};
+pub use place::Place;
 pub use quoting::quote;
 pub use statistics::{Statistics, describe};

@@ -1,12 +1,9 @@
 //! Positions of errors in texts.
-ghost use Rattle.std.specs.Prelude.{◌≡◌, ◌++◌, IfOk, OnOk, option_map};
-ghost use Rattle.std.specs.String.{string_bytes};
-ghost use Rattle.moc_forms.specs.Places.{byte_place, line_of_place, place_text, quote_after};
+ghost use Rattle.std.specs.Prelude.{◌≡◌};
+ghost use Rattle.moc_forms.specs.Places.{byte_place, place_text};
 
-use crate::texts::push_count;
 use moc_sphere::Order;
-use std::alloc::{AllocError, Global};
-use std::fmt::{self, Write};
+use std::fmt;
 
 /// The position of an error in a text. Lines, and the column of `JsonSyntax`, count from 1; everything else counts
 /// from 0.
@@ -81,49 +78,4 @@ impl fmt::Display for Place {
             Place::Number { order, number } => write!(f, "order {order}, number {number}"),
         }
     }
-}
-
-/// Returns the line that reports the position of an error: the number of the text if texts are counted, the position if
-/// there is one, and the quote if there is one. Returns `None` if neither a number nor a position is given.
-///
-/// # Errors
-/// Fails with `AllocError` if an allocation fails.
-///
-/// # Complexity
-/// Linear in the length of the line.
-pub fn place_line(
-    alloc: Global,
-    number: Option<u64>,
-    place: Option<Place>,
-    quote: Option<&str>,
-) -> Result<Option<String>, AllocError>
-    ensures { IfOk result (λ line.
-        option_map string_bytes line ≡ line_of_place number place (option_map (λ q. q.now) quote.entry)) }
-{
-    let mut line = String::new(alloc);
-    match (number, place) {
-        (None, None) => return Ok(None),
-        (None, Some(place)) => push_place(&mut line, place, quote)?,
-        (Some(number), None) => push_count(&mut line, "text ", number)?,
-        (Some(number), Some(place)) => {
-            push_count(&mut line, "text ", number)?;
-            line.push_str(", ")?;
-            push_place(&mut line, place, quote)?;
-        }
-    }
-    line.push('\n')?;
-    Ok(Some(line))
-}
-
-/// Appends a position, and the quote after it if there is one.
-fn push_place(text: &mut String, place: Place, quote: Option<&str>) -> Result<(), AllocError>
-    ensures { OnOk result (string_bytes text.new
-        ≡ string_bytes text.old ++ (place_text place ++ quote_after (option_map (λ q. q.now) quote.entry))) }
-{
-    write!(text, "{place}")?;
-    if let Some(quote) = quote {
-        text.push_str(": ")?;
-        text.push_str(quote)?;
-    }
-    Ok(())
 }

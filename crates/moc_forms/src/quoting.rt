@@ -6,7 +6,7 @@ ghost use Rattle.std.specs.String.{string_bytes};
 ghost use Rattle.moc_text.specs.Ascii.{is_separator as is_separator_byte};
 ghost use Rattle.moc_text.specs.Lines.{is_line_feed, lines_of};
 ghost use Rattle.moc_text.specs.Places.{error_byte, error_line};
-ghost use Rattle.moc_forms.specs.Quotes.{IsQuotedText, byte_quoted, bytes_quoted, hex_digit};
+ghost use Rattle.moc_forms.specs.Quotes.{IsQuote, IsQuotedText, byte_quoted, bytes_quoted, hex_digit};
 ghost use Rattle.moc_forms.specs.Quotes.{is_plain as is_plain_byte, line_numbered, quote_text, word_around};
 
 use crate::format::FormatError;
@@ -28,18 +28,15 @@ const MAX_QUOTE_BYTES: usize = 40;
 /// # Complexity
 /// Linear in the length of the text. A JSON text is parsed again.
 pub fn quote(alloc: Global, text: &[u8], error: FormatError) -> Result<Option<String>, Memory>
-    ensures { IfOk result (λ quote. (found : Option (List ℕ)) × IsQuotedText text.now error found
-        × (option_map string_bytes quote ≡ option_map quote_text found)) }
+    ensures { IfOk result (λ quote. IsQuote text.now error (option_map string_bytes quote)) }
 {
     match error {
-        FormatError::Ascii(fault) => Ok(quote_of(alloc, word_at(text, fault))?),
-        FormatError::Uniq(fault) => Ok(quote_of(alloc, line_at(text, fault))?),
-        FormatError::Json(fault) => match json_piece(alloc, text, fault) {
-            Ok(Some(piece)) => Ok(quote_of(alloc, Some(piece.as_bytes()))?),
-            Ok(None) => Ok(None),
-            Err(_) => Err(Memory),
+        FormatError::Ascii(error) => Ok(quote_of(alloc, word_at(text, error))?),
+        FormatError::Uniq(error) => Ok(quote_of(alloc, line_at(text, error))?),
+        FormatError::Json(error) => match json_piece(alloc, text, error)? {
+            Some(piece) => Ok(quote_of(alloc, Some(piece.as_bytes()))?),
+            None => Ok(None),
         },
-        FormatError::TooCoarse | FormatError::Memory => Ok(None),
     }
 }
 
@@ -113,10 +110,10 @@ fn hex(number: u8) -> u8
 }
 
 /// Returns the word at the error of an ASCII text.
-fn word_at(text: &[u8], fault: TextError) -> Option<&[u8]>
-    ensures { option_map (λ w. w.now) result ≡ option_map (word_around text.now) (error_byte fault) }
+fn word_at(text: &[u8], error: TextError) -> Option<&[u8]>
+    ensures { option_map (λ w. w.now) result ≡ option_map (word_around text.now) (error_byte error) }
 {
-    Some(word_around_place(text, fault.place()?))
+    Some(word_around_place(text, error.place()?))
 }
 
 /// Returns the word around a position.
@@ -160,10 +157,10 @@ fn first_word_len(bytes: &[u8]) -> usize
 }
 
 /// Returns the line at the error of a NUNIQ list.
-fn line_at(text: &[u8], fault: UniqError) -> Option<&[u8]>
-    ensures { option_map (λ l. l.now) result ≡ option_map (line_numbered text.now) (error_line fault) }
+fn line_at(text: &[u8], error: UniqError) -> Option<&[u8]>
+    ensures { option_map (λ l. l.now) result ≡ option_map (line_numbered text.now) (error_line error) }
 {
-    let line = fault.line()?;
+    let line = error.line()?;
     Some(line_before_feed(after_line_feeds(text, line.saturating_sub(1))))
 }
 
@@ -199,12 +196,14 @@ fn line_before_feed(bytes: &[u8]) -> &[u8]
 }
 
 /// Returns the name or the item at the error of a JSON text.
-fn json_piece(alloc: Global, text: &[u8], fault: JsonError) -> Result<Option<String>, JsonError>
-    ensures { IfOk result (λ piece. IsQuotedText text.now (FormatError.Json fault) (option_map string_bytes piece)) }
+fn json_piece(alloc: Global, text: &[u8], error: JsonError) -> Result<Option<String>, Memory>
+    ensures { IfOk result (λ piece. IsQuotedText text.now (FormatError.Json error) (option_map string_bytes piece)) }
 {
-    let Some(place) = fault.place() else {
+    let Some(place) = error.place() else {
         return Ok(None);
     };
-    let site = json_content_at(alloc, text, place)?;
-    Ok(site.text)
+    match json_content_at(alloc, text, place) {
+        Ok(content) => Ok(content.text),
+        Err(_) => Err(Memory),
+    }
 }

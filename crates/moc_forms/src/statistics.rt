@@ -1,12 +1,13 @@
 //! Statistics of a coverage.
-ghost use Rattle.std.specs.Prelude.{◌≡◌, IfOk, slice_index};
+ghost use Rattle.std.specs.Prelude.{◌≡◌, ◌<◌, IfOk, slice_index, sum};
 ghost use Rattle.std.specs.Fmt.{WritesOnOk};
 ghost use Rattle.std.specs.String.{string_bytes};
-ghost use Rattle.moc_forms.specs.Describing.{AreStatistics, Describes, counts_of, deepest_line, order_line};
+ghost use Rattle.moc_ranges.specs.CellCounts.{uniq_end};
+ghost use Rattle.moc_forms.specs.Describing.{AreStatistics, Describes, moc_order_line, order_line};
 ghost use Rattle.moc_forms.specs.Describing.{order_lines_below, share_line, share_of};
 
 use moc_ranges::{Coverage, Memory, PIXEL_COUNT};
-use moc_sphere::{Cell, Order};
+use moc_sphere::Order;
 use std::alloc::Global;
 use std::fmt;
 
@@ -18,7 +19,7 @@ const SHARE_DENOMINATOR: u64 = 1_000_000_000_000;
 /// come the number of ranges, the number of cells, and the number of cells of each order that has any.
 #[derive(Clone, Copy, Debug, PartialEq, Eq)]
 pub struct Statistics {
-    deepest: Option<Order>,
+    moc_order: Option<Order>,
     pixels: u64,
     ranges: u64,
     cells: u64,
@@ -26,34 +27,26 @@ pub struct Statistics {
 }
 
 impl Statistics {
-    /// Returns the statistics of a set, given the MOC order that its text states.
-    ///
-    /// # Errors
-    /// Fails with `Memory` if an allocation fails.
-    ///
-    /// # Complexity
-    /// One pass over the ranges for each order that can have cells, and one over the cells.
-    ///
-    /// # Memory
-    /// Proportional to the number of the set's cells.
-    pub fn of(alloc: Global, set: &Coverage, deepest: Option<Order>) -> Result<Statistics, Memory>
-        ensures { IfOk result (AreStatistics set.now deepest) }
+    /// Returns the statistics of a set, given the MOC order that its text states. One pass over the ranges, with at
+    /// most one step for each order of a range: O(n). Does not allocate.
+    pub fn of(set: &Coverage, moc_order: Option<Order>) -> Statistics
+        ensures { AreStatistics set.now moc_order result }
     {
-        let cells = set.cells(alloc)?;
-        Ok(Statistics {
-            deepest,
+        let orders = set.cell_count_by_order();
+        Statistics {
+            moc_order,
             pixels: set.count(),
             ranges: set.range_count() as u64,
-            cells: cells.len() as u64,
-            orders: counts(&cells),
-        })
+            cells: total(&orders),
+            orders,
+        }
     }
 
     /// Returns the MOC order that the text of the set states.
-    pub fn deepest(&self) -> Option<Order>
-        ensures { result ≡ self.now.deepest }
+    pub fn moc_order(&self) -> Option<Order>
+        ensures { result ≡ self.now.moc_order }
     {
-        self.deepest
+        self.moc_order
     }
 
     /// Returns the number of pixels of order 29.
@@ -102,7 +95,7 @@ impl fmt::Display for Statistics {
     ghost output = { λ statistics. Some (statistics_text statistics) };
 
     fn fmt<W: fmt::Write>(&self, f: &mut fmt::Formatter<W>) -> fmt::Result {
-        write_deepest(f, self.deepest)?;
+        write_moc_order(f, self.moc_order)?;
         writeln!(f, "pixels {}", self.pixels)?;
         write_share(f, self.share())?;
         writeln!(f, "ranges {}", self.ranges)?;
@@ -112,10 +105,13 @@ impl fmt::Display for Statistics {
 }
 
 /// Writes the line of the MOC order.
-fn write_deepest<W: fmt::Write>(f: &mut fmt::Formatter<W>, deepest: Option<Order>) -> fmt::Result
-    ensures { WritesOnOk W.write_str_gives f.old result (deepest_line deepest) f.new }
+fn write_moc_order<W: fmt::Write>(
+    f: &mut fmt::Formatter<W>,
+    moc_order: Option<Order>,
+) -> fmt::Result
+    ensures { WritesOnOk W.write_str_gives f.old result (moc_order_line moc_order) f.new }
 {
-    match deepest {
+    match moc_order {
         Some(order) => writeln!(f, "deepest {order}"),
         None => writeln!(f, "deepest none"),
     }
@@ -154,15 +150,12 @@ fn write_order<W: fmt::Write>(f: &mut fmt::Formatter<W>, order: usize, count: u6
     Ok(())
 }
 
-/// Returns the number of cells of each order.
-fn counts(cells: &[Cell]) -> [u64; 30]
-    ensures { result ≡ counts_of cells.now }
+/// Returns the sum of the counts.
+fn total(counts: &[u64]) -> u64
+    requires { sum counts.now < uniq_end }
+    ensures { result ≡ sum counts.now }
 {
-    let mut counts = [0; 30];
-    for cell in cells {
-        counts[usize::from(cell.order().get())] += 1;
-    }
-    counts
+    counts.iter().sum()
 }
 
 /// Returns the text of the statistics of a set, given the MOC order that its text states.
@@ -174,10 +167,10 @@ fn counts(cells: &[Cell]) -> [u64; 30]
 /// As `Statistics::of`.
 ///
 /// # Memory
-/// Proportional to the number of the set's cells.
-pub fn describe(alloc: Global, set: &Coverage, deepest: Option<Order>) -> Result<String, Memory>
-    ensures { IfOk result (λ t. Describes set.now deepest (string_bytes t)) }
+/// Allocates only the text.
+pub fn describe(alloc: Global, set: &Coverage, moc_order: Option<Order>) -> Result<String, Memory>
+    ensures { IfOk result (λ t. Describes set.now moc_order (string_bytes t)) }
 {
-    let statistics = Statistics::of(alloc, set, deepest)?;
+    let statistics = Statistics::of(set, moc_order);
     Ok(format!(in alloc; "{statistics}")?)
 }

@@ -1,6 +1,6 @@
 -- The pieces of a line, from the left.
 use Rattle.std.proofs.Common.{◌≡◌, ℕ, suc, ◌+◌, ◌<◌, ◌≤◌, Bool, true, false, not, cond, ltb, List, [], ◌∷◌, ◌++◌}
-use Rattle.std.proofs.Common.{length, take, drop, Result, Ok, Err, refl, sym, ap, ◌∙◌, arith, append_assoc, ⊎_elim}
+use Rattle.std.proofs.Common.{length, take, drop, Result, Ok, Err, refl, sym, ap, ◌∙◌, arith, append_assoc, ◌⊎◌, inl, inr, ⊎_elim}
 use Rattle.std.proofs.lemmas.Bool.{cases_lt, lt-ltb, le-ltb}
 use Rattle.std.specs.Result.{is_err, is_ok}
 use Rattle.std.specs.List.{count_by, position_or_len, onto_first}
@@ -10,10 +10,8 @@ use Rattle.std.proofs.lemmas.List.Splits.{slice_split_first, slice_split-cons_no
 use Rattle.moc_parts.specs.declared.command.Command.{Command}
 use Rattle.moc_lines.specs.Language.{◌>>=◌, piece_command, commands_of, batch_of, ParsesAs}
 use Rattle.moc_text.specs.Lines.{is_semicolon, pieces_of}
-use Rattle.moc_lines.specs.declared.fault.LineError.TheVariants.{TooManyCommands}
-use Rattle.moc_lines.specs.declared.fault.LineError.{LineError}
-use Rattle.moc_lines.specs.declared.fault.ReadError.{ReadError}
-use Rattle.moc_lines.specs.declared.fault.ReadError.TheVariants as error
+use Rattle.moc_lines.specs.declared.error.LineError.TheVariants.{TooManyCommands, Memory}
+use Rattle.moc_lines.specs.declared.error.LineError.{LineError}
 
 pub pieces-found : (rest : List ℕ) → position_or_len is_semicolon rest < length rest
     → pieces_of rest ≡ take (position_or_len is_semicolon rest) rest ∷ pieces_of (drop 1 (drop (position_or_len is_semicolon rest) rest))
@@ -64,15 +62,15 @@ first_then first later = first >>= (λ command. later >>= (λ commands. Ok (comm
 -- commands, and then the commands of the rest
 abbrev pub following : List Command → Result (List Command) LineError → Result (List Command) LineError
 following commands (Ok later) = Ok (commands ++ later)
-following commands (Err fault) = Err fault
+following commands (Err error) = Err error
 
 pub following-nothing : (commands : List Command) (r : Result (List Command) LineError) → commands ≡ [] → r ≡ following commands r
 following-nothing commands (Ok later) none = rw none refl
-following-nothing commands (Err fault) none = refl
+following-nothing commands (Err error) none = refl
 
 push : (commands : List Command) (command : Command) (later : Result (List Command) LineError) → following commands (first_then (Ok command) later) ≡ following (commands ++ command ∷ []) later
 push commands command (Ok later) = ap {B = Result (List Command) LineError} (λ l. Ok l) (sym (append_assoc commands (command ∷ []) later))
-push commands command (Err fault) = refl
+push commands command (Err error) = refl
 
 pub pushed_is : {T E : Type 0} (r : Result T E) (new old more : List Command) → is_err r ≡ false → new ≡ cond (is_ok r) more old → new ≡ more
 pushed_is (Ok x) new old more none is = is
@@ -103,15 +101,15 @@ module _ (denotes : List ℕ → Result Command LineError) where
       ∙ ap (λ r. following commands (first_then r nothing)) is
 
   -- an invalid piece
-  pub following-fault : {V : Type 0} (view : V → List Command) (commands : List Command) (rest piece : List ℕ) (at : ℕ) (all : Result (List Command) LineError) (e : ReadError)
+  pub following-error : {V : Type 0} (view : V → List Command) (commands : List Command) (rest piece : List ℕ) (at : ℕ) (all : Result (List Command) LineError) (e : LineError)
       → at ≡ position_or_len is_semicolon rest → piece ≡ take at rest → all ≡ following commands (commands_of denotes (pieces_of rest))
       → ParsesAs {X = Command} (λ x. x) (Err e) (piece_command denotes piece) → ParsesAs view (Err e) all
-  following-fault view commands rest piece at all (error.Fault fault) first same is denotes_error =
+  following-error view commands rest piece at all error first same is (inl memory) = inl memory
+  following-error view commands rest piece at all error first same is (inr denotes_error) =
       let found = piece-first rest in
       let later = commands_of denotes found.0 in
-      let denotes_so : piece_command denotes (take (position_or_len is_semicolon rest) rest) ≡ Err fault = ap (λ l. piece_command denotes l) (sym (same ∙ ap (λ n. take n rest) first)) ∙ denotes_error in
-      is ∙ ap (λ ps. following commands (commands_of denotes ps)) found.1 ∙ ap (λ r. following commands (first_then r later)) denotes_so
-  following-fault view commands rest piece at all error.Memory first same is denotes_error = tt
+      let denotes_so : piece_command denotes (take (position_or_len is_semicolon rest) rest) ≡ Err error = ap (λ l. piece_command denotes l) (sym (same ∙ ap (λ n. take n rest) first)) ∙ denotes_error in
+      inr (is ∙ ap (λ ps. following commands (commands_of denotes ps)) found.1 ∙ ap (λ r. following commands (first_then r later)) denotes_so)
 
   pub following-next : (commands new : List Command) (command : Command) (rest piece back next : List ℕ) (at : ℕ) (all : Result (List Command) LineError) → at ≡ position_or_len is_semicolon rest → at < length rest
       → piece ≡ take at rest → back ≡ drop at rest → next ≡ drop 1 back → new ≡ commands ++ command ∷ [] → all ≡ following commands (commands_of denotes (pieces_of rest))
@@ -132,25 +130,27 @@ module _ (denotes : List ℕ → Result Command LineError) where
   pub batch-alone : (line : List ℕ) → length line ≤ position_or_len is_semicolon line → batch_of denotes line ≡ first_then (piece_command denotes line) (Ok [])
   batch-alone line none = ap (λ ps. cond (ltb 16 (length ps)) (Err TooManyCommands) (commands_of denotes ps)) (pieces-none line none)
 
-  pub reads-alone : (line : List ℕ) (read : Result Command ReadError) → length line ≤ position_or_len is_semicolon line → ParsesAs {X = Command} (λ c. c) read (piece_command denotes line)
+  pub reads-alone : (line : List ℕ) (read : Result Command LineError) → length line ≤ position_or_len is_semicolon line → ParsesAs {X = Command} (λ c. c) read (piece_command denotes line)
       → ParsesAs {X = Command} (λ c. c ∷ []) read (batch_of denotes line)
   reads-alone line (Ok command) none is = batch-alone line none ∙ ap (λ r. first_then r (Ok [])) is
-  reads-alone line (Err (error.Fault fault)) none is = batch-alone line none ∙ ap (λ r. first_then r (Ok [])) is
-  reads-alone line (Err error.Memory) none is = tt
+  reads-alone line (Err error) none (inl memory) = inl memory
+  reads-alone line (Err error) none (inr is) = inr (batch-alone line none ∙ ap (λ r. first_then r (Ok [])) is)
 
   -- the error of a line that has an invalid piece, or too many pieces
-  pub batch-fault : (line : List ℕ) (fault reported : LineError) → (length (pieces_of line) ≤ 16 → commands_of denotes (pieces_of line) ≡ Err fault)
-      → reported ≡ cond (ltb 16 (length (pieces_of line))) TooManyCommands fault → batch_of denotes line ≡ Err reported
-  batch-fault line fault reported parsed is = ⊎_elim
-      (λ many. batch-many line many ∙ ap {B = Result (List Command) LineError} (λ f. Err f) (sym (is ∙ ap (λ b. cond b TooManyCommands fault) (lt-ltb 16 (length (pieces_of line)) many))))
-      (λ few. batch-few line few ∙ parsed few ∙ ap {B = Result (List Command) LineError} (λ f. Err f) (sym (is ∙ ap (λ b. cond b TooManyCommands fault) (le-ltb 16 (length (pieces_of line)) few))))
+  pub batch-error : (line : List ℕ) (error reported : LineError) → (length (pieces_of line) ≤ 16 → (error ≡ Memory) ⊎ (commands_of denotes (pieces_of line) ≡ Err error))
+      → reported ≡ cond (ltb 16 (length (pieces_of line))) TooManyCommands error → (reported ≡ Memory) ⊎ (batch_of denotes line ≡ Err reported)
+  batch-error line error reported parsed is = ⊎_elim
+      (λ many. inr (batch-many line many ∙ ap {B = Result (List Command) LineError} (λ f. Err f) (sym (is ∙ ap (λ b. cond b TooManyCommands error) (lt-ltb 16 (length (pieces_of line)) many)))))
+      (λ few.
+      let same : reported ≡ error = is ∙ ap (λ b. cond b TooManyCommands error) (le-ltb 16 (length (pieces_of line)) few) in
+      ⊎_elim (λ memory. inl (same ∙ memory)) (λ denotes_error. inr (batch-few line few ∙ denotes_error ∙ ap {B = Result (List Command) LineError} (λ f. Err f) (sym same))) (parsed few))
       (cases_lt 16 (length (pieces_of line)))
 
   -- a command for each piece
   length-first_then : (parsed : Result Command LineError) (later : Result (List Command) LineError) (pieces : List (List ℕ)) (commands : List Command)
       → ((rest : List Command) → later ≡ Ok rest → length rest ≡ length pieces) → first_then parsed later ≡ Ok commands → length commands ≡ suc (length pieces)
-  length-first_then (Err fault) later pieces commands each e = absurd cc
-  length-first_then (Ok command) (Err fault) pieces commands each e = absurd cc
+  length-first_then (Err error) later pieces commands each e = absurd cc
+  length-first_then (Ok command) (Err error) pieces commands each e = absurd cc
   length-first_then (Ok command) (Ok rest) pieces commands each e =
       let is : command ∷ rest ≡ commands = cc in
       omega (arith, each rest refl, ap length is)

@@ -7,11 +7,11 @@ use Rattle.std.proofs.lemmas.List.Sums.{take_while-cons}
 use Rattle.moc_text.specs.Lines.{lines_of}
 use Rattle.moc_lines.specs.Runs.{Rules, is_short, answers_to, after_lines, closing_after, script_text, AreShort}
 use Rattle.moc_lines.specs.Runs.{AnswersAll, IsOutput, Runs}
-use Rattle.moc_devices.specs.Devices.{Reading, IsEnded, Writing, Accepts, AcceptsNone, Sends}
+use Rattle.moc_devices.specs.Devices.{SourceState, IsEnded, SinkState, Accepts, AcceptsNone, Sends}
 use Rattle.moc_devices.specs.Lemmas.{Accepts-kept, Accepts-trans}
 use Rattle.moc_lines.specs.Private.Ended.{Ended, text_at}
 use Rattle.moc_lines.specs.declared.run_error.RunError.{RunError}
-use Rattle.moc_lines.specs.declared.run_error.RunError.TheVariants.{Read, Write, LineTooLong, Memory}
+use Rattle.moc_lines.specs.declared.run_error.RunError.TheVariants.{Read, Write, LineTooLong, Memory, Spawn}
 use Rattle.moc_lines.proofs.Outcomes.{at_ok}
 use Rattle.std.specs.Result.{is_err, OnOk}
 
@@ -63,18 +63,18 @@ module _ {S : Type 0} (limit : ℕ) (rules : Rules S) where
       ∙ ap (λ b. answers_to rules s lines ++ cond b (closing_after rules s lines) []) (all_within limit lines within)
 
   -- the output is a prefix of the text, whatever follows the bytes that were given
-  output_begins : (s : S) (a b : Reading) (w v : Writing) (pending : List ℕ) (r : Result (Unit {0}) RunError) → (e : Ended limit rules s a b w v pending r)
+  output_begins : (s : S) (a b : SourceState) (w v : SinkState) (pending : List ℕ) (r : Result (Unit {0}) RunError) → (e : Ended limit rules s a b w v pending r)
       → (more : List ℕ) → (IsEnded b → more ≡ []) → (tail : List ℕ) × (script_text rules limit s (e.given ++ more) ≡ text_at rules s e.lines r ++ tail)
   output_begins s a b w v pending (Ok u) e more last = (
     [],
     ap (λ l. script_text rules limit s (e.given ++ l)) (last e.ends.0) ∙ ap (script_text rules limit s) (append-nil e.given)
         ∙ whole_is s e.given e.lines e.within (sym e.ends.1) ∙ sym (append-nil (text_at rules s e.lines (Ok u))),
   )
-  output_begins s a b w v pending (Err fault) e more last =
+  output_begins s a b w v pending (Err error) e more last =
       let front = e.front more last in beginning s (e.given ++ more) e.lines front.0 e.within front.1
 
   -- the writer failed before the pending answers were written
-  Runs-unsent : (s : S) (a b : Reading) (w v : Writing) (pending : List ℕ) → Ended limit rules s a b w v pending (Err Write) → Runs limit rules s a b w v (Err Write)
+  Runs-unsent : (s : S) (a b : SourceState) (w v : SinkState) (pending : List ℕ) → Ended limit rules s a b w v pending (Err Write) → Runs limit rules s a b w v (Err Write)
   Runs-unsent s a b w v pending e = record {
     input = e.given;
     output = e.sent;
@@ -86,22 +86,23 @@ module _ {S : Type 0} (limit : ℕ) (rules : Rules S) where
     is_output = tt;
   }
 
-  pub Runs-ended : (s : S) (a b : Reading) (w v : Writing) (pending : List ℕ) (r : Result (Unit {0}) RunError) → r ≡ Err Write → Ended limit rules s a b w v pending r → Runs limit rules s a b w v r
+  pub Runs-ended : (s : S) (a b : SourceState) (w v : SinkState) (pending : List ℕ) (r : Result (Unit {0}) RunError) → r ≡ Err Write → Ended limit rules s a b w v pending r → Runs limit rules s a b w v r
   Runs-ended s a b w v pending r is e =
       subst (λ (q : Result (Unit {0}) RunError). Runs limit rules s a b w v q) (sym is)
       (Runs-unsent s a b w v pending (subst (λ (q : Result (Unit {0}) RunError). Ended limit rules s a b w v pending q) is e))
 
   -- what is written and pending is the output if the writer has not failed
-  output_is : (s : S) (a b : Reading) (w v : Writing) (pending : List ℕ) (r : Result (Unit {0}) RunError) → (r ≡ Err Write → ⊥) → (e : Ended limit rules s a b w v pending r)
+  output_is : (s : S) (a b : SourceState) (w v : SinkState) (pending : List ℕ) (r : Result (Unit {0}) RunError) → (r ≡ Err Write → ⊥) → (e : Ended limit rules s a b w v pending r)
       → text_at rules s e.lines r ≡ e.sent ++ pending
   output_is s a b w v pending (Ok u) other e = e.text
   output_is s a b w v pending (Err Write) other e = absurd (other refl)
   output_is s a b w v pending (Err Read) other e = e.text
   output_is s a b w v pending (Err (LineTooLong line)) other e = e.text
   output_is s a b w v pending (Err (Memory line)) other e = e.text
+  output_is s a b w v pending (Err Spawn) other e = absurd e.ends
 
   -- the writer failed while the pending answers were written or flushed
-  pub Runs-failed : {E : Type 0} (s : S) (a b : Reading) (w v u x : Writing) (pending pending' : List ℕ) (r : Result (Unit {0}) RunError) (sends : Result (Unit {0}) E) → (r ≡ Err Write → ⊥)
+  pub Runs-failed : {E : Type 0} (s : S) (a b : SourceState) (w v u x : SinkState) (pending pending' : List ℕ) (r : Result (Unit {0}) RunError) (sends : Result (Unit {0}) E) → (r ≡ Err Write → ⊥)
       → Ended limit rules s a b w v pending r → Sends pending v pending' u sends → AcceptsNone u x → Runs limit rules s a b w x (Err Write)
   Runs-failed s a b w v u x pending pending' r sends other e sent kept =
       let answers = output_is s a b w v pending r other e in record {
@@ -118,7 +119,7 @@ module _ {S : Type 0} (limit : ℕ) (rules : Rules S) where
       }
 
   -- at the end what is written is the output
-  written : (s : S) (a b : Reading) (w v : Writing) (pending : List ℕ) (r : Result (Unit {0}) RunError) → (r ≡ Err Write → ⊥)
+  written : (s : S) (a b : SourceState) (w v : SinkState) (pending : List ℕ) (r : Result (Unit {0}) RunError) → (r ≡ Err Write → ⊥)
       → (e : Ended limit rules s a b w v pending r) → IsOutput limit rules s e.given b r (text_at rules s e.lines r)
   written s a b w v pending (Ok u) other e = (
     e.ends.0,
@@ -129,9 +130,10 @@ module _ {S : Type 0} (limit : ℕ) (rules : Rules S) where
   written s a b w v pending (Err Read) other e = (subst (AreShort limit) e.ends e.within, ap (answers_to rules s) e.ends)
   written s a b w v pending (Err (LineTooLong line)) other e = (e.ends.0, subst (AreShort limit) e.ends.1 e.within, ap (answers_to rules s) e.ends.1)
   written s a b w v pending (Err (Memory line)) other e = (e.ends.0, subst (AreShort limit) e.ends.1 e.within, ap (answers_to rules s) e.ends.1)
+  written s a b w v pending (Err Spawn) other e = absurd e.ends
 
   -- all is written
-  pub Runs-sent : {E : Type 0} (s : S) (a b : Reading) (w v u x : Writing) (pending pending' : List ℕ) (r : Result (Unit {0}) RunError) (sends : Result (Unit {0}) E) → (r ≡ Err Write → ⊥)
+  pub Runs-sent : {E : Type 0} (s : S) (a b : SourceState) (w v u x : SinkState) (pending pending' : List ℕ) (r : Result (Unit {0}) RunError) (sends : Result (Unit {0}) E) → (r ≡ Err Write → ⊥)
       → Ended limit rules s a b w v pending r → Sends pending v pending' u sends → is_err sends ≡ false → pending' ≡ [] → AcceptsNone u x → Runs limit rules s a b w x r
   Runs-sent s a b w v u x pending pending' r sends other e sent ok empty kept =
       let answers = output_is s a b w v pending r other e in
@@ -147,7 +149,7 @@ module _ {S : Type 0} (limit : ℕ) (rules : Rules S) where
       }
 
   -- a run that succeeded has answered its whole input
-  pub AnswersAll-ok : (s : S) (a b : Reading) (w v : Writing) (r : Result (Unit {0}) RunError) → Runs limit rules s a b w v r
+  pub AnswersAll-ok : (s : S) (a b : SourceState) (w v : SinkState) (r : Result (Unit {0}) RunError) → Runs limit rules s a b w v r
       → OnOk r (AnswersAll (script_text rules limit s) a b w v)
   AnswersAll-ok s a b w v (Ok u) runs = (runs.input, runs.delivered, runs.is_output.0, subst (Accepts w v) runs.is_output.2 runs.accepted)
   AnswersAll-ok s a b w v (Err e) runs = tt

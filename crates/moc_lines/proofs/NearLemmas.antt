@@ -9,8 +9,8 @@ use Rattle.moc_parts.specs.declared.command.Command.{Command}
 use Rattle.moc_parts.specs.declared.command.Command.TheVariants.{Near}
 use Rattle.moc_lines.specs.Language.{decimal_value, ◌>>=◌}
 use Rattle.moc_lines.specs.Private.Verbs.{near_command}
-use Rattle.moc_lines.specs.declared.fault.LineError.{LineError}
-use Rattle.moc_lines.specs.declared.fault.LineError.TheVariants.{BadNumber, OrderTooLarge, CellTooLarge}
+use Rattle.moc_lines.specs.declared.error.LineError.{LineError}
+use Rattle.moc_lines.specs.declared.error.LineError.TheVariants.{BadNumber, OrderTooLarge, CellTooLarge}
 
 -- the result of parsing a cell
 abbrev answer_of : CellNumber → Result Command LineError

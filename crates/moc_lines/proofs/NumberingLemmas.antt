@@ -65,9 +65,9 @@ found : (v : Numbering) (k n i : ℕ) → cell_with_number v k n ≡ Some i → 
 found v k n i is = ap (λ c. ok_or c (number_error v n)) is
 
 -- the error for a number that no cell has
-no_cell : (v : Numbering) (k n : ℕ) (fault : NumberError) → cell_with_number v k n ≡ None → fault ≡ number_error v n
-    → cell_or_error v k n ≡ Err fault
-no_cell v k n fault none is = ap (λ c. ok_or c (number_error v n)) none ∙ ap (λ (f : NumberError). Err f) (sym is)
+no_cell : (v : Numbering) (k n : ℕ) (error : NumberError) → cell_with_number v k n ≡ None → error ≡ number_error v n
+    → cell_or_error v k n ≡ Err error
+no_cell v k n error none is = ap (λ c. ok_or c (number_error v n)) none ∙ ap (λ (f : NumberError). Err f) (sym is)
 
 -- the nested numbers of an order are those below the number of its cells
 nested : (k n : ℕ) → n < cell_count k → cell_with_number Nest k n ≡ Some n
@@ -182,11 +182,11 @@ saturated_alike v k n small =
 
 -- a saturated number gives the same result
 saturated_result : (r : Renumbering) (read : Result ℕ NumberError) → r.order ≤ 29
-    → (result_map_both (λ n. min n (2 ^ 64 - 1)) (λ fault. fault) read >>= converted_number r) ≡ (read >>= converted_number r)
-saturated_result r (Err fault) small = refl
+    → (result_map_both (λ n. min n (2 ^ 64 - 1)) (λ error. error) read >>= converted_number r) ≡ (read >>= converted_number r)
+saturated_result r (Err error) small = refl
 saturated_result r (Ok n) small = ap (λ c. c >>= (λ i. Ok (cell_number_in r.to r.order i))) (saturated_alike r.from r.order n small)
 
 -- the result if such a number was read
 pub tells : (r : Renumbering) (read : Result ℕ NumberError) (n : ℕ) → r.order ≤ 29
-    → Ok n ≡ result_map_both (λ n. min n (2 ^ 64 - 1)) (λ fault. fault) read → converted_number r n ≡ (read >>= converted_number r)
+    → Ok n ≡ result_map_both (λ n. min n (2 ^ 64 - 1)) (λ error. error) read → converted_number r n ≡ (read >>= converted_number r)
 tells r read n small held = ap (λ c. c >>= converted_number r) held ∙ saturated_result r read small

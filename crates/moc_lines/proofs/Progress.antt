@@ -5,7 +5,7 @@ use Rattle.std.proofs.Common.{append_assoc, append-nil, length-append, subst}
 use Rattle.std.specs.List.{count_by, position_or_len, before_first, after_first, AllByRecursion}
 use Rattle.std.specs.Result.{is_err, IsErrAnd, OnOk, OnErr, IfErr}
 use Rattle.std.specs.Io.KnownBytes.{IsAtEnd}
-use Rattle.moc_devices.specs.Devices.{Reading, Delivers, IsEnded, Writing, Accepts}
+use Rattle.moc_devices.specs.Devices.{SourceState, Delivers, IsEnded, SinkState, Accepts}
 use Rattle.moc_devices.specs.Lemmas.{Accepts-nil, Accepts-trans, Delivers-nil, Delivers-trans}
 use Rattle.std.proofs.Math.Seq.{take-append_seam}
 use Rattle.std.proofs.lemmas.Bool.{ltb-true}
@@ -13,16 +13,14 @@ use Rattle.std.proofs.lemmas.List.{get_or-append-add, take_all}
 use Rattle.moc_text.specs.Lines.{is_line_feed, lines_of}
 use Rattle.moc_lines.specs.Private.ReaderState.{ReaderState, HasNoLineFeed}
 use Rattle.moc_lines.specs.Private.LineReading.{IsOfLine, PermitsReadsWithinLine, ReadsLine, has_line}
-use Rattle.moc_lines.specs.Runs.{Rules, answers_to, after_lines, AreShort, IsTooLong, IsUnfinishedLine, IsUnclosed, error_of_input}
+use Rattle.moc_lines.specs.Runs.{Rules, answers_to, after_lines, AreShort, IsTooLong, IsUnfinishedLine, IsUnclosed}
 use Rattle.moc_lines.specs.Runs.{AreLinesAnswered, HasNotEnded, whole_lines_of, lines_before}
 use Rattle.moc_devices.specs.Devices.{Sends}
 use Rattle.moc_lines.specs.Private.Ended.{Ended, EndsAt, IsSent}
 use Rattle.moc_lines.specs.declared.line_reader.LineKind.{LineKind}
-use Rattle.moc_lines.specs.declared.reading.ScriptInputError.{ScriptInputError}
 use Rattle.moc_lines.specs.declared.run_error.RunError.{RunError}
 use Rattle.moc_lines.specs.declared.line_reader.LineKind.TheVariants.{Line, LastLine, EndOfInput}
-use Rattle.moc_lines.specs.declared.reading.ScriptInputError.TheVariants as fault
-use Rattle.moc_lines.specs.declared.run_error.RunError.TheVariants.{Read, Write, LineTooLong, Memory}
+use Rattle.moc_lines.specs.declared.run_error.RunError.TheVariants.{Read, Write, LineTooLong, Memory, Spawn}
 use Rattle.moc_lines.proofs.LineLemmas.{count-append, some-lines, count-cons, lines_of-line, lines_of-last}
 use Rattle.moc_lines.proofs.LineLemmas.{lines_of-long, not_true, split_at_line_feed}
 use Rattle.moc_lines.proofs.Outcomes.{at_ok}
@@ -61,7 +59,7 @@ at_end None more end is = cc
 at_end (Some xs) more end is = let same : xs ≡ more = cc in sym same ∙ end
 
 -- the result of a read, or the error, by its name
-pub at_line_kind : (limit : ℕ) (old new : ReaderState) (a b : Reading) (found name : LineKind) → found ≡ name → ReadsLine limit old a new b (Ok found) → ReadsLine limit old a new b (Ok name)
+pub at_line_kind : (limit : ℕ) (old new : ReaderState) (a b : SourceState) (found name : LineKind) → found ≡ name → ReadsLine limit old a new b (Ok found) → ReadsLine limit old a new b (Ok name)
 at_line_kind limit old new a b found name is takes = subst (λ (f : LineKind). ReadsLine limit old a new b (Ok f)) is takes
 
 -- if the buffer has no line feed and none came, it has no whole line
@@ -84,12 +82,12 @@ module _ {S : Type 0} (limit : ℕ) (rules : Rules S) where
   after_lines-push s (first ∷ lines) line = after_lines-push (rules.after s first) lines line
 
   -- the lines so far are at the front of what was given, and the buffer follows; their answers are written or pending
-  pub record Progress (s now : S) (left left' : Reading) (written written' : Writing) (unread pending : List ℕ) (number : ℕ) : Type 0 where
+  pub record Progress (s now : S) (source source' : SourceState) (sink sink' : SinkState) (unread pending : List ℕ) (number : ℕ) : Type 0 where
     pub lines : List (List ℕ)
     pub given : List ℕ
     pub sent : List ℕ
-    pub consumed : Delivers left left' given
-    pub appended : Accepts written written' sent
+    pub consumed : Delivers source source' given
+    pub appended : Accepts sink sink' sent
     pub split : given ≡ ended lines ++ unread
     pub unbroken : AllByRecursion HasNoLineFeed lines
     pub within : AreShort limit lines
@@ -98,21 +96,21 @@ module _ {S : Type 0} (limit : ℕ) (rules : Rules S) where
     pub count : number ≡ length lines + 1
 
   -- all lines are answered, and the reader is at its end
-  pub record ReachedEnd (s now : S) (left left' : Reading) (written written' : Writing) (pending : List ℕ) (number : ℕ) : Type 0 where
+  pub record ReachedEnd (s now : S) (source source' : SourceState) (sink sink' : SinkState) (pending : List ℕ) (number : ℕ) : Type 0 where
     pub lines : List (List ℕ)
     pub given : List ℕ
     pub sent : List ℕ
-    pub consumed : Delivers left left' given
-    pub appended : Accepts written written' sent
+    pub consumed : Delivers source source' given
+    pub appended : Accepts sink sink' sent
     pub within : AreShort limit lines
-    pub front : (more : List ℕ) → (IsEnded left' → more ≡ []) → (rest : List (List ℕ)) × (lines_of (given ++ more) ≡ lines ++ rest)
-    pub end : IsEnded left'
+    pub front : (more : List ℕ) → (IsEnded source' → more ≡ []) → (rest : List (List ℕ)) × (lines_of (given ++ more) ≡ lines ++ rest)
+    pub end : IsEnded source'
     pub all : lines ≡ lines_of given
     pub text : answers_to rules s lines ≡ sent ++ pending
     pub state : now ≡ after_lines rules s lines
     pub count : number ≡ length lines + 1
 
-  pub Progress-start : (s : S) (a : Reading) (w : Writing) (unread pending : List ℕ) → unread ≡ [] → pending ≡ [] → Progress s s a a w w unread pending 1
+  pub Progress-start : (s : S) (a : SourceState) (w : SinkState) (unread pending : List ℕ) → unread ≡ [] → pending ≡ [] → Progress s s a a w w unread pending 1
   unfolding ended
   Progress-start s a w unread pending none empty = record {
     lines = [];
@@ -128,7 +126,7 @@ module _ {S : Type 0} (limit : ℕ) (rules : Rules S) where
     count = refl;
   }
 
-  pub Progress-sent : {E : Type 0} (s now : S) (a b : Reading) (w v u : Writing) (held held' : ReaderState) (pending pending' later : List ℕ) (number : ℕ) (r : Result (Unit {0}) E)
+  pub Progress-sent : {E : Type 0} (s now : S) (a b : SourceState) (w v u : SinkState) (held held' : ReaderState) (pending pending' later : List ℕ) (number : ℕ) (r : Result (Unit {0}) E)
       → Progress s now a b w v held.unread pending number → is_err r ≡ false → Sends pending v pending' u r → held' ≡ held → later ≡ pending' → Progress s now a b w u held'.unread later number
   Progress-sent s now a b w v u held held' pending pending' later number r p ok sends same kept = record {
     lines = p.lines;
@@ -168,7 +166,7 @@ module _ {S : Type 0} (limit : ℕ) (rules : Rules S) where
 
   -- A read that is permitted when all answers are accepted is permitted until the next line feed: the buffer has no
   -- whole line then, so that nothing is pending.
-  pub Progress-permits : {R W : Type 0} (reading : R → Reading) (writing : W → Writing) (mark : R → Bool) (failed : W → Bool) (may_read : R → W → Type 0) (s now : S) (a b : R) (w v : W) (unread pending : List ℕ) (number : ℕ)
+  pub Progress-permits : {R W : Type 0} (reading : R → SourceState) (writing : W → SinkState) (mark : R → Bool) (failed : W → Bool) (may_read : R → W → Type 0) (s now : S) (a b : R) (w v : W) (unread pending : List ℕ) (number : ℕ)
       → ((r : R) (x : W) → mark r ≡ false → failed x ≡ false → HasNotEnded (reading a) (reading r) → AreLinesAnswered rules s (reading a) (reading r) (writing w) (writing x) → may_read r x)
       → Progress s now (reading a) (reading b) (writing w) (writing v) unread pending number → (has_line unread ≡ false → pending ≡ [])
       → HasNotEnded (reading a) (reading b) → mark b ≡ false → failed v ≡ false → PermitsReadsWithinLine reading mark (λ r. may_read r v) unread b
@@ -192,7 +190,7 @@ module _ {S : Type 0} (limit : ℕ) (rules : Rules S) where
       ap (λ l. get_or l (number - 1) []) all ∙ ap (λ n. get_or (lines ++ first ∷ more) n []) place ∙ get_or-append-add lines (first ∷ more) 0 [] in
       (omega arith, subst (λ (l : List ℕ). limit < length l) (sym found) long)
 
-  module _ (s now : S) (a b c : Reading) (w v : Writing) (held held' : ReaderState) (pending : List ℕ) (number : ℕ) (p : Progress s now a b w v held.unread pending number) where
+  module _ (s now : S) (a b c : SourceState) (w v : SinkState) (held held' : ReaderState) (pending : List ℕ) (number : ℕ) (p : Progress s now a b w v held.unread pending number) where
     split_with : (came : List ℕ) → p.given ++ came ≡ ended p.lines ++ (held.unread ++ came)
     split_with came = ap (λ l. l ++ came) p.split ∙ append_assoc (ended p.lines) held.unread came
 
@@ -259,10 +257,10 @@ module _ {S : Type 0} (limit : ℕ) (rules : Rules S) where
     Ended-unanswered LastLine t some pending' same = memory t.0 t.1 (λ _. rw t.2.0 t.2.3) pending' same
     Ended-unanswered EndOfInput t some pending' same = absurd (some refl)
 
-    read : ReadsLine limit held b held' c (Err fault.Read) → Ended limit rules s a c w v pending (Err Read)
+    read : ReadsLine limit held b held' c (Err Read) → Ended limit rules s a c w v pending (Err Read)
     read t = after_error t.0 t.1 pending Read refl (whole p.lines (p.given ++ t.0) (held.unread ++ t.0) (split_with t.0) p.unbroken t.2) (λ e. e)
 
-    long : (line : ℕ) → ReadsLine limit held b held' c (Err (fault.TooLong line)) → Ended limit rules s a c w v pending (Err (LineTooLong number))
+    long : (line : ℕ) → ReadsLine limit held b held' c (Err (LineTooLong line)) → Ended limit rules s a c w v pending (Err (LineTooLong number))
     long line t =
         let parts = t.2 in
         let found = lines_of-long limit parts.0 parts.1 parts.3 parts.4 in
@@ -274,13 +272,15 @@ module _ {S : Type 0} (limit : ℕ) (rules : Rules S) where
         (λ e. e)
 
     -- there is no line
-    pub Ended-fault : (f : ScriptInputError) → ReadsLine limit held b held' c (Err f) → IsOfLine number f → (pending' : List ℕ) → pending' ≡ pending → Ended limit rules s a c w v pending' (Err (error_of_input f))
-    Ended-fault fault.Read t of pending' same = subst (λ (q : List ℕ). Ended limit rules s a c w v q (Err Read)) (sym same) (read t)
-    Ended-fault (fault.TooLong line) t of pending' same =
+    pub Ended-error : (f : RunError) → ReadsLine limit held b held' c (Err f) → IsOfLine number f → (pending' : List ℕ) → pending' ≡ pending → Ended limit rules s a c w v pending' (Err f)
+    Ended-error Read t of pending' same = subst (λ (q : List ℕ). Ended limit rules s a c w v q (Err Read)) (sym same) (read t)
+    Ended-error (LineTooLong line) t of pending' same =
         subst (λ (n : ℕ). Ended limit rules s a c w v pending' (Err (LineTooLong n))) (sym of)
         (subst (λ (q : List ℕ). Ended limit rules s a c w v q (Err (LineTooLong number))) (sym same) (long line t))
-    Ended-fault (fault.Memory line) t of pending' same =
+    Ended-error (Memory line) t of pending' same =
         subst (λ (n : ℕ). Ended limit rules s a c w v pending' (Err (Memory n))) (sym of) (memory t.0 t.1 (λ _. t.2) pending' same)
+    Ended-error Write t of pending' same = absurd of
+    Ended-error Spawn t of pending' same = absurd of
 
     -- there is no line
     pub ReachedEnd-nothing : ReadsLine limit held b held' c (Ok EndOfInput) → ReachedEnd s now a c w v pending number
@@ -333,7 +333,7 @@ module _ {S : Type 0} (limit : ℕ) (rules : Rules S) where
         subst (λ (q : RunError). Ended limit rules s a c w v pending' (Err q)) (sym (reported ∙ refused)) (Ended-unanswered found t some pending' same)
 
   -- all lines are answered, and the closing text was made, or an allocation failed for it
-  pub Ended-closed : (s now : S) (a c : Reading) (w v : Writing) (pending pending' : List ℕ) (number : ℕ) (r : Result (Unit {0}) RunError) → ReachedEnd s now a c w v pending number
+  pub Ended-closed : (s now : S) (a c : SourceState) (w v : SinkState) (pending pending' : List ℕ) (number : ℕ) (r : Result (Unit {0}) RunError) → ReachedEnd s now a c w v pending number
       → OnOk r (pending' ≡ pending ++ rules.closing now) → IfErr r (λ e. e ≡ Memory number) → OnErr r (pending' ≡ pending) → OnErr r (rules.closing now ≢ [])
       → Ended limit rules s a c w v pending' r
   Ended-closed s now a c w v pending pending' number (Ok u) p text refused same some = record {
@@ -368,7 +368,7 @@ module _ {S : Type 0} (limit : ℕ) (rules : Rules S) where
       })
 
   -- the writer failed in the middle of the pending answers
-  pub Ended-write : {E : Type 0} (s now : S) (a b : Reading) (w v u : Writing) (unread pending pending' : List ℕ) (number : ℕ) (r : Result (Unit {0}) E)
+  pub Ended-write : {E : Type 0} (s now : S) (a b : SourceState) (w v u : SinkState) (unread pending pending' : List ℕ) (number : ℕ) (r : Result (Unit {0}) E)
       → Progress s now a b w v unread pending number → Sends {E = E} pending v pending' u r → Ended limit rules s a b w u pending' (Err Write)
   Ended-write s now a b w v u unread pending pending' number r p sends = record {
     lines = p.lines;

@@ -2,7 +2,7 @@
 use Rattle.std.proofs.Common.{◌≡◌, ℕ, List, ◌++◌, Option, Some, None, Result, Ok, Err, refl, sym, ap, ◌∙◌, append-nil, subst}
 use Rattle.std.specs.Result.{OnOk}
 use Rattle.std.specs.Io.KnownBytes.{Consumes, IsAtEnd}
-use Rattle.moc_devices.specs.Devices.{Reading, Writing}
+use Rattle.moc_devices.specs.Devices.{SourceState, SinkState}
 use Rattle.moc_lines.specs.Runs.{Rules, Runs, script_text}
 use Rattle.moc_lines.specs.declared.run_error.RunError.{RunError}
 use Rattle.moc_lines.proofs.Progress.{at_end}
@@ -21,7 +21,7 @@ all_consumed input consumed left consumes end =
     sym (parts.2 ∙ ap (λ l. consumed ++ l) (at_end left parts.0 end parts.1) ∙ append-nil consumed)
 
 module _ {S : Type 0} (limit : ℕ) (rules : Rules S) where
-  pub is_prefix : (s : S) (input : List ℕ) (a b : Reading) (w v : Writing) (result : Result (Unit {0}) RunError)
+  pub is_prefix : (s : S) (input : List ℕ) (a b : SourceState) (w v : SinkState) (result : Result (Unit {0}) RunError)
       → a.left ≡ Some input → (runs : Runs limit rules s a b w v result)
       → (rest : List ℕ) × (script_text rules limit s input ≡ runs.output ++ rest)
   is_prefix s input a b w v result reports runs =
@@ -30,7 +30,7 @@ module _ {S : Type 0} (limit : ℕ) (rules : Rules S) where
       let prefix = runs.is_prefix parts.0 (λ end. at_end b.left parts.0 end.none parts.1) in
       (prefix.0, ap (script_text rules limit s) parts.2 ∙ prefix.1)
 
-  pub is_whole : (s : S) (input : List ℕ) (a b : Reading) (w v : Writing) (result : Result (Unit {0}) RunError)
+  pub is_whole : (s : S) (input : List ℕ) (a b : SourceState) (w v : SinkState) (result : Result (Unit {0}) RunError)
       → a.left ≡ Some input → (runs : Runs limit rules s a b w v result) → OnOk result (runs.input ≡ input)
   is_whole s input a b w v (Ok u) reports runs =
       let consumes = subst (λ (l : Option (List ℕ)). Consumes l b.left runs.input) reports runs.delivered.consumed in

@@ -1,7 +1,7 @@
 -- The loop that looks for a line's end.
 use Rattle.std.proofs.Common.{◌≡◌, ℕ, ◌+◌, ◌<◌, ◌≤◌, List, [], ◌∷◌, ◌++◌, length, drop, Ok, Err, sym, ap, ◌∙◌, arith, append_assoc, append-nil, length-append, length-take, not, inr, subst, ⊎_elim}
 use Rattle.std.specs.List.{count_by, position_or_len, before_first, after_first}
-use Rattle.moc_devices.specs.Devices.{Reading, Delivers}
+use Rattle.moc_devices.specs.Devices.{SourceState, Delivers}
 use Rattle.moc_devices.specs.Lemmas.{Delivers-trans}
 use Rattle.std.proofs.lemmas.List.{take-append-drop}
 use Rattle.std.proofs.lemmas.List.Sums.{prefix_len-le-length}
@@ -10,22 +10,22 @@ use Rattle.moc_lines.specs.Private.ReaderState.{ReaderState, HasNoLineFeed}
 use Rattle.moc_lines.specs.Private.LineReading.{ReadsMore, ReadsLine}
 use Rattle.moc_lines.specs.Runs.{HasNotEnded}
 use Rattle.moc_lines.specs.declared.line_reader.LineKind.TheVariants.{Line}
-use Rattle.moc_lines.specs.declared.reading.ScriptInputError.TheVariants.{TooLong}
+use Rattle.moc_lines.specs.declared.run_error.RunError.TheVariants.{LineTooLong}
 use Rattle.moc_lines.proofs.LineLemmas.{count-append, HasNoLineFeed-before_first, split_at_line_feed, before_first-none, after_first-none}
 
 -- two steps without an end
-pub HasNotEnded-later : (a b c : Reading) → HasNotEnded a b → HasNotEnded b c → HasNotEnded a c
-HasNotEnded-later a b c first later = ⊎_elim (λ same. subst (λ (r : Reading). HasNotEnded a r) (sym same) first) inr later
+pub HasNotEnded-later : (a b c : SourceState) → HasNotEnded a b → HasNotEnded b c → HasNotEnded a c
+HasNotEnded-later a b c first later = ⊎_elim (λ same. subst (λ (r : SourceState). HasNotEnded a r) (sym same) first) inr later
 
 -- the bytes that came, after those in the buffer, are the line so far and the buffer; the line has no line feed
-pub record Turn (limit : ℕ) (old : ReaderState) (left : Reading) (now : ReaderState) (left' : Reading) : Type 0 where
+pub record Turn (limit : ℕ) (old : ReaderState) (source : SourceState) (now : ReaderState) (source' : SourceState) : Type 0 where
   pub came : List ℕ
-  pub consumed : Delivers left left' came
+  pub consumed : Delivers source source' came
   pub parts : old.unread ++ came ≡ now.line ++ now.unread
   pub unbroken : HasNoLineFeed now.line
   pub within : length now.line ≤ limit
 
-pub Turn-brought : (limit : ℕ) (old now next : ReaderState) (a b c : Reading) → Turn limit old a now b → ReadsMore now b next c → Turn limit old a next c
+pub Turn-brought : (limit : ℕ) (old now next : ReaderState) (a b c : SourceState) → Turn limit old a now b → ReadsMore now b next c → Turn limit old a next c
 Turn-brought limit old now next a b c turn brings = record {
   came = turn.came ++ brings.came;
   consumed = Delivers-trans a b c turn.came brings.came turn.consumed brings.consumed;
@@ -35,7 +35,7 @@ Turn-brought limit old now next a b c turn brings = record {
 }
 
 -- if the buffer is empty, the line is all that was given
-pub Turn-none : (limit : ℕ) (old now : ReaderState) (a b : Reading) (turn : Turn limit old a now b) → now.unread ≡ [] → old.unread ++ turn.came ≡ now.line
+pub Turn-none : (limit : ℕ) (old now : ReaderState) (a b : SourceState) (turn : Turn limit old a now b) → now.unread ≡ [] → old.unread ++ turn.came ≡ now.line
 Turn-none limit old now a b turn none = turn.parts ∙ ap (λ l. now.line ++ l) none ∙ append-nil now.line
 
 -- the line with the bytes before the first line feed
@@ -48,7 +48,7 @@ pub record MovesPart (limit : ℕ) (now next : ReaderState) : Type 0 where
   pub unread : next.unread ≡ after_first is_line_feed now.unread
   pub within : length next.line ≤ limit
 
-pub Turn-line : (limit : ℕ) (old now next : ReaderState) (a b : Reading) → Turn limit old a now b → MovesPart limit now next → position_or_len is_line_feed now.unread < length now.unread → ReadsLine limit old a next b (Ok Line)
+pub Turn-line : (limit : ℕ) (old now next : ReaderState) (a b : SourceState) → Turn limit old a now b → MovesPart limit now next → position_or_len is_line_feed now.unread < length now.unread → ReadsLine limit old a next b (Ok Line)
 Turn-line limit old now next a b turn parted found = (
   turn.came,
   turn.consumed,
@@ -59,7 +59,7 @@ Turn-line limit old now next a b turn parted found = (
   ),
 )
 
-pub Turn-more : (limit : ℕ) (old now next : ReaderState) (a b : Reading) → Turn limit old a now b → MovesPart limit now next → length now.unread ≤ position_or_len is_line_feed now.unread → Turn limit old a next b
+pub Turn-more : (limit : ℕ) (old now next : ReaderState) (a b : SourceState) → Turn limit old a now b → MovesPart limit now next → length now.unread ≤ position_or_len is_line_feed now.unread → Turn limit old a next b
 Turn-more limit old now next a b turn parted none = record {
   came = turn.came;
   consumed = turn.consumed;
@@ -68,7 +68,7 @@ Turn-more limit old now next a b turn parted none = record {
   within = parted.within;
 }
 
-pub Turn-too_long : (limit : ℕ) (old now next : ReaderState) (a b : Reading) → Turn limit old a now b → (number : ℕ) → limit < length now.line + position_or_len is_line_feed now.unread → ReadsLine limit old a next b (Err (TooLong number))
+pub Turn-too_long : (limit : ℕ) (old now next : ReaderState) (a b : SourceState) → Turn limit old a now b → (number : ℕ) → limit < length now.line + position_or_len is_line_feed now.unread → ReadsLine limit old a next b (Err (LineTooLong number))
 Turn-too_long limit old now next a b turn number long = (
   turn.came,
   turn.consumed,

@@ -7,7 +7,7 @@ use Rattle.std.proofs.lemmas.List.{get_or-append-add, get_or-drop, take-append-d
 use Rattle.moc_text.specs.Lines.{is_line_feed, lines_of}
 use Rattle.moc_lines.specs.Private.ReaderState.{HasNoLineFeed}
 use Rattle.moc_lines.specs.Runs.{AreShort, IsTooLong, IsUnfinishedLine}
-use Rattle.moc_devices.specs.Devices.{Reading, Delivers}
+use Rattle.moc_devices.specs.Devices.{SourceState, Delivers}
 use Rattle.moc_devices.specs.Lemmas.{Delivers-trans}
 use Rattle.moc_lines.specs.Private.Input.{IsScriptState, IsAfterLastFeed}
 use Rattle.moc_lines.proofs.LineLemmas.{not_true, count-append, count-cons, some-lines, lines_of-line, lines_of-last, lines_of-long, HasNoLineFeed-before_first, split_at_line_feed, before_first-none}
@@ -245,11 +245,11 @@ no_feed bytes none = elim (cases_lt (position_or_len is_line_feed bytes) (length
 ]
 
 -- more was given
-pub given_more : (a b c : Reading) (bytes chunk bytes' : List ℕ) → Delivers a b bytes → Delivers b c chunk → bytes' ≡ bytes ++ chunk → Delivers a c bytes'
+pub given_more : (a b c : SourceState) (bytes chunk bytes' : List ℕ) → Delivers a b bytes → Delivers b c chunk → bytes' ≡ bytes ++ chunk → Delivers a c bytes'
 given_more a b c bytes chunk bytes' given more is = subst (Delivers a c) (sym is) (Delivers-trans a b c bytes chunk given more)
 
 -- the read that gave nothing was the last
-pub given_all : (a b c : Reading) (bytes buffer : List ℕ) (n : ℕ) → Delivers a b bytes → Delivers b c (take n buffer) → n ≡ 0 → Delivers a c bytes
+pub given_all : (a b c : SourceState) (bytes buffer : List ℕ) (n : ℕ) → Delivers a b bytes → Delivers b c (take n buffer) → n ≡ 0 → Delivers a c bytes
 given_all a b c bytes buffer n given none zero_read =
     let empty : take n buffer ≡ [] = ap (λ k. take k buffer) zero_read in
     given_more a b c bytes (take n buffer) bytes given none (sym (append-nil bytes) ∙ ap (λ l. bytes ++ l) (sym empty))

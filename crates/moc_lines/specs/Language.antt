@@ -1,19 +1,18 @@
 -- The command language: the commands of a line of a script, and the texts of its answer.
 use Rattle.std.specs.Prelude.{ℕ, Bool, ◌&&◌, ◌||◌, ◌==◌, nat_lt, List, length, drop, Option, Some, None, if◌then◌else◌}
-use Rattle.std.specs.Prelude.{[], ◌∷◌, ◌++◌, codes, decimal, ◌≡◌, Result, Ok, Err}
+use Rattle.std.specs.Prelude.{[], ◌∷◌, ◌++◌, codes, decimal, ◌≡◌, ◌⊎◌, Result, Ok, Err}
 use Rattle.std.specs.List.{list_all, prefix_len, before_first, join_by}
 use Rattle.std.specs.Char.{is_ascii_digit}
 use Rattle.std.specs.Str.Parse.{digits_value}
-use Rattle.moc_lines.specs.declared.fault.LineError.{LineError}
-use Rattle.moc_lines.specs.declared.fault.LineError.TheVariants.{UnknownWord, EmptyCommand, TooManyCommands, WrongCount}
-use Rattle.moc_lines.specs.declared.fault.LineError.TheVariants.{BadNumber, OrderTooLarge, CellTooLarge, Coverage}
+use Rattle.moc_lines.specs.declared.error.LineError.{LineError}
+use Rattle.moc_lines.specs.declared.error.LineError.TheVariants.{UnknownWord, EmptyCommand, TooManyCommands, WrongCount}
+use Rattle.moc_lines.specs.declared.error.LineError.TheVariants.{BadNumber, OrderTooLarge, CellTooLarge, Coverage}
+use Rattle.moc_lines.specs.declared.error.LineError.TheVariants.{ClientTooLarge, PartTooLarge, Memory}
 use Rattle.std.specs.FinSet as set
 use Rattle.moc_lists.specs.RangeList.{NumberSet}
 use Rattle.moc_parts.specs.declared.reply.Reply.{Reply}
 use Rattle.moc_parts.specs.declared.reply.Reply.TheVariants as reply
 use Rattle.moc_text.specs.AsciiText.{ascii_text}
-use Rattle.moc_lines.specs.declared.fault.ReadError.{ReadError}
-use Rattle.moc_lines.specs.declared.fault.ReadError.TheVariants as error
 use Rattle.std.specs.Option.{ok_or}
 use Rattle.std.specs.Result.{result_map_both}
 use Rattle.std.specs.Str.{bytes_eq}
@@ -58,7 +57,7 @@ decimal_value field =
 
 -- Errors
 
--- the name of the error of a line of commands, as an answer states it
+-- the name of the error of a line of a script or of a schedule, as an answer states it
 abbrev pub name_of_line_error : LineError → List ℕ
 name_of_line_error UnknownWord = codes "UnknownWord"
 name_of_line_error EmptyCommand = codes "EmptyCommand"
@@ -68,6 +67,9 @@ name_of_line_error BadNumber = codes "BadNumber"
 name_of_line_error OrderTooLarge = codes "OrderTooLarge"
 name_of_line_error CellTooLarge = codes "CellTooLarge"
 name_of_line_error (Coverage e) = name_of_text e
+name_of_line_error ClientTooLarge = codes "ClientTooLarge"
+name_of_line_error PartTooLarge = codes "PartTooLarge"
+name_of_line_error Memory = codes "Memory"
 
 -- Replies
 
@@ -91,10 +93,9 @@ replies_text replies = join_by reply_text (codes " ; ") replies
 -- The result of parsing a line
 
 -- the result, through the view, is what the text denotes, or its error, unless an allocation failed
-abbrev pub ParsesAs : {X Y : Type 0} → (X → Y) → Result X ReadError → Result Y LineError → Type 0
+abbrev pub ParsesAs : {X Y : Type 0} → (X → Y) → Result X LineError → Result Y LineError → Type 0
 ParsesAs view (Ok x) denotes = denotes ≡ Ok (view x)
-ParsesAs view (Err (error.Fault fault)) denotes = denotes ≡ Err fault
-ParsesAs view (Err error.Memory) denotes = Unit {0}
+ParsesAs view (Err error) denotes = (error ≡ Memory) ⊎ (denotes ≡ Err error)
 
 -- The command of a piece of a line
 
@@ -102,7 +103,7 @@ infixl 10 ◌>>=◌
 -- the next result, or the error that came first
 abbrev pub ◌>>=◌ : {A B F : Type 0} → Result A F → (A → Result B F) → Result B F
 (Ok x) >>= f = f x
-(Err fault) >>= f = Err fault
+(Err error) >>= f = Err error
 
 -- the field of a text with exactly one field
 abbrev pub only_field : List ℕ → Result (List ℕ) LineError
@@ -217,12 +218,24 @@ commands_in (Several commands) = commands
 -- the answer to a parsed line on a set
 abbrev pub answer_to : NumberSet → Result (List Command) LineError → List ℕ
 answer_to a (Ok commands) = replies_text (replies_on a commands) ++ 10 ∷ []
-answer_to a (Err fault) = fault_report (name_of_line_error fault)
+answer_to a (Err error) = fault_report (name_of_line_error error)
 
 -- the set after a parsed line: an invalid line changes nothing
 abbrev pub after_batch : NumberSet → Result (List Command) LineError → NumberSet
 after_batch a (Ok commands) = set_after_all a commands
-after_batch a (Err fault) = a
+after_batch a (Err error) = a
+
+module _ {S : Type 0} (executes : S → List Command → List Reply → S → Type 0) where
+  -- a parsed line was answered: its commands were executed, and the answer is their replies; or, for an invalid line,
+  -- the state is the same, and the answer is the error
+  abbrev pub IsAnswer : S → S → Result (List Command) LineError → List ℕ → Type 0
+  IsAnswer s s' (Ok commands) answer =
+      (replies : List Reply) × executes s commands replies s' × (answer ≡ replies_text replies ++ 10 ∷ [])
+  IsAnswer s s' (Err error) answer = (s' ≡ s) × (answer ≡ fault_report (name_of_line_error error))
+
+  -- a parsed line was answered, and the answer is appended to a text
+  abbrev pub AnswersLine : S → S → Result (List Command) LineError → List ℕ → List ℕ → Type 0
+  AnswersLine s s' parsed text text' = (answer : List ℕ) × (text' ≡ text ++ answer) × IsAnswer s s' parsed answer
 
 module _ (denotes : List ℕ → Result Command LineError) where
   -- the command of a piece; a blank piece is an error

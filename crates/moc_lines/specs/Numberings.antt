@@ -64,7 +64,7 @@ converted_number r n = do
 -- a number, or the error, as a line
 abbrev pub number_line : Result ℕ NumberError → List ℕ
 number_line (Ok n) = decimal n ++ 10 ∷ []
-number_line (Err fault) = fault_report (name_of_number_error fault)
+number_line (Err error) = fault_report (name_of_number_error error)
 
 -- the rules that answer lines of numbers; blank lines have no answer, and the closing text is empty
 abbrev pub renumber_rules : Rules Renumbering

@@ -1,8 +1,8 @@
 -- Definitions that only contracts of private functions and views of types use.
-pub mod ReadErrors
 pub mod ReaderState
 pub mod LineReading
 pub mod Ended
 pub mod Input
 pub mod Finding
+pub mod TextErrors
 pub mod Verbs

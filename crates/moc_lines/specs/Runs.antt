@@ -7,13 +7,11 @@ use Rattle.moc_text.specs.Lines.{lines_of, is_line_feed}
 use Rattle.std.specs.FinSet as set
 use Rattle.moc_lists.specs.RangeList.{NumberSet}
 use Rattle.moc_parts.specs.declared.command.Command.{Command}
-use Rattle.moc_lines.specs.declared.fault.LineError.{LineError}
+use Rattle.moc_lines.specs.declared.error.LineError.{LineError}
 use Rattle.moc_lines.specs.Language.{batch_of, command_of, line_answer, after_line}
-use Rattle.moc_devices.specs.Devices.{Reading, Delivers, IsEnded, Writing, Accepts, CallsMore}
+use Rattle.moc_devices.specs.Devices.{SourceState, Delivers, IsEnded, SinkState, Accepts, CallsMore}
 use Rattle.moc_lines.specs.declared.run_error.RunError.{RunError}
-use Rattle.moc_lines.specs.declared.run_error.RunError.TheVariants.{Read, Write, LineTooLong, Memory}
-use Rattle.moc_lines.specs.declared.reading.ScriptInputError.{ScriptInputError}
-use Rattle.moc_lines.specs.declared.reading.ScriptInputError.TheVariants as input
+use Rattle.moc_lines.specs.declared.run_error.RunError.TheVariants.{Read, Write, LineTooLong, Memory, Spawn}
 
 -- The answers to a script
 
@@ -97,18 +95,18 @@ pub record IsUnclosed (number : ℕ) (given closing : List ℕ) : Type 0 where
   pub some : closing ≢ []
 
 -- a source was not read since the first state, or its last read did not find the end
-abbrev pub HasNotEnded : Reading → Reading → Type 0
+abbrev pub HasNotEnded : SourceState → SourceState → Type 0
 HasNotEnded reading reading' = (reading' ≡ reading) ⊎ (reading'.ended ≡ false)
 
 module _ {S : Type 0} (rules : Rules S) (s : S) where
   -- the writer has accepted the answers to all whole lines that the reader has delivered, both since the first states
-  pub record AreLinesAnswered (reading reading' : Reading) (writing writing' : Writing) : Type 0 where
+  pub record AreLinesAnswered (reading reading' : SourceState) (writing writing' : SinkState) : Type 0 where
     pub given : List ℕ
     pub delivered : Delivers reading reading' given
     pub accepted : Accepts writing writing' (answers_to rules s (whole_lines_of given))
 
 -- at Ok all was read and all is flushed; at an error all is flushed only if it was before
-pub record EndsFlushed {T E : Type 0} (result : Result T E) (reading' : Reading) (before after : Bool)
+pub record EndsFlushed {T E : Type 0} (result : Result T E) (reading' : SourceState) (before after : Bool)
     : Type 0 where
   pub end : OnOk result (IsEnded reading')
   pub flushed : OnOk result (IsTrue after)
@@ -129,8 +127,9 @@ Flushes (Err _) old new = CallsMore old new 0
 module _ {S : Type 0} (limit : ℕ) (rules : Rules S) (s : S) where
   -- The output of a run with this result whose source delivered this input. At Ok the source has ended, and the output
   -- is the text of the whole input. At an error that is not the writer's it is the answers to the lines before the
-  -- error. After a failed write only `Runs.is_prefix` is known.
-  abbrev pub IsOutput : (input : List ℕ) (at_end : Reading) → Result (Unit {0}) RunError → (output : List ℕ) → Type 0
+  -- error. After a failed write only `Runs.is_prefix` is known. A run starts no thread.
+  abbrev pub IsOutput :
+      (input : List ℕ) (at_end : SourceState) → Result (Unit {0}) RunError → (output : List ℕ) → Type 0
   IsOutput input at_end (Ok _) output =
       IsEnded at_end × AreShort limit (lines_of input) × (output ≡ script_text rules limit s input)
   IsOutput input at_end (Err Write) output = Unit {0}
@@ -143,10 +142,11 @@ module _ {S : Type 0} (limit : ℕ) (rules : Rules S) (s : S) where
       (IsUnfinishedLine line input
       ⊎ (IsEnded at_end × IsUnclosed line input (closing_after rules s (lines_of input))))
       × AreShort limit (lines_before line input) × (output ≡ answers_to rules s (lines_before line input))
+  IsOutput input at_end (Err Spawn) output = ⊥
 
   -- What a run did: its source delivered the input, and its sink accepted the output. The output is a prefix of the
   -- text of the input and of any bytes that may still follow; no byte follows once the source has ended.
-  pub record Runs (reading reading' : Reading) (writing writing' : Writing) (result : Result (Unit {0}) RunError)
+  pub record Runs (reading reading' : SourceState) (writing writing' : SinkState) (result : Result (Unit {0}) RunError)
       : Type 0 where
     pub input : List ℕ
     pub output : List ℕ
@@ -157,31 +157,33 @@ module _ {S : Type 0} (limit : ℕ) (rules : Rules S) (s : S) where
     pub is_output : IsOutput input reading' result output
 
 -- The source delivered its whole input, to its end, and the sink accepted the text of that input.
-abbrev pub AnswersAll : (text_of : List ℕ → List ℕ) (reading reading' : Reading) (writing writing' : Writing) → Type 0
+abbrev pub AnswersAll :
+    (text_of : List ℕ → List ℕ) (reading reading' : SourceState) (writing writing' : SinkState) → Type 0
 AnswersAll text_of reading reading' writing writing' =
     (input : List ℕ) × Delivers reading reading' input × IsEnded reading' × Accepts writing writing' (text_of input)
 
 -- If the source reports its input, then whatever the result is, the output is a prefix of the text of that input; at Ok
 -- the source delivered the whole of it.
 pub record AnswersReportedInput {S : Type 0} (limit : ℕ) (rules : Rules S) : Type 0 where
-  pub is_prefix : (s : S) (input : List ℕ) (a b : Reading) (w v : Writing) (result : Result (Unit {0}) RunError)
+  pub is_prefix : (s : S) (input : List ℕ) (a b : SourceState) (w v : SinkState) (result : Result (Unit {0}) RunError)
       → a.left ≡ Some input → (runs : Runs limit rules s a b w v result)
       → (rest : List ℕ) × (script_text rules limit s input ≡ runs.output ++ rest)
-  pub is_whole : (s : S) (input : List ℕ) (a b : Reading) (w v : Writing) (result : Result (Unit {0}) RunError)
+  pub is_whole : (s : S) (input : List ℕ) (a b : SourceState) (w v : SinkState) (result : Result (Unit {0}) RunError)
       → a.left ≡ Some input → (runs : Runs limit rules s a b w v result) → OnOk result (runs.input ≡ input)
 
 -- A script that is read whole
 
 -- all was read, and no line of it has more bytes than the limit
-abbrev pub ReadsAll : Reading → Reading → List ℕ → Type 0
+abbrev pub ReadsAll : SourceState → SourceState → List ℕ → Type 0
 ReadsAll reading reading' input =
     Delivers reading reading' input × IsEnded reading' × AreShort line_limit (lines_of input)
 
--- the line that the error names, of what was given, is over the limit, or is the unfinished one
-abbrev pub FailsOn : List ℕ → ScriptInputError → Type 0
-FailsOn given input.Read = Unit {0}
-FailsOn given (input.TooLong line) = IsTooLong line_limit (lines_of given) line
-FailsOn given (input.Memory line) = IsUnfinishedLine line given
+-- the error of reading a script: the line that it names, of what was given, is over the limit, or is the unfinished one
+abbrev pub FailsOn : List ℕ → RunError → Type 0
+FailsOn given Read = Unit {0}
+FailsOn given (LineTooLong line) = IsTooLong line_limit (lines_of given) line
+FailsOn given (Memory line) = IsUnfinishedLine line given
+FailsOn given _ = ⊥
 
 -- the name of the error of a run that ended early
 abbrev pub name_of_run_error : RunError → List ℕ
@@ -189,9 +191,4 @@ name_of_run_error Read = codes "Read"
 name_of_run_error Write = codes "Write"
 name_of_run_error (LineTooLong line) = codes "LineTooLong"
 name_of_run_error (Memory line) = codes "Memory"
-
--- the error of an input as the error of a run
-abbrev pub error_of_input : ScriptInputError → RunError
-error_of_input input.Read = Read
-error_of_input (input.TooLong line) = LineTooLong line
-error_of_input (input.Memory line) = Memory line
+name_of_run_error Spawn = codes "Spawn"

@@ -1,44 +1,65 @@
-//! The answers of a map to lines of commands.
-ghost use Rattle.std.specs.Prelude.{◌≡◌, ◌++◌, ◌∷◌, [], Ok, OnOk};
-ghost use Rattle.moc_lines.specs.Language.{after_batch, answer_to};
+//! The answers to lines of commands.
+ghost use Rattle.std.specs.Prelude.{◌≡◌, ⊤, OnOk, false};
+ghost use Rattle.moc_parts.specs.Batches.{replies_on, set_after_all};
+ghost use Rattle.moc_lines.specs.Language.{AnswersLine, batch_of, command_of, is_blank_text};
 ghost use Rattle.moc_lines.specs.Runs.{script_rules};
 
-use crate::fault::{ReadError, push_error};
+use crate::error::{LineError, push_error};
+use crate::executor::Executor;
 use crate::language::{Commands, read_commands};
 use crate::reply_text::push_reply_line;
 use crate::responder::Responder;
 use crate::words::is_blank_text;
-use moc_parts::{Batch, Command, Map};
+use moc_parts::{Batch, Command, Map, Replies, Reply};
 use moc_ranges::Memory;
 use std::alloc::Global;
 use std::slice;
 
-/// Applies a batch and appends the answer.
-fn answer_batch(
-    map: &mut Map,
+/// Answers a line that is not blank: executes its commands, and appends the replies, or the error of the line.
+///
+/// # Errors
+/// Fails with `Memory` if an allocation fails. The text may then end with a part of the answer.
+///
+/// # Complexity
+/// Linear in the lengths of the line and the answer, and the cost of the commands.
+pub fn answer_commands<E: Executor>(
+    executor: &mut E,
     alloc: Global,
-    batch: &Batch,
+    line: &[u8],
     text: &mut Vec<u8>,
 ) -> Result<(), Memory>
-    ensures text { OnOk result (text.new.items ≡ text.old.items ++ answer_to map.old (Ok batch.now)) }
-    ensures after { OnOk result (map.new ≡ after_batch map.old (Ok batch.now)) }
+    requires ready { E.ready executor.old }
+    ensures ready { E.ready executor.new }
+    ensures answer { OnOk result (AnswersLine E.executes executor.old executor.new (batch_of command_of line.now)
+        text.old.items text.new.items) }
 {
-    let replies = map.apply(alloc, batch)?;
-    push_reply_line(alloc, replies.as_slice(), text)
+    match read_commands(alloc, line) {
+        Ok(Commands::One(command)) => {
+            let reply = executor.execute(alloc, command)?;
+            push_reply_line(alloc, slice::from_ref(&reply), text)
+        }
+        Ok(Commands::Several(batch)) => {
+            let replies = executor.execute_batch(alloc, &batch)?;
+            push_reply_line(alloc, replies.as_slice(), text)
+        }
+        Err(LineError::Memory) => Err(Memory),
+        Err(error) => push_error(error.name(), text),
+    }
 }
 
-/// Applies one command and appends the answer. Equivalent to a batch of one command, without allocating a list.
-fn answer_command(
-    map: &mut Map,
-    alloc: Global,
-    command: &Command,
-    text: &mut Vec<u8>,
-) -> Result<(), Memory>
-    ensures text { OnOk result (text.new.items ≡ text.old.items ++ answer_to map.old (Ok (command.now ∷ []))) }
-    ensures after { OnOk result (map.new ≡ after_batch map.old (Ok (command.now ∷ []))) }
-{
-    let reply = map.answer(alloc, command)?;
-    push_reply_line(alloc, slice::from_ref(&reply), text)
+impl Executor for Map {
+    ghost ready = { λ _. ⊤ };
+
+    ghost executes = { λ old commands replies new.
+        (replies ≡ replies_on old commands) × (new ≡ set_after_all old commands) };
+
+    fn execute(&mut self, alloc: Global, command: Command) -> Result<Reply, Memory> {
+        self.answer(alloc, &command)
+    }
+
+    fn execute_batch(&mut self, alloc: Global, batch: &Batch) -> Result<Replies, Memory> {
+        self.apply(alloc, batch)
+    }
 }
 
 impl Responder for Map {
@@ -53,12 +74,7 @@ impl Responder for Map {
         if is_blank_text(line) {
             return Ok(());
         }
-        match read_commands(alloc, line) {
-            Ok(Commands::One(command)) => answer_command(self, alloc, &command, text),
-            Ok(Commands::Several(batch)) => answer_batch(self, alloc, &batch, text),
-            Err(ReadError::Fault(fault)) => push_error(fault.name(), text),
-            Err(ReadError::Memory) => Err(Memory),
-        }
+        answer_commands(self, alloc, line, text)
     }
 
     fn close(&self, _alloc: Global, _text: &mut Vec<u8>) -> Result<(), Memory> {

@@ -6,7 +6,7 @@ ghost use Rattle.moc_text.specs.Lines.{is_semicolon, pieces_of};
 
 use crate::bytes::first_or_len;
 use crate::command::read_command;
-use crate::fault::{LineError, ReadError};
+use crate::error::LineError;
 use crate::words::is_blank_text;
 use moc_parts::{Batch, Command, MAX_COMMANDS};
 use std::alloc::Global;
@@ -27,18 +27,18 @@ fn semicolons_in(line: &[u8]) -> usize
 }
 
 /// Parses a piece of a line.
-pub(crate) fn read_piece(alloc: Global, piece: &[u8]) -> Result<Command, ReadError>
+pub(crate) fn read_piece(alloc: Global, piece: &[u8]) -> Result<Command, LineError>
     ensures { ParsesAs (λ command. command) result (piece_command command_of piece.now) }
 {
     if is_blank_text(piece) {
-        return Err(LineError::EmptyCommand.into());
+        return Err(LineError::EmptyCommand);
     }
     read_command(alloc, piece)
 }
 
 /// Parses the pieces of a line. The first piece ends at `first`. Fails if there are more than 16; the error is then
 /// unspecified.
-fn read_pieces(alloc: Global, line: &[u8], first: usize) -> Result<Vec<Command>, ReadError>
+fn read_pieces(alloc: Global, line: &[u8], first: usize) -> Result<Vec<Command>, LineError>
     requires { first ≡ position_or_len is_semicolon line.now }
     ensures bounded { OnOk result (length (pieces_of line.now) ≤ MAX_COMMANDS) }
     ensures reads { length (pieces_of line.now) ≤ MAX_COMMANDS
@@ -49,13 +49,9 @@ fn read_pieces(alloc: Global, line: &[u8], first: usize) -> Result<Vec<Command>,
     let mut at = first;
     for _piece in 0..MAX_COMMANDS {
         let (piece, following) = rest.split_at(at);
-        match read_piece(alloc, piece) {
-            Ok(command) => {
-                if commands.push(command).is_err() {
-                    return Err(ReadError::Memory);
-                }
-            }
-            Err(error) => return Err(error),
+        let command = read_piece(alloc, piece)?;
+        if commands.push(command).is_err() {
+            return Err(LineError::Memory);
         }
         if at == rest.len() {
             return Ok(commands);
@@ -63,28 +59,28 @@ fn read_pieces(alloc: Global, line: &[u8], first: usize) -> Result<Vec<Command>,
         rest = following.split_at(1).1;
         at = first_semicolon(rest);
     }
-    Err(LineError::TooManyCommands.into())
+    Err(LineError::TooManyCommands)
 }
 
 /// Returns the error of a line with an invalid piece: `TooManyCommands` takes precedence.
-fn error_of_line(line: &[u8], fault: LineError) -> LineError
-    ensures { result ≡ (if nat_lt 16 (length (pieces_of line.now)) then LineError.TooManyCommands else fault) }
+fn error_of_line(line: &[u8], error: LineError) -> LineError
+    ensures { result ≡ (if nat_lt 16 (length (pieces_of line.now)) then LineError.TooManyCommands else error) }
 {
     if semicolons_in(line) >= MAX_COMMANDS {
         LineError::TooManyCommands
     } else {
-        fault
+        error
     }
 }
 
 /// Parses a line that is not blank. Its first semicolon is at `first`; if it has none, `first` is its length.
-pub(crate) fn read_batch_at(alloc: Global, line: &[u8], first: usize) -> Result<Batch, ReadError>
+pub(crate) fn read_batch_at(alloc: Global, line: &[u8], first: usize) -> Result<Batch, LineError>
     requires { first ≡ position_or_len is_semicolon line.now }
     ensures { ParsesAs (λ batch. batch) result (batch_of command_of line.now) }
 {
     match read_pieces(alloc, line, first) {
         Ok(commands) => Ok(Batch::of(commands)),
-        Err(ReadError::Fault(fault)) => Err(ReadError::Fault(error_of_line(line, fault))),
-        Err(ReadError::Memory) => Err(ReadError::Memory),
+        Err(LineError::Memory) => Err(LineError::Memory),
+        Err(error) => Err(error_of_line(line, error)),
     }
 }

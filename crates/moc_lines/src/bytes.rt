@@ -2,9 +2,6 @@
 ghost use Rattle.std.specs.Prelude.{◌≡◌, ◌≤◌, ◌==◌, length};
 ghost use Rattle.std.specs.List.{position_or_len};
 
-/// The number of bytes to read at a time.
-pub(crate) const CHUNK_SIZE: usize = 65_536;
-
 /// Returns the first position of a byte, or the length if the byte does not occur.
 pub(crate) fn first_or_len(byte: u8, bytes: &[u8]) -> usize
     ensures value { result ≡ position_or_len (λ b. b == byte) bytes.now }

@@ -4,7 +4,7 @@ ghost use Rattle.moc_lines.specs.Language.{coverage_of, order_of, plain_operand_
 ghost use Rattle.moc_lines.specs.Language.{near_of, command_named, command_with, command_of, ParsesAs};
 ghost use Rattle.moc_lines.specs.Private.Verbs.{verb_command, word_command, near_command};
 
-use crate::fault::{LineError, ReadError};
+use crate::error::LineError;
 use crate::fields::{only_field, two_fields};
 use crate::words::{is_blank_text, is_word, parse_decimal, split_word};
 use moc_parts::{Command, Operand};
@@ -14,26 +14,28 @@ use moc_text::read_ascii;
 use std::alloc::Global;
 
 /// Parses a coverage in the ASCII format.
-fn read_coverage(alloc: Global, text: &[u8]) -> Result<Coverage, ReadError>
+fn read_coverage(alloc: Global, text: &[u8]) -> Result<Coverage, LineError>
     ensures { ParsesAs (λ set. set) result (coverage_of text.now) }
 {
-    let (set, _) = read_ascii(alloc, text)?;
-    Ok(set)
+    match read_ascii(alloc, text) {
+        Ok((set, _)) => Ok(set),
+        Err(error) => Err(LineError::of_text(error)),
+    }
 }
 
 /// Parses an order.
-fn read_order(field: &[u8]) -> Result<Order, ReadError>
-    ensures { ParsesAs (λ order. order) result (order_of field.now) }
+fn read_order(field: &[u8]) -> Result<Order, LineError>
+    ensures { result ≡ order_of field.now }
 {
     let number = parse_decimal(field).ok_or(LineError::BadNumber)?;
     let Ok(order) = Order::try_from(number) else {
-        return Err(LineError::OrderTooLarge.into());
+        return Err(LineError::OrderTooLarge);
     };
     Ok(order)
 }
 
 /// Parses an operand without an order: a coverage.
-fn read_plain(alloc: Global, text: &[u8]) -> Result<Operand, ReadError>
+fn read_plain(alloc: Global, text: &[u8]) -> Result<Operand, LineError>
     ensures { ParsesAs (λ operand. operand) result (plain_operand_of text.now) }
 {
     let set = read_coverage(alloc, text)?;
@@ -41,7 +43,7 @@ fn read_plain(alloc: Global, text: &[u8]) -> Result<Operand, ReadError>
 }
 
 /// Parses an operand: `@` and an order before a coverage, or a coverage alone.
-fn read_operand(alloc: Global, text: &[u8]) -> Result<Operand, ReadError>
+fn read_operand(alloc: Global, text: &[u8]) -> Result<Operand, LineError>
     ensures { ParsesAs (λ operand. operand) result (operand_of text.now) }
 {
     let (word, following) = split_word(text);
@@ -59,19 +61,19 @@ fn read_operand(alloc: Global, text: &[u8]) -> Result<Operand, ReadError>
 }
 
 /// Parses the rest of `invert`: no field.
-fn read_invert(text: &[u8]) -> Result<Command, ReadError>
-    ensures { ParsesAs (λ command. command) result (invert_of text.now) }
+fn read_invert(text: &[u8]) -> Result<Command, LineError>
+    ensures { result ≡ invert_of text.now }
 {
     if is_blank_text(text) {
         Ok(Command::Invert)
     } else {
-        Err(LineError::WrongCount.into())
+        Err(LineError::WrongCount)
     }
 }
 
 /// Parses the rest of `degrade`: exactly one field, an order.
-fn read_degrade(text: &[u8]) -> Result<Command, ReadError>
-    ensures { ParsesAs (λ command. command) result (degrade_of text.now) }
+fn read_degrade(text: &[u8]) -> Result<Command, LineError>
+    ensures { result ≡ degrade_of text.now }
 {
     let field = only_field(text)?;
     let order = read_order(field)?;
@@ -79,23 +81,23 @@ fn read_degrade(text: &[u8]) -> Result<Command, ReadError>
 }
 
 /// Parses the command `near` from its two fields: the order and the index of its cell.
-fn read_cell(order: &[u8], index: &[u8]) -> Result<Command, ReadError>
-    ensures { ParsesAs (λ command. command) result (near_command order.now index.now) }
+fn read_cell(order: &[u8], index: &[u8]) -> Result<Command, LineError>
+    ensures { result ≡ near_command order.now index.now }
 {
     let depth = parse_decimal(order).ok_or(LineError::BadNumber)?;
     let index = parse_decimal(index).ok_or(LineError::BadNumber)?;
     let Ok(order) = Order::try_from(depth) else {
-        return Err(LineError::OrderTooLarge.into());
+        return Err(LineError::OrderTooLarge);
     };
     match Cell::new(order, index) {
         Ok(cell) => Ok(Command::Near(cell)),
-        Err(_) => Err(LineError::CellTooLarge.into()),
+        Err(_) => Err(LineError::CellTooLarge),
     }
 }
 
 /// Parses the rest of `near`: exactly two fields, an order and the index of a cell.
-fn read_near(text: &[u8]) -> Result<Command, ReadError>
-    ensures { ParsesAs (λ command. command) result (near_of text.now) }
+fn read_near(text: &[u8]) -> Result<Command, LineError>
+    ensures { result ≡ near_of text.now }
 {
     let (order, index) = two_fields(text)?;
     read_cell(order, index)
@@ -150,18 +152,18 @@ impl Verb {
 }
 
 /// Parses the command with this word: its operand is the text after the word.
-fn read_with_operand(alloc: Global, word: &[u8], text: &[u8]) -> Result<Command, ReadError>
+fn read_with_operand(alloc: Global, word: &[u8], text: &[u8]) -> Result<Command, LineError>
     ensures { ParsesAs (λ command. command) result (command_with operand_of word.now text.now) }
 {
     let Some(verb) = Verb::from_word(word) else {
-        return Err(LineError::UnknownWord.into());
+        return Err(LineError::UnknownWord);
     };
     let operand = read_operand(alloc, text)?;
     Ok(verb.of(operand))
 }
 
 /// Parses the command of a piece of a line.
-pub(crate) fn read_command(alloc: Global, piece: &[u8]) -> Result<Command, ReadError>
+pub(crate) fn read_command(alloc: Global, piece: &[u8]) -> Result<Command, LineError>
     ensures { ParsesAs (λ command. command) result (command_of piece.now) }
 {
     let (word, text) = split_word(piece);

@@ -3,7 +3,7 @@ ghost use Rattle.std.specs.Prelude.{◌≡◌, ◌++◌, ◌∷◌, [], IfOk};
 ghost use Rattle.moc_lines.specs.Language.{batch_of, commands_in, command_of, ParsesAs, replies_text};
 
 use crate::batch::{first_semicolon, read_batch_at, read_piece};
-use crate::fault::ReadError;
+use crate::error::LineError;
 use crate::reply_text::push_reply_line;
 use moc_parts::{Batch, Command, Replies};
 use moc_ranges::Memory;
@@ -25,7 +25,7 @@ pub enum Commands {
 ///
 /// # Complexity
 /// Linear in the length of the line, and the cost of the sets of its operands.
-pub fn read_batch(alloc: Global, line: &[u8]) -> Result<Batch, ReadError>
+pub fn read_batch(alloc: Global, line: &[u8]) -> Result<Batch, LineError>
     ensures { ParsesAs (λ batch. batch) result (batch_of command_of line.now) }
 {
     read_batch_at(alloc, line, first_semicolon(line))
@@ -33,7 +33,7 @@ pub fn read_batch(alloc: Global, line: &[u8]) -> Result<Batch, ReadError>
 
 /// Parses a line as [`read_batch`] does, without allocating a list for one command. Errors and complexity are those of
 /// `read_batch`.
-pub fn read_commands(alloc: Global, line: &[u8]) -> Result<Commands, ReadError>
+pub fn read_commands(alloc: Global, line: &[u8]) -> Result<Commands, LineError>
     ensures { ParsesAs commands_in result (batch_of command_of line.now) }
 {
     let first = first_semicolon(line);
@@ -44,6 +44,9 @@ pub fn read_commands(alloc: Global, line: &[u8]) -> Result<Commands, ReadError>
     }
 }
 
+/// A capacity for the answer to a command whose reply has no cover.
+const SHORT_ANSWER: usize = 32;
+
 /// Returns the answer to a batch: the texts of its replies, separated by ` ; `, and a line feed. Linear in the length
 /// of the text.
 ///
@@ -52,7 +55,7 @@ pub fn read_commands(alloc: Global, line: &[u8]) -> Result<Commands, ReadError>
 pub fn answer_text(alloc: Global, replies: &Replies) -> Result<Vec<u8>, Memory>
     ensures { IfOk result (λ text. text.items ≡ replies_text replies.now ++ 10 ∷ []) }
 {
-    let mut text = Vec::new(alloc);
+    let mut text = Vec::with_capacity(alloc, SHORT_ANSWER)?;
     push_reply_line(alloc, replies.as_slice(), &mut text)?;
     Ok(text)
 }

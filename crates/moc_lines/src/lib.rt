@@ -6,11 +6,11 @@ mod answer;
 mod batch;
 mod bytes;
 mod command;
-mod fault;
+mod error;
+mod executor;
 mod fields;
 mod language;
 mod line_reader;
-mod name_error;
 mod numbering;
 mod reading;
 mod renumbering;
@@ -22,16 +22,14 @@ mod script;
 mod theorems;
 mod words;
 
-pub use fault::{LineError, ReadError, push_error};
+pub use answer::answer_commands;
+pub use error::{LineError, push_error};
+pub use executor::Executor;
 pub use fields::{only_field, two_fields};
 pub use language::{Commands, answer_text, read_batch, read_commands};
 pub use line_reader::LINE_LIMIT;
-pub use moc_devices::{
-    DeviceFault, GuardedSource, Log, OverReader, OverWriter, Sink, Source, write_all,
-};
-pub use name_error::NumberingNameError;
 pub use numbering::{NumberError, Numbering};
-pub use reading::{ScriptInputError, line_after_last, read_all, split_line};
+pub use reading::{line_after_last, read_all, split_line};
 pub use renumbering::{Renumbering, renumber};
 pub use reply_text::{push_count, push_cover, push_reply_line};
 pub use responder::Responder;

@@ -5,9 +5,9 @@ ghost use Rattle.std.specs.List.{position_or_len, before_first, after_first};
 ghost use Rattle.moc_devices.specs.Devices.{IsEnded};
 ghost use Rattle.moc_text.specs.Lines.{is_line_feed};
 
-use crate::bytes::{CHUNK_SIZE, first_or_len};
-use crate::reading::ScriptInputError;
-use moc_devices::{DeviceFault, GuardedSource};
+use crate::bytes::first_or_len;
+use crate::run_error::RunError;
+use moc_devices::{BUFFER_SIZE, DeviceFault, GuardedSource};
 use std::alloc::{AllocError, Global};
 use std::marker::Model;
 
@@ -59,7 +59,7 @@ impl LineReader {
         ensures { IfOk result (λ r. r.unread ≡ []) }
     {
         Ok(LineReader {
-            chunk: vec![in alloc; 0u8; CHUNK_SIZE]?,
+            chunk: vec![in alloc; 0u8; BUFFER_SIZE]?,
             start: 0,
             end: 0,
             feed_offset: 0,
@@ -83,7 +83,7 @@ impl LineReader {
 
     /// Moves the bytes before the first line feed from the buffer to the end of the current line, which has this
     /// number, and drops the line feed. Returns whether there was one.
-    fn take_part(&mut self, number: u64) -> Result<bool, ScriptInputError>
+    fn take_part(&mut self, number: u64) -> Result<bool, RunError>
         requires { length self.old.line ≤ LINE_LIMIT }
         ensures found { IfOk result (λ found.
             found ≡ nat_lt (position_or_len is_line_feed self.old.unread) (length self.old.unread)) }
@@ -91,15 +91,15 @@ impl LineReader {
         ensures unread { OnOk result (self.new.unread ≡ after_first is_line_feed self.old.unread) }
         ensures within { OnOk result (length self.new.line ≤ LINE_LIMIT) }
         ensures fails { IfErr result (λ e. FailsPart number LINE_LIMIT self.old e) }
-        ensures read { result ≢ Err ScriptInputError.Read }
+        ensures read { result ≢ Err RunError.Read }
     {
         let unread = &self.chunk[self.start..self.end];
         let len = self.feed_offset;
         if len > LINE_LIMIT - self.line.len() {
-            return Err(ScriptInputError::TooLong { line: number });
+            return Err(RunError::LineTooLong { line: number });
         }
         if self.line.extend_from_slice(&unread[..len]).is_err() {
-            return Err(ScriptInputError::Memory { line: number });
+            return Err(RunError::Memory { line: number });
         }
         if len < unread.len() {
             self.start += len + 1;
@@ -142,14 +142,14 @@ impl LineReader {
         number: u64,
         reader: &mut R,
         writer: &W,
-    ) -> Result<LineKind, ScriptInputError>
+    ) -> Result<LineKind, RunError>
         requires permission { PermitsReadsWithinLine R.reading R.mark (λ r. R.may_read r writer.now)
             self.old.unread reader.old }
         ensures takes { ReadsLine LINE_LIMIT self.old (R.reading reader.old) self.new (R.reading reader.new) result }
         ensures number { IfErr result (λ e. IsOfLine number e) }
         ensures more { result ≡ Ok LineKind.Line → HasNotEnded (R.reading reader.old) (R.reading reader.new) }
-        ensures read { result ≡ Err ScriptInputError.Read → IsTrue (R.mark reader.new) }
-        ensures unmarked { result ≢ Err ScriptInputError.Read → R.mark reader.new ≡ R.mark reader.old }
+        ensures read { result ≡ Err RunError.Read → IsTrue (R.mark reader.new) }
+        ensures unmarked { result ≢ Err RunError.Read → R.mark reader.new ≡ R.mark reader.old }
     {
         self.line.clear();
         loop {
@@ -157,12 +157,12 @@ impl LineReader {
                 Ok(true) => {}
                 Ok(false) if self.line.is_empty() => return Ok(LineKind::EndOfInput),
                 Ok(false) => return Ok(LineKind::LastLine),
-                Err(DeviceFault) => return Err(ScriptInputError::Read),
+                Err(DeviceFault) => return Err(RunError::Read),
             }
             match self.take_part(number) {
                 Ok(true) => return Ok(LineKind::Line),
                 Ok(false) => {}
-                Err(fault) => return Err(fault),
+                Err(error) => return Err(error),
             }
         }
     }

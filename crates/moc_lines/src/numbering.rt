@@ -3,8 +3,7 @@ ghost use Rattle.std.specs.Prelude.{◌≡◌};
 ghost use Rattle.moc_lines.specs.Numberings.{name_of_number_error, cell_number_in};
 ghost use Rattle.moc_lines.specs.Private.Finding.{FindsCell};
 
-use crate::name_error::NumberingNameError;
-use moc_sphere::{Cell, Order};
+use moc_sphere::{Cell, InvalidName, Order};
 use std::fmt;
 use std::str::FromStr;
 use thiserror::Error;
@@ -20,23 +19,24 @@ pub enum Numbering {
     Uniq,
 }
 
-/// Parses the name of a numbering on the command line: `nest`, `ring` or `uniq`. Fails with `NotNumbering` for any
-/// other word.
+/// Parses the name of a numbering on the command line: `nest`, `ring` or `uniq`. Fails for any other word.
 impl FromStr for Numbering {
-    type Err = NumberingNameError;
+    type Err = InvalidName;
 
+    ghost use Rattle.std.specs.Prelude.{codes};
     ghost use Rattle.moc_sphere.specs.Names.{ParsesName};
     ghost use Rattle.moc_lines.specs.Numberings.{numbering_name};
-    ghost use Rattle.moc_lines.specs.declared.name_error.NumberingNameError.TheVariants.{NotNumbering};
 
-    ghost from_str_gives = { ParsesName numbering_name NotNumbering };
+    ghost from_str_gives = { ParsesName numbering_name (codes "`nest`, `ring` or `uniq`") };
 
-    fn from_str(word: &str) -> Result<Numbering, NumberingNameError> {
+    fn from_str(word: &str) -> Result<Numbering, InvalidName> {
         match word {
             "nest" => Ok(Numbering::Nest),
             "ring" => Ok(Numbering::Ring),
             "uniq" => Ok(Numbering::Uniq),
-            _ => Err(NumberingNameError::NotNumbering),
+            _ => Err(InvalidName {
+                expected: "`nest`, `ring` or `uniq`",
+            }),
         }
     }
 }
@@ -61,22 +61,22 @@ impl fmt::Display for Numbering {
 #[derive(Clone, Copy, Debug, PartialEq, Eq, Error)]
 pub enum NumberError {
     /// The line has more than one field.
-    #[error("more than one field")]
+    #[error("more than one field on the line")]
     WrongCount,
     /// The field has a byte that is not a digit.
-    #[error("a field that is no number")]
+    #[error("invalid number")]
     BadNumber,
     /// The number is not the nested number of a cell of the order.
-    #[error("no cell of the order has that number")]
+    #[error("nested number out of range for the order")]
     CellTooLarge,
     /// The number is not the ring number of a cell of the order.
-    #[error("no cell of the order has that ring number")]
+    #[error("ring number out of range for the order")]
     RingTooLarge,
     /// The number is not the NUNIQ number of a cell.
-    #[error("a number that is no NUNIQ number")]
+    #[error("invalid NUNIQ number")]
     NotUniq,
     /// The number is the NUNIQ number of a cell of another order.
-    #[error("the NUNIQ number of a cell of another order")]
+    #[error("NUNIQ number of another order")]
     OtherOrder,
 }
 

@@ -7,12 +7,12 @@ ghost use Rattle.moc_text.specs.Lines.{is_line_feed, lines_of};
 ghost use Rattle.moc_lines.specs.Runs.{FailsOn, ReadsAll};
 ghost use Rattle.moc_lines.specs.Private.Input.{IsScriptState};
 
-use crate::bytes::{CHUNK_SIZE, first_or_len};
+use crate::bytes::first_or_len;
 use crate::line_reader::LINE_LIMIT;
+use crate::run_error::RunError;
 use memchr::memrchr;
-use moc_devices::{DeviceFault, Source};
+use moc_devices::{BUFFER_SIZE, DeviceFault, Source};
 use std::alloc::Global;
-use thiserror::Error;
 
 /// The bytes of a script so far.
 #[derive(Drop)]
@@ -20,26 +20,6 @@ struct Script {
     bytes: Vec<u8>,
     /// The start of the last line, which no line feed has ended yet.
     start: usize,
-}
-
-/// Why a script was not read to its end.
-#[derive(Clone, Copy, Debug, PartialEq, Eq, Error)]
-pub enum ScriptInputError {
-    /// Reading failed.
-    #[error("the input could not be read")]
-    Read,
-    /// A line is longer than the limit. Lines count from 1.
-    #[error("line {line} is too long")]
-    TooLong {
-        /// The number of the line.
-        line: u64,
-    },
-    /// An allocation failed while this line was read; 0 if it failed before the first line.
-    #[error("out of memory at line {line}")]
-    Memory {
-        /// The number of the line, from 1; or 0.
-        line: u64,
-    },
 }
 
 impl Script {
@@ -60,24 +40,24 @@ impl Script {
         line_feeds(&self.bytes) + 1
     }
 
-    /// Appends bytes. Fails with `TooLong` if the unfinished line becomes longer than the limit.
-    fn add(&mut self, chunk: &[u8]) -> Result<(), ScriptInputError>
+    /// Appends bytes. Fails with `LineTooLong` if the unfinished line becomes longer than the limit.
+    fn add(&mut self, chunk: &[u8]) -> Result<(), RunError>
         requires held { IsScriptState self.old.bytes.items self.old.start }
         requires some { 0 < length chunk.now }
-        requires short { length chunk.now ≤ CHUNK_SIZE }
+        requires short { length chunk.now ≤ BUFFER_SIZE }
         ensures held { OnOk result (IsScriptState self.new.bytes.items self.new.start) }
         ensures bytes { OnOk result (self.new.bytes.items ≡ self.old.bytes.items ++ chunk.now) }
         ensures fails { IfErr result (λ e. FailsOn (self.old.bytes.items ++ chunk.now) e) }
-        ensures read { result ≢ Err ScriptInputError.Read }
+        ensures read { result ≢ Err RunError.Read }
     {
         let before = self.bytes.len();
         if first_or_len(b'\n', chunk) > LINE_LIMIT - (before - self.start) {
-            return Err(ScriptInputError::TooLong {
+            return Err(RunError::LineTooLong {
                 line: self.unfinished_line(),
             });
         }
         let Ok(()) = self.bytes.extend_from_slice(chunk) else {
-            return Err(ScriptInputError::Memory {
+            return Err(RunError::Memory {
                 line: self.unfinished_line(),
             });
         };
@@ -113,19 +93,20 @@ pub fn line_after_last(input: &[u8]) -> u64
 /// Requires that no call of the reader has failed before.
 ///
 /// # Errors
-/// Fails if reading fails, if a line has more bytes than [`LINE_LIMIT`](crate::LINE_LIMIT), or if an allocation fails.
+/// Fails with `Read` if reading fails, with `LineTooLong` if a line has more bytes than
+/// [`LINE_LIMIT`](crate::LINE_LIMIT), and with `Memory` if an allocation fails.
 ///
 /// # Complexity
 /// Time and memory are linear in the number of bytes. Of each chunk only the first and the last line feed are searched.
-pub fn read_all<R: Source>(alloc: Global, reader: &mut R) -> Result<Vec<u8>, ScriptInputError>
+pub fn read_all<R: Source>(alloc: Global, reader: &mut R) -> Result<Vec<u8>, RunError>
     requires reader { R.mark reader.old ≡ false }
     ensures all { IfOk result (λ input. ReadsAll (R.reading reader.old) (R.reading reader.new) input.items) }
     ensures fails { IfErr result (λ e.
         (given : List ℕ) × Delivers (R.reading reader.old) (R.reading reader.new) given × FailsOn given e) }
-    ensures read { IsErrOf result ScriptInputError.Read ↔ IsTrue (R.mark reader.new) }
+    ensures read { IsErrOf result RunError.Read ↔ IsTrue (R.mark reader.new) }
 {
-    let Ok(mut chunk) = vec![in alloc; 0u8; CHUNK_SIZE] else {
-        return Err(ScriptInputError::Memory { line: 0 });
+    let Ok(mut chunk) = vec![in alloc; 0u8; BUFFER_SIZE] else {
+        return Err(RunError::Memory { line: 0 });
     };
     let mut script = Script::new(alloc);
     loop {
@@ -133,9 +114,9 @@ pub fn read_all<R: Source>(alloc: Global, reader: &mut R) -> Result<Vec<u8>, Scr
             Ok(0) => return Ok(script.bytes),
             Ok(count) => match script.add(&chunk[..count]) {
                 Ok(()) => {}
-                Err(fault) => return Err(fault),
+                Err(error) => return Err(error),
             },
-            Err(DeviceFault) => return Err(ScriptInputError::Read),
+            Err(DeviceFault) => return Err(RunError::Read),
         }
     }
 }

@@ -6,7 +6,7 @@ ghost use Rattle.moc_lines.specs.Runs.{AreLinesAnswered, HasNotEnded};
 ghost use Rattle.moc_lines.specs.Language.{◌>>=◌ as and_then};
 ghost use Rattle.moc_lines.specs.Numberings.{number_of_line, converted_number, renumber_rules};
 
-use crate::fault::push_error;
+use crate::error::push_error;
 use crate::numbering::{NumberError, Numbering};
 use crate::responder::Responder;
 use crate::run_error::RunError;
@@ -38,7 +38,7 @@ impl Renumbering {
     ///
     /// # Errors
     /// Fails with `CellTooLarge`, `RingTooLarge`, `NotUniq` or `OtherOrder` if the order has no such cell.
-    pub fn of(self, number: u64) -> Result<u64, NumberError>
+    pub fn apply(self, number: u64) -> Result<u64, NumberError>
         ensures { result ≡ converted_number self number }
     {
         let cell = self.from.cell(self.order, number)?;
@@ -46,12 +46,12 @@ impl Renumbering {
     }
 
     /// Converts the number on a line.
-    fn of_line(self, line: &[u8]) -> Result<u64, NumberError>
+    fn apply_to_line(self, line: &[u8]) -> Result<u64, NumberError>
         ensures { result ≡ and_then (number_of_line line.now) (λ n. converted_number self n) }
     {
         // Every order is at most 29, and so all its numbers have at most 62 bits.
         self.order.get();
-        self.of(read_number(line)?)
+        self.apply(read_number(line)?)
     }
 }
 
@@ -67,9 +67,9 @@ impl Responder for Renumbering {
         if is_blank_text(line) {
             return Ok(());
         }
-        match self.of_line(line) {
+        match self.apply_to_line(line) {
             Ok(number) => push_number(number, text),
-            Err(fault) => push_error(fault.name(), text),
+            Err(error) => push_error(error.name(), text),
         }
     }
 
@@ -80,7 +80,7 @@ impl Responder for Renumbering {
 
 /// Parses the number on a line, which must have exactly one field. Returns `u64::MAX` for larger numbers.
 fn read_number(line: &[u8]) -> Result<u64, NumberError>
-    ensures { result ≡ result_map_both (λ n. min n (2 ^ 64 - 1)) (λ fault. fault) (number_of_line line.now) }
+    ensures { result ≡ result_map_both (λ n. min n (2 ^ 64 - 1)) (λ error. error) (number_of_line line.now) }
 {
     if line.len() <= SAFE_DIGITS {
         if let Some(number) = parse_short_decimal(line) {

@@ -1,8 +1,7 @@
-//! Errors that end a run early.
+//! The error of a run.
 ghost use Rattle.std.specs.Prelude.{◌≡◌};
-ghost use Rattle.moc_lines.specs.Runs.{error_of_input, name_of_run_error};
+ghost use Rattle.moc_lines.specs.Runs.{name_of_run_error};
 
-use crate::reading::ScriptInputError;
 use thiserror::Error;
 
 /// Why a run ended early.
@@ -27,6 +26,9 @@ pub enum RunError {
         /// The number of the line, from 1; or 0.
         line: u64,
     },
+    /// A thread could not be started. Only a crew, which answers a script by several threads, fails with this error.
+    #[error("a thread could not be started")]
+    Spawn,
 }
 
 impl RunError {
@@ -39,18 +41,7 @@ impl RunError {
             RunError::Write => "Write",
             RunError::LineTooLong { .. } => "LineTooLong",
             RunError::Memory { .. } => "Memory",
-        }
-    }
-}
-
-impl From<ScriptInputError> for RunError {
-    ghost from_gives = { λ error e. e ≡ error_of_input error };
-
-    fn from(error: ScriptInputError) -> RunError {
-        match error {
-            ScriptInputError::Read => RunError::Read,
-            ScriptInputError::TooLong { line } => RunError::LineTooLong { line },
-            ScriptInputError::Memory { line } => RunError::Memory { line },
+            RunError::Spawn => "Spawn",
         }
     }
 }

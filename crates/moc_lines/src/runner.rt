@@ -8,14 +8,10 @@ ghost use Rattle.moc_lines.specs.Runs.{AreLinesAnswered, HasNotEnded};
 ghost use Rattle.moc_lines.specs.Private.Ended.{Ended};
 
 use crate::line_reader::{LINE_LIMIT, LineKind, LineReader};
-use crate::reading::ScriptInputError;
 use crate::responder::Responder;
 use crate::run_error::RunError;
-use moc_devices::{DeviceFault, GuardedSource, Sink, write_all};
+use moc_devices::{BUFFER_SIZE, DeviceFault, GuardedSource, Sink, write_pending};
 use std::alloc::{AllocError, Global};
-
-/// The number of bytes of answers that are buffered before they are written.
-const FLUSH_THRESHOLD: usize = 65_536;
 
 /// The state of a run: the lines to be read, and the answers that are not written yet.
 #[derive(Drop)]
@@ -66,7 +62,7 @@ impl Runner {
         if is_write(&outcome) {
             return outcome;
         }
-        if self.send(writer).is_err() {
+        if write_pending(&mut self.pending, writer).is_err() {
             return Err(RunError::Write);
         }
         if flush_if(outcome.is_ok(), writer).is_err() {
@@ -109,7 +105,7 @@ impl Runner {
                     return self.close(line + 1, responder);
                 }
                 Ok(LineKind::EndOfInput) => return self.close(line, responder),
-                Err(fault) => return Err(RunError::from(fault)),
+                Err(error) => return Err(error),
             }
         }
         Err(RunError::Memory { line: u64::MAX })
@@ -121,7 +117,7 @@ impl Runner {
         number: u64,
         reader: &mut R,
         writer: &W,
-    ) -> Result<LineKind, ScriptInputError>
+    ) -> Result<LineKind, RunError>
         requires permission { PermitsReadsWithinLine R.reading R.mark (λ r. R.may_read r writer.now)
             self.old.lines.unread reader.old }
         requires reader { R.mark reader.old ≡ false }
@@ -130,7 +126,7 @@ impl Runner {
         ensures pending { self.new.pending.items ≡ self.old.pending.items }
         ensures number { IfErr result (λ e. IsOfLine number e) }
         ensures more { result ≡ Ok LineKind.Line → HasNotEnded (R.reading reader.old) (R.reading reader.new) }
-        ensures read { result ≡ Err ScriptInputError.Read ↔ IsTrue (R.mark reader.new) }
+        ensures read { result ≡ Err RunError.Read ↔ IsTrue (R.mark reader.new) }
     {
         self.lines.next_line(number, reader, writer)
     }
@@ -141,7 +137,7 @@ impl Runner {
         ensures text { OnOk result (self.new.pending.items ≡
             self.old.pending.items ++ A.rules.answer responder.old self.old.lines.line) }
         ensures after { OnOk result (responder.new ≡ A.rules.after responder.old self.old.lines.line) }
-        ensures memory { IfErr result (λ fault. fault ≡ RunError.Memory number) }
+        ensures memory { IfErr result (λ error. error ≡ RunError.Memory number) }
         ensures err { OnErr result (self.new.pending.items ≡ self.old.pending.items) }
         ensures lines { self.new.lines ≡ self.old.lines }
     {
@@ -159,7 +155,7 @@ impl Runner {
     fn close<A: Responder>(&mut self, after_last: u64, responder: &A) -> Result<(), RunError>
         ensures text { OnOk result (self.new.pending.items ≡
             self.old.pending.items ++ A.rules.closing responder.now) }
-        ensures memory { IfErr result (λ fault. fault ≡ RunError.Memory after_last) }
+        ensures memory { IfErr result (λ error. error ≡ RunError.Memory after_last) }
         ensures some { OnErr result (A.rules.closing responder.now ≢ []) }
         ensures err { OnErr result (self.new.pending.items ≡ self.old.pending.items) }
         ensures lines { self.new.lines ≡ self.old.lines }
@@ -173,7 +169,7 @@ impl Runner {
     }
 
     /// Writes the pending answers if the buffer has no whole line, so that the next line may have to be read, or if at
-    /// least `FLUSH_THRESHOLD` bytes are pending.
+    /// least `BUFFER_SIZE` bytes are pending.
     fn send_if_due<W: Sink>(&mut self, writer: &mut W) -> Result<(), DeviceFault>
         ensures sends { Sends self.old.pending.items (W.writing writer.old)
             self.new.pending.items (W.writing writer.new) result }
@@ -181,23 +177,10 @@ impl Runner {
         ensures lines { self.new.lines ≡ self.old.lines }
         ensures writes { OnlyWrites W.mark W.flushed W.flushes writer.old writer.new (is_err result) }
     {
-        if self.lines.has_line() && self.pending.len() < FLUSH_THRESHOLD {
+        if self.lines.has_line() && self.pending.len() < BUFFER_SIZE {
             return Ok(());
         }
-        self.send(writer)
-    }
-
-    /// Writes the pending answers, in as many calls as necessary.
-    fn send<W: Sink>(&mut self, writer: &mut W) -> Result<(), DeviceFault>
-        ensures sends { Sends self.old.pending.items (W.writing writer.old)
-            self.new.pending.items (W.writing writer.new) result }
-        ensures all { OnOk result (self.new.pending.items ≡ []) }
-        ensures lines { self.new.lines ≡ self.old.lines }
-        ensures writes { OnlyWrites W.mark W.flushed W.flushes writer.old writer.new (is_err result) }
-    {
-        write_all(&self.pending, writer)?;
-        self.pending.clear();
-        Ok(())
+        write_pending(&mut self.pending, writer)
     }
 }
 

@@ -1,1 +1,1 @@
-pub mod CarriedOver
+pub mod MovedBlocks

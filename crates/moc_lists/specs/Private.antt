@@ -1,2 +1,2 @@
 -- Definitions that only this crate uses.
-pub mod BuilderState
+pub mod BlockBuilder

@@ -10,7 +10,7 @@ ghost use Rattle.moc_blocks.specs.Private.Added.{Inserts};
 use crate::chunks::Chunks;
 use crate::nodes::Nodes;
 use crate::ranges::Ranges;
-use crate::steps::{Steps, find_block, find_range};
+use crate::steps::{MAX_STEPS, Steps, find_block, find_range};
 use moc_blocks::{
     Node, insert_small, node_range_ending_after, range_ending_after, width_of_ranges,
 };
@@ -149,7 +149,7 @@ impl RangeList {
     /// range or a chunk to `steps`. Comparisons of positions, by which a chunk is found, are not counted. O((log n)²).
     #[inline]
     pub fn contains_counting(&self, pixel: u64, steps: &mut Steps) -> bool
-        requires { steps.old < 9223372036854775808 }
+        requires { steps.old < MAX_STEPS }
         ensures found { result ≡ in_ranges self.now pixel }
         ensures cost { IsSearchOf (set_of self.now) steps.old steps.new }
     {

@@ -3,12 +3,11 @@ ghost use Rattle.std.specs.Prelude.{◌≡◌, ◌+◌, ◌<◌, ◌≤◌, ◌+
 ghost use Rattle.std.specs.Prelude.{vec_len, vec_capacity, IfOk, MatchOption, OnErr, OnOk};
 ghost use Rattle.moc_blocks.specs.RangeList.{pixel_count};
 ghost use Rattle.moc_blocks.specs.Blocks.{concat};
-ghost use Rattle.moc_blocks.specs.Private.Blocks.{shift_starts, width_of, AreStored, IsCountStarted, IsStored};
+ghost use Rattle.moc_blocks.specs.Private.Blocks.{largest_u64, shift_starts, width_of, AreStored, IsCountStarted};
+ghost use Rattle.moc_blocks.specs.Private.Blocks.{IsStored};
 ghost use Rattle.moc_blocks.specs.Private.Added.{replacing, one_or_two, GrowsBy, Inserts};
 
-use moc_blocks::{
-    Block, BlockEdit, Gap, Node, NodeEdit, edit_block, edit_node, find_gap, share_nodes,
-};
+use moc_blocks::{Block, BlockEdit, Edit, Gap, Node, NodeEdit, edit_nodes, find_gap, share_nodes};
 use std::alloc::{AllocError, Global};
 use std::marker::Model;
 
@@ -60,7 +59,7 @@ fn replace_with_one(nodes: &mut Vec<Node>, place: usize, first: Node)
 /// Adjusts each start after a node before it was replaced: `less` blocks removed, and `more` added.
 fn shift_each(starts: &mut [usize], less: usize, more: usize)
     requires { (k : ℕ) → k < length starts.old
-        → (less ≤ get_or starts.old k 0) × (get_or starts.old k 0 + more ≤ 18446744073709551615) }
+        → (less ≤ get_or starts.old k 0) × (get_or starts.old k 0 + more ≤ largest_u64) }
     ensures { starts.new ≡ shift_starts less more starts.old }
 {
     if less == more {
@@ -76,7 +75,7 @@ fn shift_after(starts: &mut Vec<usize>, place: usize, less: usize, more: usize)
     requires there { place < length starts.old.items }
     requires fits { (k : ℕ) → k < length (drop (place + 1) starts.old.items)
         → (less ≤ get_or (drop (place + 1) starts.old.items) k 0)
-        × (get_or (drop (place + 1) starts.old.items) k 0 + more ≤ 18446744073709551615) }
+        × (get_or (drop (place + 1) starts.old.items) k 0 + more ≤ largest_u64) }
     ensures shift_starts { starts.new.items
         ≡ take (place + 1) starts.old.items ++ shift_starts less more (drop (place + 1) starts.old.items) }
     ensures len { vec_len starts.new ≡ vec_len starts.old }
@@ -218,41 +217,6 @@ impl Nodes {
         Ok(Some(to - from))
     }
 
-    /// Inserts a range by replacing one block in place, and returns the number of new pixels. Returns `None` if the
-    /// blocks of the node are shared, or if one block is not enough; the nodes are then unchanged.
-    fn insert_in_node(
-        &mut self,
-        alloc: Global,
-        from: u64,
-        to: u64,
-    ) -> Result<Option<u64>, AllocError>
-        requires stored { IsStored [] self.old }
-        requires filled { from < to }
-        requires within { to ≤ pixel_count }
-        ensures stored { IsStored [] self.new }
-        ensures inserted { Inserts from to (concat (concat self.old)) (concat (concat self.new)) result }
-    {
-        let Some(
-            BlockEdit {
-                node,
-                block,
-                ranges,
-                added,
-            },
-        ) = edit_block(alloc, &self.nodes, from, to)?
-        else {
-            return Ok(None);
-        };
-        let new = Block::new(alloc, ranges)?;
-        let others = self.count - self.nodes[node].count();
-        if !self.nodes[node].replace_block(block, new) {
-            return Ok(None);
-        }
-        self.size += added;
-        self.count = others + self.nodes[node].count();
-        Ok(Some(added))
-    }
-
     /// Replaces a node by one. Does not allocate.
     fn replace_node(&mut self, place: usize, node: Node, added: u64)
         requires place { place < length self.old }
@@ -325,8 +289,9 @@ impl Nodes {
         Ok(())
     }
 
-    /// Inserts a range if this changes only one block, which is rebuilt, and returns the number of new pixels. Returns
-    /// `None` if it changes more, or if the fill rule would be broken; the nodes are then unchanged.
+    /// Inserts a range if this changes only one block, which is rebuilt, and returns the number of new pixels. The
+    /// block is replaced in place if its node is not shared and it stays one block; otherwise its node is rebuilt.
+    /// Returns `None` if the range changes more, or if the fill rule would be broken; the nodes are then unchanged.
     pub(crate) fn insert(
         &mut self,
         alloc: Global,
@@ -339,14 +304,29 @@ impl Nodes {
         ensures stored { IsStored [] self.new }
         ensures inserted { Inserts from to (concat (concat self.old)) (concat (concat self.new)) result }
     {
-        if let Some(added) = self.insert_in_node(alloc, from, to)? {
-            return Ok(Some(added));
-        }
-        let Some(edit) = edit_node(alloc, self.all(), from, to)? else {
+        let Some(edit) = edit_nodes(alloc, &self.nodes, from, to)? else {
             return Ok(None);
         };
-        let added = edit.added;
-        self.put(edit)?;
+        let BlockEdit {
+            node,
+            block,
+            ranges,
+            added,
+        } = match edit {
+            Edit::Block(edit) => edit,
+            Edit::Node(edit) => {
+                let added = edit.added;
+                self.put(edit)?;
+                return Ok(Some(added));
+            }
+        };
+        let new = Block::new(alloc, ranges)?;
+        let others = self.count - self.nodes[node].count();
+        if !self.nodes[node].replace_block(block, new) {
+            return Ok(None);
+        }
+        self.size += added;
+        self.count = others + self.nodes[node].count();
         Ok(Some(added))
     }
 }

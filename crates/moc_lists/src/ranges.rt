@@ -91,7 +91,7 @@ impl<'a> Ranges<'a> {
     /// Returns a capacity for the remaining ranges: their number if all are in the current block, but at most the
     /// number that fits into a block; otherwise that number.
     #[inline]
-    pub fn room(&self) -> usize
+    pub fn capacity(&self) -> usize
         ensures fits { result ≤ MAX_BLOCK_RANGES }
         ensures enough { min (length self.now) MAX_BLOCK_RANGES ≤ result }
     {

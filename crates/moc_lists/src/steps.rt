@@ -1,5 +1,9 @@
 //! Searches for a pixel, with a count of the comparisons.
+use moc_blocks::MAX_BLOCK_RANGES;
 use std::marker::Model;
+
+/// A search requires that fewer comparisons than this were counted before.
+pub const MAX_STEPS: u64 = 9_223_372_036_854_775_808;
 
 /// A counter of the comparisons of a pixel with the bounds of a range or a block.
 #[derive(Debug, Drop)]
@@ -15,7 +19,7 @@ impl Model for Steps {
     ghost view = { λ s. s.count };
 }
 
-ghost use Rattle.std.specs.Prelude.{◌≡◌, ◌+◌, ◌<◌, ◌≤◌, ◌^◌, ℕ, length};
+ghost use Rattle.std.specs.Prelude.{◌≡◌, ◌+◌, ◌*◌, ◌<◌, ◌≤◌, ◌^◌, ℕ, length};
 ghost use Rattle.moc_blocks.specs.RangeList.{IsNormal};
 ghost use Rattle.moc_blocks.specs.Lemmas.Members.{in_ranges};
 ghost use Rattle.moc_blocks.specs.Blocks.{concat};
@@ -41,7 +45,7 @@ impl Steps {
     /// Counts one more comparison.
     #[inline]
     fn step(&mut self)
-        requires { self.old < 9223372036854776000 }
+        requires { self.old < MAX_STEPS + 2 * MAX_BLOCK_RANGES }
         ensures { self.new ≡ self.old + 1 }
     {
         self.count += 1;
@@ -51,8 +55,8 @@ impl Steps {
 /// Returns whether a range contains the pixel.
 pub(crate) fn find_range(ranges: &[(u64, u64)], pixel: u64, steps: &mut Steps) -> bool
     requires normal { IsNormal ranges.now }
-    requires fits { length ranges.now ≤ 128 }
-    requires capacity { steps.old < 9223372036854775900 }
+    requires fits { length ranges.now ≤ MAX_BLOCK_RANGES }
+    requires capacity { steps.old < MAX_STEPS + MAX_BLOCK_RANGES }
     ensures found { result ≡ in_ranges ranges.now pixel }
     ensures increases { steps.old ≤ steps.new }
     ensures cost { (d : ℕ) → length ranges.now < 2 ^ d → steps.new ≤ steps.old + d }
@@ -79,7 +83,7 @@ pub(crate) fn find_range(ranges: &[(u64, u64)], pixel: u64, steps: &mut Steps) -
 /// its position compares no pixels.
 pub(crate) fn find_block(nodes: &Nodes, pixel: u64, steps: &mut Steps) -> bool
     requires stored { AreStored (concat nodes.now) }
-    requires capacity { steps.old < 9223372036854775808 }
+    requires capacity { steps.old < MAX_STEPS }
     ensures found { result ≡ in_ranges (concat (concat nodes.now)) pixel }
     ensures increases { steps.old ≤ steps.new }
     ensures cost { (d : ℕ) → length (concat nodes.now) < 2 ^ d → steps.new ≤ steps.old + d + 8 }

@@ -109,23 +109,23 @@ odd_in (r ∷ rs) q n =
 
 -- ---- a bound is passed
 
-pub crossing_swap : (kept xs ys : List ℕ) (wx wy : List (ℕ × ℕ)) → AreBounds kept xs ys wx wy → AreBounds kept ys xs wy wx
-crossing_swap kept xs ys wx wy s = record {
+pub common_swap : (kept xs ys : List ℕ) (wx wy : List (ℕ × ℕ)) → AreBounds kept xs ys wx wy → AreBounds kept ys xs wy wx
+common_swap kept xs ys wx wy s = record {
   first = s.second;
   second = s.first;
   same = λ q. ap (λ b. exactly_one b (is_odd_at xs q)) (odd-append kept ys q) ∙ differs_last (is_odd_at kept q) (is_odd_at ys q) (is_odd_at xs q)
       ∙ ap (λ b. exactly_one b (is_odd_at ys q)) (sym (odd-append kept xs q)) ∙ s.same q ∙ differs_swap (in_ranges wx q) (in_ranges wy q);
 }
 
-crossing_first : (kept xs ys : List ℕ) (wx wy : List (ℕ × ℕ)) (a b : ℕ) → AreBounds kept (a ∷ xs) (b ∷ ys) wx wy → a < b → AreBounds (kept ++ a ∷ []) xs (b ∷ ys) wx wy
-crossing_first kept xs ys wx wy a b s lt = record {
+common_first : (kept xs ys : List ℕ) (wx wy : List (ℕ × ℕ)) (a b : ℕ) → AreBounds kept (a ∷ xs) (b ∷ ys) wx wy → a < b → AreBounds (kept ++ a ∷ []) xs (b ∷ ys) wx wy
+common_first kept xs ys wx wy a b s lt = record {
   first = subst (λ l. AreAscendingBounds 0 l) (sym (append_assoc kept (a ∷ []) xs)) s.first;
   second = subst (λ l. AreAscendingBounds 0 l) (sym (append_assoc kept (a ∷ []) (b ∷ ys))) (rises_meet kept xs ys a b 0 s.first s.second lt);
   same = λ q. ap (λ (l : List ℕ). exactly_one (is_odd_at l q) (is_odd_at (b ∷ ys) q)) (append_assoc kept (a ∷ []) xs) ∙ s.same q;
 }
 
-crossing_both : (kept xs ys : List ℕ) (wx wy : List (ℕ × ℕ)) (a b : ℕ) → AreBounds kept (a ∷ xs) (b ∷ ys) wx wy → a ≡ b → AreBounds kept xs ys wx wy
-crossing_both kept xs ys wx wy a b s is = record {
+common_both : (kept xs ys : List ℕ) (wx wy : List (ℕ × ℕ)) (a b : ℕ) → AreBounds kept (a ∷ xs) (b ∷ ys) wx wy → a ≡ b → AreBounds kept xs ys wx wy
+common_both kept xs ys wx wy a b s is = record {
   first = rises_drop kept xs a 0 s.first;
   second = rises_drop kept ys b 0 s.second;
   same = λ q. ap (λ d. exactly_one d (is_odd_at ys q)) (odd-append kept xs q)
@@ -154,8 +154,8 @@ bound_odd (r ∷ rs) (suc n) place d lt is =
 -- ---- one step of the loop
 
 keeps_one : (kept out : List ℕ) (written written' value : ℕ) → written < length out → written' ≡ written + 1 → kept ++ take written' (slice_set out written value) ≡ (kept ++ take written out) ++ value ∷ []
-keeps_one kept out written written' value room is =
-    ap (λ l. kept ++ l) (take-set_at out written written' value is room) ∙ sym (append_assoc kept (take written out) (value ∷ []))
+keeps_one kept out written written' value buffer is =
+    ap (λ l. kept ++ l) (take-set_at out written written' value is buffer) ∙ sym (append_assoc kept (take written out) (value ∷ []))
 
 ahead : (xs tail : List ℕ) (i : ℕ) → i < length xs → drop i xs ++ tail ≡ get_or xs i 0 ∷ (drop (suc i) xs ++ tail)
 ahead xs tail i lt = ap (λ l. l ++ tail) (drop-cons xs i 0 lt)
@@ -163,11 +163,11 @@ ahead xs tail i lt = ap (λ l. l ++ tail) (drop-cons xs i 0 lt)
 less_on : (kept xs ys bx by out : List ℕ) (wx wy : List (ℕ × ℕ)) (written written' i i' j value : ℕ) → AreBounds (kept ++ take written out) (drop i xs ++ bx) (drop j ys ++ by) wx wy
     → i < length xs → j < length ys → written < length out → get_or xs i 0 < get_or ys j 0 → value ≡ get_or xs i 0 → written' ≡ written + 1 → i' ≡ suc i
     → AreBounds (kept ++ take written' (slice_set out written value)) (drop i' xs ++ bx) (drop j ys ++ by) wx wy
-less_on kept xs ys bx by out wx wy written written' i i' j value s hx hy room lt is one next =
+less_on kept xs ys bx by out wx wy written written' i i' j value s hx hy buffer lt is one next =
     let there = ahead ys by j hy in
     let begun = subst (λ l. AreBounds (kept ++ take written out) l (get_or ys j 0 ∷ (drop (suc j) ys ++ by)) wx wy) (ahead xs bx i hx) (subst (λ l. AreBounds (kept ++ take written out) (drop i xs ++ bx) l wx wy) there s) in
-    let on = crossing_first (kept ++ take written out) (drop (suc i) xs ++ bx) (drop (suc j) ys ++ by) wx wy (get_or xs i 0) (get_or ys j 0) begun lt in
-    let kept' : (kept ++ take written out) ++ get_or xs i 0 ∷ [] ≡ kept ++ take written' (slice_set out written value) = ap (λ v. (kept ++ take written out) ++ v ∷ []) (sym is) ∙ sym (keeps_one kept out written written' value room one) in
+    let on = common_first (kept ++ take written out) (drop (suc i) xs ++ bx) (drop (suc j) ys ++ by) wx wy (get_or xs i 0) (get_or ys j 0) begun lt in
+    let kept' : (kept ++ take written out) ++ get_or xs i 0 ∷ [] ≡ kept ++ take written' (slice_set out written value) = ap (λ v. (kept ++ take written out) ++ v ∷ []) (sym is) ∙ sym (keeps_one kept out written written' value buffer one) in
     subst (λ n. AreBounds (kept ++ take written' (slice_set out written value)) (drop n xs ++ bx) (drop j ys ++ by) wx wy) (sym next)
     (subst (λ l. AreBounds (kept ++ take written' (slice_set out written value)) (drop (suc i) xs ++ bx) l wx wy) (sym there)
     (subst (λ l. AreBounds l (drop (suc i) xs ++ bx) (get_or ys j 0 ∷ (drop (suc j) ys ++ by)) wx wy) kept' on))
@@ -177,7 +177,7 @@ both_on : (kept xs ys bx by out : List ℕ) (wx wy : List (ℕ × ℕ)) (written
     → AreBounds (kept ++ take written' (slice_set out written value)) (drop i' xs ++ bx) (drop j' ys ++ by) wx wy
 both_on kept xs ys bx by out wx wy written written' i i' j j' value s hx hy eq none next next' =
     let begun = subst (λ l. AreBounds (kept ++ take written out) l (get_or ys j 0 ∷ (drop (suc j) ys ++ by)) wx wy) (ahead xs bx i hx) (subst (λ l. AreBounds (kept ++ take written out) (drop i xs ++ bx) l wx wy) (ahead ys by j hy) s) in
-    let on = crossing_both (kept ++ take written out) (drop (suc i) xs ++ bx) (drop (suc j) ys ++ by) wx wy (get_or xs i 0) (get_or ys j 0) begun eq in
+    let on = common_both (kept ++ take written out) (drop (suc i) xs ++ bx) (drop (suc j) ys ++ by) wx wy (get_or xs i 0) (get_or ys j 0) begun eq in
     let same : kept ++ take written out ≡ kept ++ take written' (slice_set out written value) = ap (λ l. kept ++ l) (sym (ap (λ n. take n (slice_set out written value)) none ∙ take-set out written value)) in
     subst (λ n. AreBounds (kept ++ take written' (slice_set out written value)) (drop n xs ++ bx) (drop j' ys ++ by) wx wy) (sym next)
     (subst (λ n. AreBounds (kept ++ take written' (slice_set out written value)) (drop (suc i) xs ++ bx) (drop n ys ++ by) wx wy) (sym next')
@@ -211,18 +211,18 @@ step_all x y value kept first second t = elim (cases_lt x y) [
 pub crossed_on : (kept xs ys bx by out : List ℕ) (wx wy : List (ℕ × ℕ)) (written i j value k n m : ℕ) → AreBounds (kept ++ take written out) (drop i xs ++ bx) (drop j ys ++ by) wx wy
     → i < length xs → j < length ys → written < length out → IsStep (get_or xs i 0) (get_or ys j 0) value k n m
     → AreBounds (kept ++ take (written + k) (slice_set out written value)) (drop (i + n) xs ++ bx) (drop (j + m) ys ++ by) wx wy
-crossed_on kept xs ys bx by out wx wy written i j value k n m s hx hy room t = elim (cases_lt (get_or xs i 0) (get_or ys j 0)) [
+crossed_on kept xs ys bx by out wx wy written i j value k n m s hx hy buffer t = elim (cases_lt (get_or xs i 0) (get_or ys j 0)) [
   | inl lt ↦
       let f = t.less lt in
       let at : j ≡ j + m = omega (arith, f.2) in
       subst (λ p. AreBounds (kept ++ take (written + k) (slice_set out written value)) (drop (i + n) xs ++ bx) (drop p ys ++ by) wx wy) at
-      (less_on kept xs ys bx by out wx wy written (written + k) i (i + n) j value s hx hy room lt (omega (arith, t.least)) (omega (arith, f.0)) (omega (arith, f.1)))
+      (less_on kept xs ys bx by out wx wy written (written + k) i (i + n) j value s hx hy buffer lt (omega (arith, t.least)) (omega (arith, f.0)) (omega (arith, f.1)))
   | inr ge ↦ elim (cases_lt (get_or ys j 0) (get_or xs i 0)) [
     | inl gt ↦
         let f = t.more gt in
         let at : i ≡ i + n = omega (arith, f.1) in
         subst (λ p. AreBounds (kept ++ take (written + k) (slice_set out written value)) (drop p xs ++ bx) (drop (j + m) ys ++ by) wx wy) at
-        (crossing_swap _ _ _ _ _ (less_on kept ys xs by bx out wy wx written (written + k) j (j + m) i value (crossing_swap _ _ _ _ _ s) hy hx room gt (omega (arith, t.least)) (omega (arith, f.0)) (omega (arith, f.2))))
+        (common_swap _ _ _ _ _ (less_on kept ys xs by bx out wy wx written (written + k) j (j + m) i value (common_swap _ _ _ _ _ s) hy hx buffer gt (omega (arith, t.least)) (omega (arith, f.0)) (omega (arith, f.2))))
     | inr le ↦
         let eq : get_or xs i 0 ≡ get_or ys j 0 = omega arith in
         let f = t.equal eq in
@@ -260,8 +260,8 @@ pairs_on ks ks' rest more whole a b is parts so =
 none_open : (kept more : List ℕ) → (kept ++ []) ++ more ≡ kept ++ more
 none_open kept more = ap (λ l. l ++ more) (nothing_more kept)
 
-pub crossing_of : (kept xs ys wx wy : List (ℕ × ℕ)) → IsSymmetricStep kept xs ys wx wy → IsBoundsStep kept None 0 0 xs ys wx wy
-crossing_of kept xs ys wx wy s =
+pub common_of : (kept xs ys wx wy : List (ℕ × ℕ)) → IsSymmetricStep kept xs ys wx wy → IsBoundsStep kept None 0 0 xs ys wx wy
+common_of kept xs ys wx wy s =
     let before_xs = EndsBelow-more (min (next_of xs) (next_of ys)) (next_of xs) kept s.below (omega arith) in
     let before_ys = EndsBelow-more (min (next_of xs) (next_of ys)) (next_of ys) kept s.below (omega arith) in
     let all_xs = normal_append kept xs s.normal s.first_normal before_xs in
@@ -302,7 +302,7 @@ differing_of kept xs ys wx wy s =
 
 pub crossed_swap : (kept : List (ℕ × ℕ)) (bound : Option ℕ) (i j : ℕ) (xs ys wx wy : List (ℕ × ℕ)) → IsBoundsStep kept bound i j xs ys wx wy → IsBoundsStep kept bound j i ys xs wy wx
 crossed_swap kept bound i j xs ys wx wy s = record {
-  symmetric_bounds = crossing_swap _ _ _ wx wy s.symmetric_bounds;
+  symmetric_bounds = common_swap _ _ _ wx wy s.symmetric_bounds;
   one = omega (arith, s.one);
   first_some = s.second_some;
   second_some = s.first_some;
@@ -347,7 +347,7 @@ apart_differing kept bound i j xs ys wx wy is s =
 pub apart_crossed : (kept : List (ℕ × ℕ)) (bound : Option ℕ) (i j : ℕ) (xs ys wx wy : List (ℕ × ℕ)) → bound ≡ None → (i ≡ 0) × (j ≡ 0) → IsSymmetricStep kept xs ys wx wy → IsBoundsStep kept bound i j xs ys wx wy
 apart_crossed kept bound i j xs ys wx wy is z d =
     subst (λ o. IsBoundsStep kept o i j xs ys wx wy) (sym is)
-    (subst (λ n. IsBoundsStep kept None i n xs ys wx wy) (sym z.1) (subst (λ n. IsBoundsStep kept None n 0 xs ys wx wy) (sym z.0) (crossing_of kept xs ys wx wy d)))
+    (subst (λ n. IsBoundsStep kept None i n xs ys wx wy) (sym z.1) (subst (λ n. IsBoundsStep kept None n 0 xs ys wx wy) (sym z.0) (common_of kept xs ys wx wy d)))
 
 pub can_first : (kept xs ys wx wy : List (ℕ × ℕ)) → IsSymmetricStep kept xs ys wx wy → CanAppend xs kept
 can_first kept xs ys wx wy d = record { normal = d.first_normal; built = d.normal; after = EndsBelow-more (min (next_of xs) (next_of ys)) (next_of xs) kept d.below (omega arith) }

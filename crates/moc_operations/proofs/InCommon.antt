@@ -16,7 +16,7 @@ use Rattle.moc_operations.proofs.Merging.{next_later}
 use Rattle.moc_blocks.proofs.Merging.{ends_next, EndsBelow-append, EndsBelow-more}
 use Rattle.moc_blocks.proofs.Blocking.{IsNormal-suffix}
 use Rattle.moc_blocks.proofs.Passing.{ends_by_more}
-use Rattle.moc_operations.proofs.CarriedOver.{carried_after}
+use Rattle.moc_operations.proofs.MovedBlocks.{carried_after}
 use Rattle.moc_operations.proofs.Walking.{and_swap, begun_is}
 
 inside : (a b c d from to q : ℕ) (later more : Bool) → b ≤ d → from ≡ max a c → to ≡ min b d → q < b → more ≡ false → (((nat_le a q && nat_lt q b) || later) && ((nat_le c q && nat_lt q d) || more)) ≡ ((nat_le from q && nat_lt q to) || (later && ((nat_le c q && nat_lt q d) || more)))
@@ -62,8 +62,8 @@ pub record IsIntersectionStep (ks xs ys whole_xs whole_ys : List (ℕ × ℕ)) :
   pub same : (q : ℕ) → (in_ranges ks q || (in_ranges xs q && in_ranges ys q)) ≡ (in_ranges whole_xs q && in_ranges whole_ys q)
 
 -- the common part of the first list's next range and the second's was appended
-pub meeting_kept : (ks ks' xs ys whole_xs whole_ys : List (ℕ × ℕ)) (x y : ℕ × ℕ) → IsIntersectionStep ks (x ∷ xs) (y ∷ ys) whole_xs whole_ys → x.1 ≤ y.1 → IsNormal ks' → ((f : ℕ) → max x.0 y.0 ≤ f → min x.1 y.1 < f → EndsBelow f ks') → ((q : ℕ) → in_ranges ks' q ≡ (in_ranges ks q || in_range (max x.0 y.0, min x.1 y.1) q)) → IsIntersectionStep ks' xs (y ∷ ys) whole_xs whole_ys
-meeting_kept ks ks' xs ys whole_xs whole_ys x y s ends built below same =
+pub intersection_kept : (ks ks' xs ys whole_xs whole_ys : List (ℕ × ℕ)) (x y : ℕ × ℕ) → IsIntersectionStep ks (x ∷ xs) (y ∷ ys) whole_xs whole_ys → x.1 ≤ y.1 → IsNormal ks' → ((f : ℕ) → max x.0 y.0 ≤ f → min x.1 y.1 < f → EndsBelow f ks') → ((q : ℕ) → in_ranges ks' q ≡ (in_ranges ks q || in_range (max x.0 y.0, min x.1 y.1) q)) → IsIntersectionStep ks' xs (y ∷ ys) whole_xs whole_ys
+intersection_kept ks ks' xs ys whole_xs whole_ys x y s ends built below same =
     let next : x.1 < next_of xs = (ends_next (x ∷ []) xs s.first_normal).0 in
     let filled : x.0 < x.1 = s.first_normal.0 in
     record {
@@ -77,8 +77,8 @@ meeting_kept ks ks' xs ys whole_xs whole_ys x y s ends built below same =
           ∙ s.same q;
     }
 
-pub meeting_swap : (ks xs ys whole_xs whole_ys : List (ℕ × ℕ)) → IsIntersectionStep ks xs ys whole_xs whole_ys → IsIntersectionStep ks ys xs whole_ys whole_xs
-meeting_swap ks xs ys whole_xs whole_ys s = record {
+pub intersection_swap : (ks xs ys whole_xs whole_ys : List (ℕ × ℕ)) → IsIntersectionStep ks xs ys whole_xs whole_ys → IsIntersectionStep ks ys xs whole_ys whole_xs
+intersection_swap ks xs ys whole_xs whole_ys s = record {
   built = s.built;
   first_normal = s.second_normal;
   second_normal = s.first_normal;
@@ -91,7 +91,7 @@ pub meeting_kept_back : (ks ks' xs ys whole_xs whole_ys : List (ℕ × ℕ)) (x 
 meeting_kept_back ks ks' xs ys whole_xs whole_ys x y s ends built below same =
     let from : max x.0 y.0 ≡ max y.0 x.0 = omega arith in
     let to : min x.1 y.1 ≡ min y.1 x.1 = omega arith in
-    meeting_kept ks ks' ys xs whole_ys whole_xs y x (meeting_swap ks (x ∷ xs) (y ∷ ys) whole_xs whole_ys s) ends built
+    intersection_kept ks ks' ys xs whole_ys whole_xs y x (intersection_swap ks (x ∷ xs) (y ∷ ys) whole_xs whole_ys s) ends built
     (λ f le lt. below f (omega arith) (omega arith)) (λ q. same q ∙ (λ i. in_ranges ks q || in_range (from i, to i) q))
 
 ends_by_in : (limit : ℕ) (rs : List (ℕ × ℕ)) (q : ℕ) → EndsBy limit rs → in_ranges rs q ≡ true → q < limit
@@ -114,8 +114,8 @@ common_parts removed xs ys y q ascending ended =
     (λ here. let lt : q < y.1 = ends_by_in y.1 removed q ended here in none_early y.1 q ys ascending.2 ascending.1 (omega arith))
 
 -- the common parts of more ranges of the first list and the second's next range were appended
-pub meeting_taken : (ks ks' xs xs' ys whole_xs whole_ys : List (ℕ × ℕ)) (y : ℕ × ℕ) → IsIntersectionStep ks xs (y ∷ ys) whole_xs whole_ys → MovesCommon xs xs' y ks ks' → IsIntersectionStep ks' xs' (y ∷ ys) whole_xs whole_ys
-meeting_taken ks ks' xs xs' ys whole_xs whole_ys y s t = record {
+pub intersection_taken : (ks ks' xs xs' ys whole_xs whole_ys : List (ℕ × ℕ)) (y : ℕ × ℕ) → IsIntersectionStep ks xs (y ∷ ys) whole_xs whole_ys → MovesCommon xs xs' y ks ks' → IsIntersectionStep ks' xs' (y ∷ ys) whole_xs whole_ys
+intersection_taken ks ks' xs xs' ys whole_xs whole_ys y s t = record {
   built = t.built;
   first_normal = IsNormal-suffix t.removed xs' (subst IsNormal t.parts s.first_normal);
   second_normal = s.second_normal;

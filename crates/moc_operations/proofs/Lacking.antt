@@ -67,8 +67,8 @@ pub record IsDifferenceStep (ks xs ys whole_xs whole_ys : List (ℕ × ℕ)) : T
   pub below : EndsBelow (next_of xs) ks
   pub same : (q : ℕ) → (in_ranges ks q || (in_ranges xs q && not (in_ranges ys q))) ≡ (in_ranges whole_xs q && not (in_ranges whole_ys q))
 
-pub lacking_begin : (ks xs ys u : List (ℕ × ℕ)) (s : Option (ℕ × ℕ)) → ks ≡ [] → IsNormal xs → IsNormal ys → Steps ys s u → IsDifferenceStep ks xs (from_current s u) xs ys
-lacking_begin ks xs ys u s n nx ny su =
+pub difference_begin : (ks xs ys u : List (ℕ × ℕ)) (s : Option (ℕ × ℕ)) → ks ≡ [] → IsNormal xs → IsNormal ys → Steps ys s u → IsDifferenceStep ks xs (from_current s u) xs ys
+difference_begin ks xs ys u s n nx ny su =
     let by = begun_is ys s u su in
     let start : IsDifferenceStep [] xs ys xs ys = record {
       built = tt;
@@ -79,8 +79,8 @@ lacking_begin ks xs ys u s n nx ny su =
     } in
     subst (λ (l : List (ℕ × ℕ)). IsDifferenceStep ks xs l xs ys) (sym by) (rw n start)
 
-pub lacking_trim : (ks ks' xs ys t whole_xs whole_ys : List (ℕ × ℕ)) (x y : ℕ × ℕ) (to : ℕ) (r : Option (ℕ × ℕ)) → IsDifferenceStep ks (x ∷ xs) (y ∷ ys) whole_xs whole_ys → x.0 < y.1 → y.1 < x.1 → to ≡ min x.1 y.0 → IsNormal ks' → ((f : ℕ) → x.0 ≤ f → to < f → EndsBelow f ks') → ((q : ℕ) → in_ranges ks' q ≡ (in_ranges ks q || in_range (x.0, to) q)) → Steps ys r t → IsDifferenceStep ks' ((y.1, x.1) ∷ xs) (from_current r t) whole_xs whole_ys
-lacking_trim ks ks' xs ys t whole_xs whole_ys x y to r l lookahead ends is built below same e =
+pub difference_trim : (ks ks' xs ys t whole_xs whole_ys : List (ℕ × ℕ)) (x y : ℕ × ℕ) (to : ℕ) (r : Option (ℕ × ℕ)) → IsDifferenceStep ks (x ∷ xs) (y ∷ ys) whole_xs whole_ys → x.0 < y.1 → y.1 < x.1 → to ≡ min x.1 y.0 → IsNormal ks' → ((f : ℕ) → x.0 ≤ f → to < f → EndsBelow f ks') → ((q : ℕ) → in_ranges ks' q ≡ (in_ranges ks q || in_range (x.0, to) q)) → Steps ys r t → IsDifferenceStep ks' ((y.1, x.1) ∷ xs) (from_current r t) whole_xs whole_ys
+difference_trim ks ks' xs ys t whole_xs whole_ys x y to r l lookahead ends is built below same e =
     let b = begun_is ys r t e in
     let filled : y.0 < y.1 = l.second_normal.0 in
     subst (λ (k : List (ℕ × ℕ)). IsDifferenceStep ks' ((y.1, x.1) ∷ xs) k whole_xs whole_ys) (sym b) (record {
@@ -127,8 +127,8 @@ carried_has (r ∷ removed) xs ys q normal other below =
     let alone : in_range r q ≡ true → in_ranges ys q ≡ false = λ here. none_before ys q other (omega (arith, below.0, (range_from r q here).1)) in
     carried_bool (in_range r q) (in_ranges (removed ++ xs) q) (in_ranges ys q) (in_ranges removed q) (in_ranges xs q) rest alone
 
-pub lacking_carried : (ks ks' xs xs' ys whole_xs whole_ys : List (ℕ × ℕ)) (limit : ℕ) → IsDifferenceStep ks xs ys whole_xs whole_ys → limit ≡ next_of ys → MovesPrefix xs xs' limit ks ks' → IsDifferenceStep ks' xs' ys whole_xs whole_ys
-lacking_carried ks ks' xs xs' ys whole_xs whole_ys limit l is c =
+pub difference_moved : (ks ks' xs xs' ys whole_xs whole_ys : List (ℕ × ℕ)) (limit : ℕ) → IsDifferenceStep ks xs ys whole_xs whole_ys → limit ≡ next_of ys → MovesPrefix xs xs' limit ks ks' → IsDifferenceStep ks' xs' ys whole_xs whole_ys
+difference_moved ks ks' xs xs' ys whole_xs whole_ys limit l is c =
     let normal = subst IsNormal c.parts l.first_normal in
     let later = next_later c.removed xs' normal in
     record {
@@ -157,8 +157,8 @@ passed_has (r ∷ removed) xs y ys q normal ended later =
     let at = range_from r q here in range_is y q (omega (arith, at.0, later)) (omega (arith, at.1, ended.0)) in
     passed_bool (in_range r q) (in_ranges xs q) (in_range y q) (in_ranges ys q) (in_ranges (removed ++ xs) q) rest inside
 
-pub lacking_passed : (ks xs ys t whole_xs whole_ys : List (ℕ × ℕ)) (y : ℕ × ℕ) (r : Option (ℕ × ℕ)) (n : ℕ) → IsDifferenceStep ks xs (y ∷ ys) whole_xs whole_ys → y.0 ≤ next_of xs → Advances y xs t r n → IsDifferenceStep ks (from_current r t) (y ∷ ys) whole_xs whole_ys
-lacking_passed ks xs ys t whole_xs whole_ys y r n l from a =
+pub difference_passed : (ks xs ys t whole_xs whole_ys : List (ℕ × ℕ)) (y : ℕ × ℕ) (r : Option (ℕ × ℕ)) (n : ℕ) → IsDifferenceStep ks xs (y ∷ ys) whole_xs whole_ys → y.0 ≤ next_of xs → Advances y xs t r n → IsDifferenceStep ks (from_current r t) (y ∷ ys) whole_xs whole_ys
+difference_passed ks xs ys t whole_xs whole_ys y r n l from a =
     let b = begun_is a.rest r t a.step in
     let parts = a.passed.parts in
     let normal = subst IsNormal parts l.first_normal in
@@ -180,8 +180,8 @@ skipped_has : (removed ys : List (ℕ × ℕ)) (x : ℕ × ℕ) (xs : List (ℕ 
 skipped_has [] ys x xs q normal ended = refl
 skipped_has (y ∷ removed) ys x xs q normal ended = past x y xs (removed ++ ys) q normal ended.0 ∙ skipped_has removed ys x xs q normal ended.1
 
-pub lacking_skipped : (ks xs ys t whole_xs whole_ys : List (ℕ × ℕ)) (x y : ℕ × ℕ) (f r : Option (ℕ × ℕ)) (n : ℕ) → IsDifferenceStep ks (x ∷ xs) (y ∷ ys) whole_xs whole_ys → f ≡ Some x → y.1 ≤ x.0 → Advances (x.0, x.0) ys t r n → IsDifferenceStep ks (from_current f xs) (from_current r t) whole_xs whole_ys
-lacking_skipped ks xs ys t whole_xs whole_ys x y f r n l is le a =
+pub difference_skipped : (ks xs ys t whole_xs whole_ys : List (ℕ × ℕ)) (x y : ℕ × ℕ) (f r : Option (ℕ × ℕ)) (n : ℕ) → IsDifferenceStep ks (x ∷ xs) (y ∷ ys) whole_xs whole_ys → f ≡ Some x → y.1 ≤ x.0 → Advances (x.0, x.0) ys t r n → IsDifferenceStep ks (from_current f xs) (from_current r t) whole_xs whole_ys
+difference_skipped ks xs ys t whole_xs whole_ys x y f r n l is le a =
     let b = begun_is a.rest r t a.step in
     let c : from_current f xs ≡ x ∷ xs = ap (λ o. from_current o xs) is in
     let parts = a.passed.parts in
@@ -198,8 +198,8 @@ lacking_skipped ks xs ys t whole_xs whole_ys x y f r n l is le a =
     }))
 
 -- the part of the first list's next range before the second's was appended
-pub lacking_kept : (ks ks' xs ys whole_xs whole_ys : List (ℕ × ℕ)) (x y : ℕ × ℕ) (to : ℕ) → IsDifferenceStep ks (x ∷ xs) (y ∷ ys) whole_xs whole_ys → x.1 ≤ y.1 → to ≡ min x.1 y.0 → IsNormal ks' → ((f : ℕ) → x.0 ≤ f → to < f → EndsBelow f ks') → ((q : ℕ) → in_ranges ks' q ≡ (in_ranges ks q || in_range (x.0, to) q)) → IsDifferenceStep ks' xs (y ∷ ys) whole_xs whole_ys
-lacking_kept ks ks' xs ys whole_xs whole_ys x y to l ends is built below same =
+pub difference_kept : (ks ks' xs ys whole_xs whole_ys : List (ℕ × ℕ)) (x y : ℕ × ℕ) (to : ℕ) → IsDifferenceStep ks (x ∷ xs) (y ∷ ys) whole_xs whole_ys → x.1 ≤ y.1 → to ≡ min x.1 y.0 → IsNormal ks' → ((f : ℕ) → x.0 ≤ f → to < f → EndsBelow f ks') → ((q : ℕ) → in_ranges ks' q ≡ (in_ranges ks q || in_range (x.0, to) q)) → IsDifferenceStep ks' xs (y ∷ ys) whole_xs whole_ys
+difference_kept ks ks' xs ys whole_xs whole_ys x y to l ends is built below same =
     let next : x.1 < next_of xs = (ends_next (x ∷ []) xs l.first_normal).0 in
     let filled : x.0 < x.1 = l.first_normal.0 in
     record {
@@ -214,8 +214,8 @@ lacking_kept ks ks' xs ys whole_xs whole_ys x y to l ends is built below same =
     }
 
 -- the second list has no more ranges
-pub lacking_all : (ks ks' xs ys whole_xs whole_ys : List (ℕ × ℕ)) (x : ℕ × ℕ) (s : Option (ℕ × ℕ)) → IsDifferenceStep ks (x ∷ xs) (from_current s ys) whole_xs whole_ys → s ≡ None → IsNormal ks' → ((f : ℕ) → x.0 ≤ f → x.1 < f → EndsBelow f ks') → ((q : ℕ) → in_ranges ks' q ≡ (in_ranges ks q || in_range (x.0, x.1) q)) → IsDifferenceStep ks' xs [] whole_xs whole_ys
-lacking_all ks ks' xs ys whole_xs whole_ys x s from none built below same =
+pub difference_all : (ks ks' xs ys whole_xs whole_ys : List (ℕ × ℕ)) (x : ℕ × ℕ) (s : Option (ℕ × ℕ)) → IsDifferenceStep ks (x ∷ xs) (from_current s ys) whole_xs whole_ys → s ≡ None → IsNormal ks' → ((f : ℕ) → x.0 ≤ f → x.1 < f → EndsBelow f ks') → ((q : ℕ) → in_ranges ks' q ≡ (in_ranges ks q || in_range (x.0, x.1) q)) → IsDifferenceStep ks' xs [] whole_xs whole_ys
+difference_all ks ks' xs ys whole_xs whole_ys x s from none built below same =
     let empty : from_current s ys ≡ [] = ap (λ o. from_current o ys) none in
     let l = subst (λ (k : List (ℕ × ℕ)). IsDifferenceStep ks (x ∷ xs) k whole_xs whole_ys) empty from in
     let next : x.1 < next_of xs = (ends_next (x ∷ []) xs l.first_normal).0 in

@@ -6,7 +6,7 @@ pub mod MeetingOn
 pub mod GapsOf
 pub mod Lacking
 pub mod Walking
-pub mod CarriedOver
+pub mod MovedBlocks
 pub mod Slices
 pub mod Shortening
 pub mod Differing

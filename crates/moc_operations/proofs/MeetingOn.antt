@@ -35,10 +35,10 @@ no_lt : (a b : ℕ) → b ≤ a → nat_lt a b ≡ false
 no_lt a b le = grind (arith, nat_tests)
 
 pub kept_at : (out : List (ℕ × ℕ)) (written from to n : ℕ) → written < length out → n ≡ bool_byte (nat_lt from to) → take (written + n) (slice_set out written (from, to)) ≡ take written out ++ list_if (nat_lt from to) (from, to)
-kept_at out written from to n room e = elim (cases_lt from to) [
+kept_at out written from to n buffer e = elim (cases_lt from to) [
   | inl lt ↦
       let one = lt_byte from to n e lt in
-      take-set_at out written (written + n) (from, to) (omega arith) room ∙ ap (λ b. take written out ++ list_if b (from, to)) (sym (lt-ltb from to lt))
+      take-set_at out written (written + n) (from, to) (omega arith) buffer ∙ ap (λ b. take written out ++ list_if b (from, to)) (sym (lt-ltb from to lt))
   | inr ge ↦
       let none = no_lt_byte from to n e ge in
       let at : written + n ≡ written = omega arith in

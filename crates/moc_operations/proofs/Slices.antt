@@ -50,8 +50,8 @@ pub record IsUnionOfSlices (kept xs ys whole_xs whole_ys : List (ℕ × ℕ)) : 
   pub below : EndsBelow (min (next_of xs) (next_of ys)) kept
   pub same : (q : ℕ) → (in_ranges kept q || (in_ranges xs q || in_ranges ys q)) ≡ (in_ranges whole_xs q || in_ranges whole_ys q)
 
-pub uniting_few_start : (kept xs ys whole_xs whole_ys : List (ℕ × ℕ)) → kept ≡ [] → whole_xs ≡ xs → whole_ys ≡ ys → IsNormal whole_xs → IsNormal whole_ys → IsUnionOfSlices kept xs ys whole_xs whole_ys
-uniting_few_start kept xs ys whole_xs whole_ys none ex ey nx ny = subst (λ (k : List (ℕ × ℕ)). IsUnionOfSlices k xs ys whole_xs whole_ys) (sym none) (record {
+pub union_slices_start : (kept xs ys whole_xs whole_ys : List (ℕ × ℕ)) → kept ≡ [] → whole_xs ≡ xs → whole_ys ≡ ys → IsNormal whole_xs → IsNormal whole_ys → IsUnionOfSlices kept xs ys whole_xs whole_ys
+union_slices_start kept xs ys whole_xs whole_ys none ex ey nx ny = subst (λ (k : List (ℕ × ℕ)). IsUnionOfSlices k xs ys whole_xs whole_ys) (sym none) (record {
   normal = tt;
   first_normal = subst IsNormal ex nx;
   second_normal = subst IsNormal ey ny;
@@ -65,8 +65,8 @@ or_swap true false = refl
 or_swap false true = refl
 or_swap false false = refl
 
-pub uniting_few_swap : (kept xs ys whole_xs whole_ys : List (ℕ × ℕ)) → IsUnionOfSlices kept xs ys whole_xs whole_ys → IsUnionOfSlices kept ys xs whole_ys whole_xs
-uniting_few_swap kept xs ys whole_xs whole_ys s = record {
+pub union_slices_swap : (kept xs ys whole_xs whole_ys : List (ℕ × ℕ)) → IsUnionOfSlices kept xs ys whole_xs whole_ys → IsUnionOfSlices kept ys xs whole_ys whole_xs
+union_slices_swap kept xs ys whole_xs whole_ys s = record {
   normal = s.normal;
   first_normal = s.second_normal;
   second_normal = s.first_normal;
@@ -91,8 +91,8 @@ settled_bool : (k k' x xs y ys z w : Bool) → (k' || z) ≡ (k || (x || y)) →
 settled_bool k k' x xs y ys z w e f = or_moved k' xs z ys ∙ ap (λ b. b || (xs || ys)) e ∙ or_parted k x xs y ys ∙ f
 
 -- the range that ends first was appended or merged
-pub uniting_few_settled : (kept kept' xs ys whole_xs whole_ys : List (ℕ × ℕ)) (x y z : ℕ × ℕ) → IsUnionOfSlices kept (x ∷ xs) (y ∷ ys) whole_xs whole_ys → IsAppendedOrMerged x y z kept kept' → IsUnionOfSlices kept' xs (z ∷ ys) whole_xs whole_ys
-uniting_few_settled kept kept' xs ys whole_xs whole_ys x y z s t =
+pub union_slices_settled : (kept kept' xs ys whole_xs whole_ys : List (ℕ × ℕ)) (x y z : ℕ × ℕ) → IsUnionOfSlices kept (x ∷ xs) (y ∷ ys) whole_xs whole_ys → IsAppendedOrMerged x y z kept kept' → IsUnionOfSlices kept' xs (z ∷ ys) whole_xs whole_ys
+union_slices_settled kept kept' xs ys whole_xs whole_ys x y z s t =
     let next : x.1 < next_of xs = (ends_next (x ∷ []) xs s.first_normal).0 in
     record {
       normal = t.normal;
@@ -241,8 +241,8 @@ lacked_few_rest kept xs ys whole_xs whole_ys s none q =
 pub lacked_few_normal : (kept xs ys whole_xs whole_ys : List (ℕ × ℕ)) → IsDifferenceOfSlices kept xs ys whole_xs whole_ys → IsNormal (kept ++ xs)
 lacked_few_normal kept xs ys whole_xs whole_ys s = normal_append kept xs s.normal s.first_normal s.below
 
-pub uniting_few_at : (kept xs xs' ys whole_xs whole_ys : List (ℕ × ℕ)) → IsUnionOfSlices kept xs ys whole_xs whole_ys → xs ≡ xs' → IsUnionOfSlices kept xs' ys whole_xs whole_ys
-uniting_few_at kept xs xs' ys whole_xs whole_ys s is = subst (λ (l : List (ℕ × ℕ)). IsUnionOfSlices kept l ys whole_xs whole_ys) is s
+pub union_slices_at : (kept xs xs' ys whole_xs whole_ys : List (ℕ × ℕ)) → IsUnionOfSlices kept xs ys whole_xs whole_ys → xs ≡ xs' → IsUnionOfSlices kept xs' ys whole_xs whole_ys
+union_slices_at kept xs xs' ys whole_xs whole_ys s is = subst (λ (l : List (ℕ × ℕ)). IsUnionOfSlices kept l ys whole_xs whole_ys) is s
 
 pub lacking_few_at : (kept xs xs' ys whole_xs whole_ys : List (ℕ × ℕ)) → IsDifferenceOfSlices kept xs ys whole_xs whole_ys → xs ≡ xs' → IsDifferenceOfSlices kept xs' ys whole_xs whole_ys
 lacking_few_at kept xs xs' ys whole_xs whole_ys s is = subst (λ (l : List (ℕ × ℕ)). IsDifferenceOfSlices kept l ys whole_xs whole_ys) is s

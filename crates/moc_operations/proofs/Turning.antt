@@ -14,8 +14,8 @@ or_second true true c = refl
 or_second true false c = refl
 or_second false b c = refl
 
-turn_at : (x : ℕ × ℕ) (xs ys : List (ℕ × ℕ)) → IsNormal (x ∷ xs) → IsNormal ys → x.0 ≤ next_of ys → TakesFirst (x ∷ xs) ys x xs ys
-turn_at x xs ys n m le =
+symmetric_at : (x : ℕ × ℕ) (xs ys : List (ℕ × ℕ)) → IsNormal (x ∷ xs) → IsNormal ys → x.0 ≤ next_of ys → TakesFirst (x ∷ xs) ys x xs ys
+symmetric_at x xs ys n m le =
     let later : x.0 ≤ next_of xs = next_later (x ∷ []) xs n in
     record {
       first_normal = n.3;
@@ -29,8 +29,8 @@ turn_at x xs ys n m le =
       onward = omega arith;
     }
 
-turn_other : (y : ℕ × ℕ) (xs ys : List (ℕ × ℕ)) → IsNormal xs → IsNormal (y ∷ ys) → y.0 ≤ next_of xs → TakesFirst xs (y ∷ ys) y xs ys
-turn_other y xs ys n m le =
+symmetric_other : (y : ℕ × ℕ) (xs ys : List (ℕ × ℕ)) → IsNormal xs → IsNormal (y ∷ ys) → y.0 ≤ next_of xs → TakesFirst xs (y ∷ ys) y xs ys
+symmetric_other y xs ys n m le =
     let later : y.0 ≤ next_of ys = next_later (y ∷ []) ys m in
     record {
       first_normal = n;
@@ -44,17 +44,17 @@ turn_other y xs ys n m le =
       onward = omega arith;
     }
 
-pub turn_first : (xs ys more more' bx by : List (ℕ × ℕ)) (x y : ℕ × ℕ) → xs ≡ x ∷ more → ys ≡ y ∷ more' → x.0 ≤ y.0 → IsNormal (xs ++ bx) → IsNormal (ys ++ by) → TakesFirst (xs ++ bx) (ys ++ by) x (more ++ bx) (ys ++ by)
-turn_first xs ys more more' bx by x y ex ey le n m =
+pub symmetric_first : (xs ys more more' bx by : List (ℕ × ℕ)) (x y : ℕ × ℕ) → xs ≡ x ∷ more → ys ≡ y ∷ more' → x.0 ≤ y.0 → IsNormal (xs ++ bx) → IsNormal (ys ++ by) → TakesFirst (xs ++ bx) (ys ++ by) x (more ++ bx) (ys ++ by)
+symmetric_first xs ys more more' bx by x y ex ey le n m =
     let head : next_of (ys ++ by) ≡ y.0 = ap (λ (l : List (ℕ × ℕ)). next_of (l ++ by)) ey in
     subst (λ (l : List (ℕ × ℕ)). TakesFirst (l ++ bx) (ys ++ by) x (more ++ bx) (ys ++ by)) (sym ex)
-    (turn_at x (more ++ bx) (ys ++ by) (subst (λ (l : List (ℕ × ℕ)). IsNormal (l ++ bx)) ex n) m (omega arith))
+    (symmetric_at x (more ++ bx) (ys ++ by) (subst (λ (l : List (ℕ × ℕ)). IsNormal (l ++ bx)) ex n) m (omega arith))
 
-pub turn_second : (xs ys more more' bx by : List (ℕ × ℕ)) (x y : ℕ × ℕ) → xs ≡ x ∷ more → ys ≡ y ∷ more' → y.0 ≤ x.0 → IsNormal (xs ++ bx) → IsNormal (ys ++ by) → TakesFirst (xs ++ bx) (ys ++ by) y (xs ++ bx) (more' ++ by)
-turn_second xs ys more more' bx by x y ex ey le n m =
+pub symmetric_second : (xs ys more more' bx by : List (ℕ × ℕ)) (x y : ℕ × ℕ) → xs ≡ x ∷ more → ys ≡ y ∷ more' → y.0 ≤ x.0 → IsNormal (xs ++ bx) → IsNormal (ys ++ by) → TakesFirst (xs ++ bx) (ys ++ by) y (xs ++ bx) (more' ++ by)
+symmetric_second xs ys more more' bx by x y ex ey le n m =
     let head : next_of (xs ++ bx) ≡ x.0 = ap (λ (l : List (ℕ × ℕ)). next_of (l ++ bx)) ex in
     subst (λ (l : List (ℕ × ℕ)). TakesFirst (xs ++ bx) (l ++ by) y (xs ++ bx) (more' ++ by)) (sym ey)
-    (turn_other y (xs ++ bx) (more' ++ by) n (subst (λ (l : List (ℕ × ℕ)). IsNormal (l ++ by)) ey m) (omega arith))
+    (symmetric_other y (xs ++ bx) (more' ++ by) n (subst (λ (l : List (ℕ × ℕ)). IsNormal (l ++ by)) ey m) (omega arith))
 
 pub joining_step : (ks ks' xs xs' ys ys' whole whole_xs whole_ys : List (ℕ × ℕ)) (last last' range : ℕ × ℕ) → IsMerging ks last xs ys whole whole_xs whole_ys → TakesFirst xs ys range xs' ys' → IsNormal (ks' ++ last' ∷ []) → last'.0 ≤ range.0 → ((q : ℕ) → in_ranges (ks' ++ last' ∷ []) q ≡ (in_ranges (ks ++ last ∷ []) q || in_range range q)) → IsMerging ks' last' xs' ys' whole whole_xs whole_ys
 joining_step ks ks' xs xs' ys ys' whole whole_xs whole_ys last last' range s t opened later same = record {

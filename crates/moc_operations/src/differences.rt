@@ -9,8 +9,8 @@ ghost use Rattle.moc_operations.specs.Private.Meeting.{gaps_of, CanIntersect, Sk
 
 use crate::gaps::Gaps;
 use crate::lookahead::{FAR, NEAR, are_even};
-use crate::meeting::{MAX_OUTPUT, intersect_ranges};
-use crate::sharing::{next_after_shared, push_part, push_whole, skip_below, start_of};
+use crate::range_intersection::{MAX_OUTPUT, intersect_ranges};
+use crate::sharing::{next_after_copied, push_part, push_whole, skip_below, start_of};
 use crate::slice::difference_slices;
 use moc_lists::{ListBuilder, RangeList, Ranges};
 use std::alloc::{AllocError, Global};
@@ -25,13 +25,13 @@ fn difference_lists(
     requires ys { IsNormal ys }
     ensures { IfOk result (λ l. set_of l ≡ set.difference (set_of xs.entry) (set_of ys.entry)) }
 {
-    let mut built = ListBuilder::new(alloc, xs.room() + ys.room())?;
+    let mut built = ListBuilder::new(alloc, xs.capacity() + ys.capacity())?;
     let mut second = ys.next();
-    let mut first = next_after_shared(alloc, &mut xs, start_of(second), &mut built)?;
+    let mut first = next_after_copied(alloc, &mut xs, start_of(second), &mut built)?;
     while let Some(x) = first {
         let Some(y) = second else {
             push_part(alloc, x.0, x.1, &mut built)?;
-            first = next_after_shared(alloc, &mut xs, u64::MAX, &mut built)?;
+            first = next_after_copied(alloc, &mut xs, u64::MAX, &mut built)?;
             continue;
         };
         if y.1 <= x.0 {
@@ -43,7 +43,7 @@ fn difference_lists(
             first = Some((y.1, x.1));
             second = ys.next();
         } else if x.1 <= y.0 {
-            first = next_after_shared(alloc, &mut xs, y.0, &mut built)?;
+            first = next_after_copied(alloc, &mut xs, y.0, &mut built)?;
         } else {
             first = xs.advance(y, NEAR).next;
         }
@@ -94,7 +94,7 @@ fn subtract_block(
     xs: &mut Ranges<'_>,
     ys: &mut Ranges<'_>,
     low: &mut u64,
-    room: &mut [(u64, u64); MAX_OUTPUT],
+    buffer: &mut [(u64, u64); MAX_OUTPUT],
     built: &mut ListBuilder,
 ) -> Result<bool, AllocError>
     requires can { CanIntersect xs.old (gaps_of low.old ys.old) (ranges_of built.old) }
@@ -115,8 +115,8 @@ fn subtract_block(
         low: *low,
         ranges: second.ranges,
     };
-    let met = intersect_ranges(first.ranges, &gaps, room);
-    built.push_all(alloc, &room[..met.written])?;
+    let met = intersect_ranges(first.ranges, &gaps, buffer);
+    built.push_all(alloc, &buffer[..met.written])?;
     *low = gaps.low_at(met.second);
     xs.resume(&first.ranges[met.first..], first.tail);
     ys.resume(&second.ranges[met.second..], second.tail);
@@ -153,12 +153,12 @@ fn difference_blocks(
     requires ys { IsNormal ys }
     ensures { IfOk result (λ l. set_of l ≡ set.difference (set_of xs.entry) (set_of ys.entry)) }
 {
-    let mut built = ListBuilder::new(alloc, xs.room() + ys.room())?;
-    let mut room = [(0, 0); MAX_OUTPUT];
+    let mut built = ListBuilder::new(alloc, xs.capacity() + ys.capacity())?;
+    let mut buffer = [(0, 0); MAX_OUTPUT];
     let mut low = 0;
     loop {
         align_lists(alloc, &mut xs, &mut ys, low, &mut built)?;
-        let met = subtract_block(alloc, &mut xs, &mut ys, &mut low, &mut room, &mut built)?;
+        let met = subtract_block(alloc, &mut xs, &mut ys, &mut low, &mut buffer, &mut built)?;
         if !met {
             return finish_difference(alloc, xs, low, built);
         }

@@ -2,7 +2,7 @@
 ghost use Rattle.std.specs.Prelude.{◌≡◌, ◌≤◌, length, take};
 ghost use Rattle.moc_operations.specs.Private.Meeting.{gaps_before, end_of};
 
-use crate::meeting::RangesByPosition;
+use crate::range_intersection::RangesByPosition;
 
 /// The gaps before the ranges of a block, if what precedes them ends at `low`.
 #[derive(Clone, Copy)]

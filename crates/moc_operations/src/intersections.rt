@@ -10,7 +10,7 @@ ghost use Rattle.moc_operations.specs.Private.Taking.{AddsPart, MovesCommon};
 ghost use Rattle.moc_operations.specs.Private.Meeting.{CanIntersect, Intersects};
 
 use crate::lookahead::{FAR, NEAR, are_even};
-use crate::meeting::{MAX_OUTPUT, intersect_ranges};
+use crate::range_intersection::{MAX_OUTPUT, intersect_ranges};
 use crate::sharing::{next_after_shared, push_part, push_whole, skip_below};
 use crate::slice::intersection_slices;
 use moc_lists::{ListBuilder, RangeList, Ranges};
@@ -67,7 +67,7 @@ fn intersection_lists(
     requires ys { IsNormal ys }
     ensures { IfOk result (λ l. set_of l ≡ set.intersection (set_of xs.entry) (set_of ys.entry)) }
 {
-    let mut built = ListBuilder::new(alloc, xs.room() + ys.room())?;
+    let mut built = ListBuilder::new(alloc, xs.capacity() + ys.capacity())?;
     let mut first = xs.next();
     let mut second = ys.next();
     while let Some(x) = first {
@@ -104,7 +104,7 @@ fn intersect_block(
     alloc: Global,
     xs: &mut Ranges<'_>,
     ys: &mut Ranges<'_>,
-    room: &mut [(u64, u64); MAX_OUTPUT],
+    buffer: &mut [(u64, u64); MAX_OUTPUT],
     built: &mut ListBuilder,
 ) -> Result<bool, AllocError>
     requires can { CanIntersect xs.old ys.old (ranges_of built.old) }
@@ -120,8 +120,8 @@ fn intersect_block(
     let Some(second) = ys.next_block() else {
         return Ok(false);
     };
-    let met = intersect_ranges(first.ranges, &second.ranges, room);
-    built.push_all(alloc, &room[..met.written])?;
+    let met = intersect_ranges(first.ranges, &second.ranges, buffer);
+    built.push_all(alloc, &buffer[..met.written])?;
     xs.resume(&first.ranges[met.first..], first.tail);
     ys.resume(&second.ranges[met.second..], second.tail);
     Ok(true)
@@ -133,7 +133,7 @@ fn intersect_next(
     alloc: Global,
     xs: &mut Ranges<'_>,
     ys: &mut Ranges<'_>,
-    room: &mut [(u64, u64); MAX_OUTPUT],
+    buffer: &mut [(u64, u64); MAX_OUTPUT],
     built: &mut ListBuilder,
 ) -> Result<bool, AllocError>
     requires can { CanIntersect xs.old ys.old (ranges_of built.old) }
@@ -146,7 +146,7 @@ fn intersect_next(
     if skip_leading(xs, ys) {
         return Ok(true);
     }
-    intersect_block(alloc, xs, ys, room, built)
+    intersect_block(alloc, xs, ys, buffer, built)
 }
 
 /// If the first iterator is not inside a block and the second is, advances the first: skips what ends before the second
@@ -178,10 +178,10 @@ fn intersection_blocks(
     requires ys { IsNormal ys }
     ensures { IfOk result (λ l. set_of l ≡ set.intersection (set_of xs.entry) (set_of ys.entry)) }
 {
-    let mut built = ListBuilder::new(alloc, xs.room() + ys.room())?;
-    let mut room = [(0, 0); MAX_OUTPUT];
+    let mut built = ListBuilder::new(alloc, xs.capacity() + ys.capacity())?;
+    let mut buffer = [(0, 0); MAX_OUTPUT];
     loop {
-        let met = intersect_next(alloc, &mut xs, &mut ys, &mut room, &mut built)?;
+        let met = intersect_next(alloc, &mut xs, &mut ys, &mut buffer, &mut built)?;
         if !met {
             return built.finish(alloc);
         }

@@ -8,6 +8,7 @@ ghost use Rattle.moc_operations.specs.Private.Taking.{AddsPart, MovesCommon};
 ghost use Rattle.moc_operations.specs.Private.Meeting.{SkipsBelow};
 ghost use Rattle.moc_operations.specs.Private.Walks.{from_current};
 
+use crate::lookahead::NEAR;
 use moc_lists::{ListBuilder, Ranges};
 use std::alloc::{AllocError, Global};
 
@@ -62,6 +63,43 @@ pub fn next_after_shared(
 {
     push_shared_below(alloc, xs, limit, built)?;
     Ok(xs.next())
+}
+
+/// Appends the next ranges of the current block that end below the limit, if they are many.
+#[inline(always)]
+fn push_ranges_below(
+    alloc: Global,
+    xs: &mut Ranges<'_>,
+    limit: u64,
+    built: &mut ListBuilder,
+) -> Result<(), AllocError>
+    requires { CanAppend xs.old (ranges_of built.old) }
+    ensures { OnOk result (MovesPrefix xs.old xs.new limit (ranges_of built.old) (ranges_of built.new)) }
+{
+    if xs.is_near(limit, NEAR) {
+        return Ok(());
+    }
+    match xs.take_ranges_below(limit) {
+        Some(ranges) => built.push_all(alloc, ranges),
+        None => Ok(()),
+    }
+}
+
+/// Does the same as `next_after_shared`, but first appends the next ranges of the current block that end below the
+/// limit, if they are many.
+#[inline(always)]
+pub fn next_after_copied(
+    alloc: Global,
+    xs: &mut Ranges<'_>,
+    limit: u64,
+    built: &mut ListBuilder,
+) -> Result<Option<(u64, u64)>, AllocError>
+    requires { CanAppend xs.old (ranges_of built.old) }
+    ensures { IfOk result (λ next.
+        MovesPrefix xs.old (from_current next xs.new) limit (ranges_of built.old) (ranges_of built.new)) }
+{
+    push_ranges_below(alloc, xs, limit, built)?;
+    next_after_shared(alloc, xs, limit, built)
 }
 
 /// Appends a range to the result, unless it is empty.

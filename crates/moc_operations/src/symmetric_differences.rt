@@ -104,7 +104,7 @@ fn symmetric_lists(
     requires ys { IsNormal ys }
     ensures { IfOk result (λ l. set_of l ≡ symmetric (set_of xs.entry) (set_of ys.entry)) }
 {
-    let mut built = ListBuilder::new(alloc, xs.room() + ys.room())?;
+    let mut built = ListBuilder::new(alloc, xs.capacity() + ys.capacity())?;
     let mut first = next_after_shared(alloc, &mut xs, ys.next_from(), &mut built)?;
     let mut second = next_after_shared(alloc, &mut ys, start_of(first), &mut built)?;
     while let Some(x) = first {
@@ -167,7 +167,7 @@ fn symmetric_block(
     xs: &mut Ranges<'_>,
     ys: &mut Ranges<'_>,
     opened: &mut OpenBound,
-    room: &mut [u64; MAX_BOUNDS],
+    buffer: &mut [u64; MAX_BOUNDS],
     built: &mut ListBuilder,
 ) -> Result<bool, AllocError>
     requires started { HasBounds (ranges_of built.old) opened.old xs.old ys.old }
@@ -187,9 +187,9 @@ fn symmetric_block(
         first_ranges(second.ranges),
         (opened.first, opened.second),
         opened.bound,
-        room,
+        buffer,
     );
-    opened.bound = push_pairs(alloc, &room[..crossed.written], built)?;
+    opened.bound = push_pairs(alloc, &buffer[..crossed.written], built)?;
     opened.first = crossed.first % 2;
     opened.second = crossed.second % 2;
     resume_after(xs, first, crossed.first / 2);
@@ -266,8 +266,8 @@ fn symmetric_blocks(
     requires ys { IsNormal ys }
     ensures { IfOk result (λ l. set_of l ≡ symmetric (set_of xs.entry) (set_of ys.entry)) }
 {
-    let mut built = ListBuilder::new(alloc, xs.room() + ys.room())?;
-    let mut room = [0; MAX_BOUNDS];
+    let mut built = ListBuilder::new(alloc, xs.capacity() + ys.capacity())?;
+    let mut buffer = [0; MAX_BOUNDS];
     let mut opened = OpenBound {
         first: 0,
         second: 0,
@@ -275,7 +275,14 @@ fn symmetric_blocks(
     };
     loop {
         push_shared_apart(alloc, &mut xs, &mut ys, &opened, &mut built)?;
-        let met = symmetric_block(alloc, &mut xs, &mut ys, &mut opened, &mut room, &mut built)?;
+        let met = symmetric_block(
+            alloc,
+            &mut xs,
+            &mut ys,
+            &mut opened,
+            &mut buffer,
+            &mut built,
+        )?;
         if !met {
             return finish_symmetric_blocks(alloc, xs, ys, opened, built);
         }

@@ -200,7 +200,7 @@ fn union_lists(
     requires ys { IsNormal ys }
     ensures { IfOk result (λ l. set_of l ≡ set.union (set_of xs.entry) (set_of ys.entry)) }
 {
-    let mut built = ListBuilder::new(alloc, xs.room() + ys.room())?;
+    let mut built = ListBuilder::new(alloc, xs.capacity() + ys.capacity())?;
     loop {
         merge_blocks(alloc, &mut xs, &mut ys, turns, &mut built)?;
         let x = xs.next_from();

@@ -80,15 +80,15 @@ previous_parts cs a b each v w same n f = same_members _ _ (λ p. same_test _ _
     alike p e = let g : footprint_of_all cs (base_pixel p) ≡ true = ap (footprint_of_all cs) e ∙ f in sets_alike cs a b each v w p (same p g) same
 
 -- the replies computed from the given content are those on every set that agrees with it
-pub replied : (cs : List Command) (previous made : NumberSet) (replies : List Reply) → AreCommands cs → IsWithin made pixels → made ≡ previous → replies ≡ replies_on made cs → AreRepliesTo cs previous replies
-replied cs previous made replies each w e r a v same =
-    r ∙ ap (λ t. replies_on t cs) e ∙ previous_replies cs previous a each (subst (λ t. IsWithin t pixels) e w) v same
+pub replied : (cs : List Command) (before made : NumberSet) (replies : List Reply) → AreCommands cs → IsWithin made pixels → made ≡ before → replies ≡ replies_on made cs → AreRepliesTo cs before replies
+replied cs before made replies each w e r a v same =
+    r ∙ ap (λ t. replies_on t cs) e ∙ previous_replies cs before a each (subst (λ t. IsWithin t pixels) e w) v same
 
 -- the given content determines the whole batch
-pub determined : (cs : List Command) (previous made : NumberSet) (replies : List Reply) → AreCommands cs → IsWithin made pixels → made ≡ previous → replies ≡ replies_on made cs → IsDeterminedBy cs previous replies
-determined cs previous made replies each w e r = record {
-  replied = replied cs previous made replies each w e r;
-  inside = λ a v same b f. previous_parts cs previous a each (subst (λ t. IsWithin t pixels) e w) v same b f;
+pub determined : (cs : List Command) (before made : NumberSet) (replies : List Reply) → AreCommands cs → IsWithin made pixels → made ≡ before → replies ≡ replies_on made cs → IsDeterminedBy cs before replies
+determined cs before made replies each w e r = record {
+  replied = replied cs before made replies each w e r;
+  inside = λ a v same b f. previous_parts cs before a each (subst (λ t. IsWithin t pixels) e w) v same b f;
   outside = λ a v q f. untouched cs a each v q f;
   stays = λ a v. stays_within cs a each v;
 }

@@ -23,45 +23,45 @@ use Rattle.moc_parts.proofs.Twelve.{first_parts, has-first_parts, length-parts_b
 
 -- ---- lists
 
-pub length-current_lists : (previous : List NumberSet) (made : List (Option NumberSet)) → length (current_lists previous made) ≡ length previous
+pub length-current_lists : (before : List NumberSet) (made : List (Option NumberSet)) → length (current_lists before made) ≡ length before
 length-current_lists [] made = refl
-length-current_lists (part ∷ previous) [] = ap suc (length-current_lists previous [])
-length-current_lists (part ∷ previous) (new ∷ made) = ap suc (length-current_lists previous made)
+length-current_lists (part ∷ before) [] = ap suc (length-current_lists before [])
+length-current_lists (part ∷ before) (new ∷ made) = ap suc (length-current_lists before made)
 
-pub current_lists-no : (previous : List NumberSet) → current_lists previous [] ≡ previous
+pub current_lists-no : (before : List NumberSet) → current_lists before [] ≡ before
 current_lists-no [] = refl
-current_lists-no (part ∷ previous) = ap (λ parts. part ∷ parts) (current_lists-no previous)
+current_lists-no (part ∷ before) = ap (λ parts. part ∷ parts) (current_lists-no before)
 
 -- if no list was replaced, the current lists are the original ones
-pub current_lists-none : (previous : List NumberSet) (n : ℕ) → current_lists previous (replicate n None) ≡ previous
+pub current_lists-none : (before : List NumberSet) (n : ℕ) → current_lists before (replicate n None) ≡ before
 current_lists-none [] n = refl
-current_lists-none (part ∷ previous) zero = current_lists-no (part ∷ previous)
-current_lists-none (part ∷ previous) (suc n) = ap (λ parts. part ∷ parts) (current_lists-none previous n)
+current_lists-none (part ∷ before) zero = current_lists-no (part ∷ before)
+current_lists-none (part ∷ before) (suc n) = ap (λ parts. part ∷ parts) (current_lists-none before n)
 
-pub get-current_lists : (previous : List NumberSet) (made : List (Option NumberSet)) (b : ℕ) (d : NumberSet) (e : Option NumberSet) → b < length previous → b < length made → get_or (current_lists previous made) b d ≡ unwrap_or (get_or made b e) (get_or previous b d)
+pub get-current_lists : (before : List NumberSet) (made : List (Option NumberSet)) (b : ℕ) (d : NumberSet) (e : Option NumberSet) → b < length before → b < length made → get_or (current_lists before made) b d ≡ unwrap_or (get_or made b e) (get_or before b d)
 get-current_lists [] made b d e l m = absurd (omega arith)
-get-current_lists (part ∷ previous) [] b d e l m = absurd (omega arith)
-get-current_lists (part ∷ previous) (new ∷ made) zero d e l m = refl
-get-current_lists (part ∷ previous) (new ∷ made) (suc b) d e l m = get-current_lists previous made b d e (omega arith) (omega arith)
+get-current_lists (part ∷ before) [] b d e l m = absurd (omega arith)
+get-current_lists (part ∷ before) (new ∷ made) zero d e l m = refl
+get-current_lists (part ∷ before) (new ∷ made) (suc b) d e l m = get-current_lists before made b d e (omega arith) (omega arith)
 
-pub set-current_lists : (previous : List NumberSet) (made : List (Option NumberSet)) (b : ℕ) (part : NumberSet) → b < length previous → b < length made → current_lists previous (set_at made b (Some part)) ≡ set_at (current_lists previous made) b part
+pub set-current_lists : (before : List NumberSet) (made : List (Option NumberSet)) (b : ℕ) (part : NumberSet) → b < length before → b < length made → current_lists before (set_at made b (Some part)) ≡ set_at (current_lists before made) b part
 set-current_lists [] made b part l m = absurd (omega arith)
-set-current_lists (one ∷ previous) [] b part l m = absurd (omega arith)
-set-current_lists (one ∷ previous) (new ∷ made) zero part l m = refl
-set-current_lists (one ∷ previous) (new ∷ made) (suc b) part l m = ap (λ parts. unwrap_or new one ∷ parts) (set-current_lists previous made b part (omega arith) (omega arith))
+set-current_lists (one ∷ before) [] b part l m = absurd (omega arith)
+set-current_lists (one ∷ before) (new ∷ made) zero part l m = refl
+set-current_lists (one ∷ before) (new ∷ made) (suc b) part l m = ap (λ parts. unwrap_or new one ∷ parts) (set-current_lists before made b part (omega arith) (omega arith))
 
 -- one more list is replaced or left
-pub current_lists-put : (previous : List NumberSet) (made : List (Option NumberSet)) (b : ℕ) (part : NumberSet) → b < length previous → b < length made → get_or made b None ≡ Some part → current_lists previous (take (suc b) made) ≡ set_at (current_lists previous (take b made)) b part
+pub current_lists-put : (before : List NumberSet) (made : List (Option NumberSet)) (b : ℕ) (part : NumberSet) → b < length before → b < length made → get_or made b None ≡ Some part → current_lists before (take (suc b) made) ≡ set_at (current_lists before (take b made)) b part
 current_lists-put [] made b part l m e = absurd (omega arith)
-current_lists-put (one ∷ previous) [] b part l m e = absurd (omega arith)
-current_lists-put (one ∷ previous) (new ∷ made) zero part l m e = ap (λ o. unwrap_or o one ∷ current_lists previous []) e
-current_lists-put (one ∷ previous) (new ∷ made) (suc b) part l m e = ap (λ parts. unwrap_or new one ∷ parts) (current_lists-put previous made b part (omega arith) (omega arith) e)
+current_lists-put (one ∷ before) [] b part l m e = absurd (omega arith)
+current_lists-put (one ∷ before) (new ∷ made) zero part l m e = ap (λ o. unwrap_or o one ∷ current_lists before []) e
+current_lists-put (one ∷ before) (new ∷ made) (suc b) part l m e = ap (λ parts. unwrap_or new one ∷ parts) (current_lists-put before made b part (omega arith) (omega arith) e)
 
-pub current_lists-pass : (previous : List NumberSet) (made : List (Option NumberSet)) (b : ℕ) → b < length previous → b < length made → get_or made b None ≡ None → current_lists previous (take (suc b) made) ≡ current_lists previous (take b made)
+pub current_lists-pass : (before : List NumberSet) (made : List (Option NumberSet)) (b : ℕ) → b < length before → b < length made → get_or made b None ≡ None → current_lists before (take (suc b) made) ≡ current_lists before (take b made)
 current_lists-pass [] made b l m e = absurd (omega arith)
-current_lists-pass (one ∷ previous) [] b l m e = absurd (omega arith)
-current_lists-pass (one ∷ previous) (new ∷ made) zero l m e = ap (λ o. unwrap_or o one ∷ current_lists previous []) e
-current_lists-pass (one ∷ previous) (new ∷ made) (suc b) l m e = ap (λ parts. unwrap_or new one ∷ parts) (current_lists-pass previous made b (omega arith) (omega arith) e)
+current_lists-pass (one ∷ before) [] b l m e = absurd (omega arith)
+current_lists-pass (one ∷ before) (new ∷ made) zero l m e = ap (λ o. unwrap_or o one ∷ current_lists before []) e
+current_lists-pass (one ∷ before) (new ∷ made) (suc b) l m e = ap (λ parts. unwrap_or new one ∷ parts) (current_lists-pass before made b (omega arith) (omega arith) e)
 
 -- ---- a set whose part b is replaced
 
@@ -119,30 +119,30 @@ set-parts a b part l lies =
 
 -- the first n elements are the given sets, seen through f
 abbrev pub IsFilled : {X : Type 0} → (X → NumberSet) → List NumberSet → List X → ℕ → Type 0
-IsFilled f lists previous b = (length previous ≡ 12) × ((k : ℕ) → k < b → get_or (map f previous) k set.empty ≡ get_or lists k set.empty)
+IsFilled f lists before b = (length before ≡ 12) × ((k : ℕ) → k < b → get_or (map f before) k set.empty ≡ get_or lists k set.empty)
 
-pub filled_next : {X : Type 0} (f : X → NumberSet) (lists : List NumberSet) (previous : List X) (b : ℕ) (list : X) → b < 12 → f list ≡ get_or lists b set.empty
-    → IsFilled f lists previous b → IsFilled f lists (set_at previous b list) (b + 1)
-filled_next f lists previous b list l is below =
-    let many : length (set_at previous b list) ≡ 12 = length-set previous b list ∙ below.0 in
-    let here : (k : ℕ) → k < 12 → get_or (map f (set_at previous b list)) k set.empty ≡ f (get_or (set_at previous b list) k list) =
-    λ k lt. get_or-map f (set_at previous b list) k list set.empty (subst (λ n. k < n) (sym many) lt) in (
+pub filled_next : {X : Type 0} (f : X → NumberSet) (lists : List NumberSet) (before : List X) (b : ℕ) (list : X) → b < 12 → f list ≡ get_or lists b set.empty
+    → IsFilled f lists before b → IsFilled f lists (set_at before b list) (b + 1)
+filled_next f lists before b list l is below =
+    let many : length (set_at before b list) ≡ 12 = length-set before b list ∙ below.0 in
+    let here : (k : ℕ) → k < 12 → get_or (map f (set_at before b list)) k set.empty ≡ f (get_or (set_at before b list) k list) =
+    λ k lt. get_or-map f (set_at before b list) k list set.empty (subst (λ n. k < n) (sym many) lt) in (
       many,
       λ k lt. elim (cases_lt k b) [
-        | inl before ↦
-            here k (omega arith) ∙ ap f (get_or-set_other previous b k list list (λ e. omega arith))
-            ∙ sym (get_or-map f previous k list set.empty (subst (λ n. k < n) (sym below.0) (omega arith))) ∙ below.1 k before
+        | inl earlier ↦
+            here k (omega arith) ∙ ap f (get_or-set_other before b k list list (λ e. omega arith))
+            ∙ sym (get_or-map f before k list set.empty (subst (λ n. k < n) (sym below.0) (omega arith))) ∙ below.1 k earlier
         | inr past ↦
             let at : k ≡ b = omega arith in
-            here k (omega arith) ∙ ap (λ n. f (get_or (set_at previous b list) n list)) at
-            ∙ ap f (get_or-set_same previous b list list (subst (λ n. b < n) (sym below.0) l)) ∙ is ∙ ap (λ n. get_or lists n set.empty) (sym at)
+            here k (omega arith) ∙ ap (λ n. f (get_or (set_at before b list) n list)) at
+            ∙ ap f (get_or-set_same before b list list (subst (λ n. b < n) (sym below.0) l)) ∙ is ∙ ap (λ n. get_or lists n set.empty) (sym at)
       ],
     )
 
-pub filled_all : {X : Type 0} (f : X → NumberSet) (lists : List NumberSet) (previous : List X) (b : ℕ) → length lists ≡ 12 → 12 ≤ b → IsFilled f lists previous b → map f previous ≡ lists
-filled_all f lists previous b twelve all filled =
-    let many : length (map f previous) ≡ 12 = length-map previous f ∙ filled.0 in
-    ext_get_or set.empty (map f previous) lists (many ∙ sym twelve) (λ k lt. let small : k < 12 = subst (λ n. k < n) many lt in filled.1 k (omega arith))
+pub filled_all : {X : Type 0} (f : X → NumberSet) (lists : List NumberSet) (before : List X) (b : ℕ) → length lists ≡ 12 → 12 ≤ b → IsFilled f lists before b → map f before ≡ lists
+filled_all f lists before b twelve all filled =
+    let many : length (map f before) ≡ 12 = length-map before f ∙ filled.0 in
+    ext_get_or set.empty (map f before) lists (many ∙ sym twelve) (λ k lt. let small : k < 12 = subst (λ n. k < n) many lt in filled.1 k (omega arith))
 
 -- the content of a part, or the empty set
 pub content_of : (part : Option (Bor NumberSet)) (no_pixels : Bor NumberSet) → no_pixels.now ≡ set.empty → (unwrap_or part no_pixels).now ≡ content_or_empty (option_copied part)
@@ -150,26 +150,26 @@ content_of None no_pixels e = e
 content_of (Some list) no_pixels e = refl
 
 -- the replaced list, or otherwise the original list
-pub copied_or : (list : Option (Bor NumberSet)) (previous : Bor NumberSet) → (unwrap_or list previous).now ≡ unwrap_or (option_copied list) previous.now
-copied_or None previous = refl
-copied_or (Some list) previous = refl
+pub copied_or : (list : Option (Bor NumberSet)) (before : Bor NumberSet) → (unwrap_or list before).now ≡ unwrap_or (option_copied list) before.now
+copied_or None before = refl
+copied_or (Some list) before = refl
 
 -- ---- a draft
 
-pub previous_twelve : (previous : List NumberSet) (made : List (Option NumberSet)) → AreParts (current_lists previous made) → length previous ≡ 12
-previous_twelve previous made e = sym (length-current_lists previous made) ∙ parts_length (current_lists previous made) e
+pub previous_twelve : (before : List NumberSet) (made : List (Option NumberSet)) → AreParts (current_lists before made) → length before ≡ 12
+previous_twelve before made e = sym (length-current_lists before made) ∙ parts_length (current_lists before made) e
 
 -- the list of one part
-pub current_part : (previous : List NumberSet) (made : List (Option NumberSet)) (b : ℕ) (d : NumberSet) (e : Option NumberSet) → AreParts (current_lists previous made) → length made ≡ 12 → b < 12 → unwrap_or (get_or made b e) (get_or previous b d) ≡ part_of (union_of (current_lists previous made)) b
-current_part previous made b d e are twelve l =
-    sym (get-current_lists previous made b d e (subst (λ n. b < n) (sym (previous_twelve previous made are)) l) (subst (λ n. b < n) (sym twelve) l)) ∙ get-parts (current_lists previous made) b d are l
+pub current_part : (before : List NumberSet) (made : List (Option NumberSet)) (b : ℕ) (d : NumberSet) (e : Option NumberSet) → AreParts (current_lists before made) → length made ≡ 12 → b < 12 → unwrap_or (get_or made b e) (get_or before b d) ≡ part_of (union_of (current_lists before made)) b
+current_part before made b d e are twelve l =
+    sym (get-current_lists before made b d e (subst (λ n. b < n) (sym (previous_twelve before made are)) l) (subst (λ n. b < n) (sym twelve) l)) ∙ get-parts (current_lists before made) b d are l
 
 -- for each part, the replacement or otherwise the original is that part of the set
 pub changed_part_is : (sets : List NumberSet) (made : List (Option NumberSet)) (after : NumberSet) (b : ℕ) → AreParts sets → length made ≡ 12 → current_lists sets made ≡ parts_below after 12 → b < 12
     → unwrap_or (get_or made b None) (part_of (union_of sets) b) ≡ part_of after b
 changed_part_is sets made after b are twelve lists l =
-    let previous : get_or sets b set.empty ≡ part_of (union_of sets) b = ap (λ s. get_or s b set.empty) are ∙ get-parts_below (union_of sets) 12 b set.empty l in
-    ap (λ d. unwrap_or (get_or made b None) d) (sym previous)
+    let before : get_or sets b set.empty ≡ part_of (union_of sets) b = ap (λ s. get_or s b set.empty) are ∙ get-parts_below (union_of sets) 12 b set.empty l in
+    ap (λ d. unwrap_or (get_or made b None) d) (sym before)
     ∙ sym (get-current_lists sets made b set.empty None (subst (λ n. b < n) (sym (parts_length sets are)) l) (subst (λ n. b < n) (sym twelve) l))
     ∙ ap (λ s. get_or s b set.empty) lists ∙ get-parts_below after 12 b set.empty l
 
@@ -183,7 +183,7 @@ pub one_done : (made lists after : List (Option NumberSet)) (is : ℕ → Option
 one_done made lists after is b x l put right below = (
   ap length put ∙ length-set lists b x ∙ below.0,
   λ k lt. elim (cases_lt k b) [
-    | inl before ↦ ap (λ xs. get_or xs k None) put ∙ get_or-set_other lists b k x None (λ e. omega arith) ∙ below.1 k before
+    | inl earlier ↦ ap (λ xs. get_or xs k None) put ∙ get_or-set_other lists b k x None (λ e. omega arith) ∙ below.1 k earlier
     | inr past ↦
         let at : k ≡ b = omega arith in
         ap (λ xs. get_or xs k None) put ∙ ap (λ n. get_or (set_at lists b x) n None) at
@@ -197,7 +197,7 @@ pub none_done : (made lists after : List (Option NumberSet)) (is : ℕ → Optio
 none_done made lists after is b same right below = (
   ap length same ∙ below.0,
   λ k lt. elim (cases_lt k b) [
-    | inl before ↦ ap (λ xs. get_or xs k None) same ∙ below.1 k before
+    | inl earlier ↦ ap (λ xs. get_or xs k None) same ∙ below.1 k earlier
     | inr past ↦
         let at : k ≡ b = omega arith in
         ap (λ xs. get_or xs k None) same ∙ ap (λ n. get_or lists n None) at ∙ right ∙ ap is (sym at)
@@ -206,33 +206,33 @@ none_done made lists after is b same right below = (
 )
 
 -- if a part has no replacement, its original list is that part of the set
-pub previous_part : (previous : List (Bor NumberSet)) (made : List (Option NumberSet)) (b : ℕ) (item : Option NumberSet) (list : Bor NumberSet)
-    → AreParts (current_lists (sets_of previous) made) → length made ≡ 12 → b < 12 → item ≡ get_or made b None → is_some item ≡ false
-    → list ≡ get_or previous b list → list.now ≡ part_of (union_of (current_lists (sets_of previous) made)) b
-previous_part previous made b None list are twelve l item_is none list_is =
-    let many : length previous ≡ 12 = sym (length-map previous (λ x. x.now)) ∙ previous_twelve (sets_of previous) made are in
-    let found_is : list.now ≡ get_or (sets_of previous) b list.now =
-    ap (λ x. x.now) list_is ∙ sym (get_or-map (λ x. x.now) previous b list list.now (subst (λ n. b < n) (sym many) l)) in
-    (λ i. unwrap_or (item_is i) (found_is i)) ∙ current_part (sets_of previous) made b list.now None are twelve l
-previous_part previous made b (Some x) list are twelve l item_is none list_is = absurd (cc)
+pub previous_part : (before : List (Bor NumberSet)) (made : List (Option NumberSet)) (b : ℕ) (item : Option NumberSet) (list : Bor NumberSet)
+    → AreParts (current_lists (sets_of before) made) → length made ≡ 12 → b < 12 → item ≡ get_or made b None → is_some item ≡ false
+    → list ≡ get_or before b list → list.now ≡ part_of (union_of (current_lists (sets_of before) made)) b
+previous_part before made b None list are twelve l item_is none list_is =
+    let many : length before ≡ 12 = sym (length-map before (λ x. x.now)) ∙ previous_twelve (sets_of before) made are in
+    let found_is : list.now ≡ get_or (sets_of before) b list.now =
+    ap (λ x. x.now) list_is ∙ sym (get_or-map (λ x. x.now) before b list list.now (subst (λ n. b < n) (sym many) l)) in
+    (λ i. unwrap_or (item_is i) (found_is i)) ∙ current_part (sets_of before) made b list.now None are twelve l
+previous_part before made b (Some x) list are twelve l item_is none list_is = absurd (cc)
 
 -- a replacement is that part of the set
-pub single_part : (previous : List NumberSet) (made : List (Option NumberSet)) (b : ℕ) (item : Option NumberSet) → AreParts (current_lists previous made) → length made ≡ 12
-    → b < 12 → item ≡ get_or made b None → is_some item ≡ true → item ≡ Some (part_of (union_of (current_lists previous made)) b)
-single_part previous made b None are twelve l item_is some = absurd (cc)
-single_part previous made b (Some x) are twelve l item_is some =
-    ap Some (ap (λ o. unwrap_or o (get_or previous b set.empty)) item_is ∙ current_part previous made b set.empty None are twelve l)
+pub single_part : (before : List NumberSet) (made : List (Option NumberSet)) (b : ℕ) (item : Option NumberSet) → AreParts (current_lists before made) → length made ≡ 12
+    → b < 12 → item ≡ get_or made b None → is_some item ≡ true → item ≡ Some (part_of (union_of (current_lists before made)) b)
+single_part before made b None are twelve l item_is some = absurd (cc)
+single_part before made b (Some x) are twelve l item_is some =
+    ap Some (ap (λ o. unwrap_or o (get_or before b set.empty)) item_is ∙ current_part before made b set.empty None are twelve l)
 
 pub some_copied : (item : Option (Bor NumberSet)) → is_some (option_copied item) ≡ is_some item
 some_copied None = refl
 some_copied (Some x) = refl
 
 -- one more list is replaced
-pub newest_set : (previous : List NumberSet) (made : List (Option NumberSet)) (b : ℕ) (part : NumberSet) → AreParts (current_lists previous made) → length made ≡ 12 → b < 12 → part_of part b ≡ part
-    → current_lists previous (set_at made b (Some part)) ≡ parts_below (with_part (union_of (current_lists previous made)) b part) 12
-newest_set previous made b part e twelve l lies =
-    set-current_lists previous made b part (subst (λ n. b < n) (sym (previous_twelve previous made e)) l) (subst (λ n. b < n) (sym twelve) l)
-    ∙ ap (λ parts. set_at parts b part) e ∙ set-parts (union_of (current_lists previous made)) b part l lies
+pub newest_set : (before : List NumberSet) (made : List (Option NumberSet)) (b : ℕ) (part : NumberSet) → AreParts (current_lists before made) → length made ≡ 12 → b < 12 → part_of part b ≡ part
+    → current_lists before (set_at made b (Some part)) ≡ parts_below (with_part (union_of (current_lists before made)) b part) 12
+newest_set before made b part e twelve l lies =
+    set-current_lists before made b part (subst (λ n. b < n) (sym (previous_twelve before made e)) l) (subst (λ n. b < n) (sym twelve) l)
+    ∙ ap (λ parts. set_at parts b part) e ∙ set-parts (union_of (current_lists before made)) b part l lies
 
 lying_within : (b q : ℕ) → b < 12 → nat_eq (q / base_pixel_size) b ≡ true → q / base_pixel_size < 12
 lying_within b q l e = grind (arith, nat_tests)

@@ -15,4 +15,4 @@ pub mod CommandsInOrder
 pub mod Drafting
 pub mod Changing
 pub mod OptionalLists
-pub mod InsertingIntoParts
+pub mod SingleParts

@@ -23,7 +23,7 @@ pub united_next : (parts : List (Option (Bor NumberSet))) (i : ℕ) (part : Opti
     → before ≡ union_of (take i (given_sets parts)) → after ≡ set.union before (content_or_empty (option_copied part)) → after ≡ union_of (take (i + 1) (given_sets parts))
 united_next parts i part before after l twelve is union more =
     let view : Option (Bor NumberSet) → NumberSet = λ x. content_or_empty (option_copied x) in
-    let previous : view part ≡ get_or (given_sets parts) i set.empty =
+    let content : view part ≡ get_or (given_sets parts) i set.empty =
     ap view is ∙ sym (get_or-map view parts i part set.empty (subst (λ n. i < n) (sym twelve) l)) in
-    more ∙ (λ j. set.union (union j) (previous j))
+    more ∙ (λ j. set.union (union j) (content j))
     ∙ union_next (given_sets parts) i set.empty (subst (λ n. i < n) (sym (length-map parts view ∙ twelve)) l)

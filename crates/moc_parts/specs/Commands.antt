@@ -1,5 +1,5 @@
 -- The commands on a set of pixels, and their footprints.
-use Rattle.std.specs.Prelude.{ℕ, ◌≤◌, Bool, true, false, nat_lt, nat_eq, IfSome, List, ◌∷◌, map, if◌then◌else◌}
+use Rattle.std.specs.Prelude.{◌≡◌, ℕ, ◌≤◌, Bool, true, false, nat_lt, nat_eq, IfSome, List, ◌∷◌, map, if◌then◌else◌}
 use Rattle.std.specs.List.{list_any}
 use Rattle.std.specs.FinSet as set
 use Rattle.std.specs.Option.{option_map_or}
@@ -16,6 +16,7 @@ use Rattle.moc_parts.specs.declared.command.Command.TheVariants.{Add, Remove, Ke
 use Rattle.moc_parts.specs.declared.command.Command.TheVariants.{Near}
 use Rattle.moc_parts.specs.declared.reply.Reply.{Reply}
 use Rattle.moc_parts.specs.declared.reply.Reply.TheVariants as reply
+use Rattle.moc_parts.specs.declared.reply.Reply.TheVariants.{Changed, Taken}
 
 -- the effective set of an operand: its set, degraded if an order is given
 abbrev pub operand_set : Operand → NumberSet
@@ -81,6 +82,15 @@ is_update (Read x) = false
 is_update (Near c) = false
 is_update c = true
 
+-- an `Add`, `Remove`, `Claim`, `Count` or `Read` whose operand is not degraded
+abbrev pub IsPlain : Command → Type 0
+IsPlain (Add x) = operand_set x ≡ x.set
+IsPlain (Remove x) = operand_set x ≡ x.set
+IsPlain (Claim x) = operand_set x ≡ x.set
+IsPlain (Count x) = operand_set x ≡ x.set
+IsPlain (Read x) = operand_set x ≡ x.set
+IsPlain _ = ⊥
+
 -- commands as a sequential object
 abbrev pub commands : Object Command Reply
 commands = record { footprint = footprint; answer = λ a c. (set_after a c, reply_on a c) }
@@ -100,3 +110,15 @@ IsCommand (Degrade order) = order ≤ 29
 IsCommand (Count x) = IsOperand x
 IsCommand (Read x) = IsOperand x
 IsCommand (Near c) = IsCell c
+
+-- a valid plain command whose footprint is exactly this part
+pub record NeedsOnly (c : Command) (b : ℕ) : Type 0 where
+  pub met : (k : ℕ) → footprint c k ≡ nat_eq b k
+  pub plain : IsPlain c
+  pub valid : IsCommand c
+
+-- whether the reply to an `Add`, `Remove` or `Claim` states that the set is unchanged
+abbrev pub is_no_change : Reply → Bool
+is_no_change (Changed n) = nat_eq n 0
+is_no_change (Taken n) = true
+is_no_change _ = false

@@ -16,11 +16,11 @@ content_or_empty part = unwrap_or part set.empty
 
 -- the contents of the twelve parts
 abbrev pub given_sets : List (Option (Bor NumberSet)) → List NumberSet
-given_sets previous = map (λ part. content_or_empty (option_copied part)) previous
+given_sets before = map (λ part. content_or_empty (option_copied part)) before
 
 -- whether the content of a part is given
 abbrev pub is_given : List (Option (Bor NumberSet)) → ℕ → Bool
-is_given previous b = is_some (get_or previous b None)
+is_given before b = is_some (get_or before b None)
 
 -- the new contents of parts that were not yet taken, and the replies
 pub record Preparation : Type 0 where
@@ -34,26 +34,26 @@ part_if false a b = None
 
 -- the replies are those on every set that agrees with the given content in the footprint
 abbrev pub AreRepliesTo : List Command → NumberSet → List Reply → Type 0
-AreRepliesTo cs previous replies =
-    (a : NumberSet) → IsWithin a pixels → AgreeOn (footprint_of_all cs) previous a → replies ≡ replies_on a cs
+AreRepliesTo cs before replies =
+    (a : NumberSet) → IsWithin a pixels → AgreeOn (footprint_of_all cs) before a → replies ≡ replies_on a cs
 
 -- The content of the footprint determines the batch. Every set that agrees there has the same replies and the same new
 -- content in the footprint; parts outside do not change, and the result is within the sky.
-pub record IsDeterminedBy (cs : List Command) (previous : NumberSet) (replies : List Reply) : Type 0 where
-  pub replied : AreRepliesTo cs previous replies
-  pub inside : (a : NumberSet) → IsWithin a pixels → AgreeOn (footprint_of_all cs) previous a
-      → (b : ℕ) → footprint_of_all cs b ≡ true → part_of (set_after_all previous cs) b ≡ part_of (set_after_all a cs) b
+pub record IsDeterminedBy (cs : List Command) (before : NumberSet) (replies : List Reply) : Type 0 where
+  pub replied : AreRepliesTo cs before replies
+  pub inside : (a : NumberSet) → IsWithin a pixels → AgreeOn (footprint_of_all cs) before a
+      → (b : ℕ) → footprint_of_all cs b ≡ true → part_of (set_after_all before cs) b ≡ part_of (set_after_all a cs) b
   pub outside : (a : NumberSet) → IsWithin a pixels → (q : ℕ) → footprint_of_all cs (base_pixel q) ≡ false
       → set.contains (set_after_all a cs) q ≡ set.contains a q
   pub stays : (a : NumberSet) → IsWithin a pixels → IsWithin (set_after_all a cs) pixels
 
 -- the replies, and the new contents of exactly the given parts
-pub record IsPrepared (cs : List Command) (given : ℕ → Bool) (previous : NumberSet) (p : Preparation) : Type 0 where
-  pub determined : IsDeterminedBy cs previous p.replies
-  pub parts : (b : ℕ) → b < 12 → get_or p.lists b None ≡ part_if (given b) (set_after_all previous cs) b
+pub record IsPrepared (cs : List Command) (given : ℕ → Bool) (before : NumberSet) (p : Preparation) : Type 0 where
+  pub determined : IsDeterminedBy cs before p.replies
+  pub parts : (b : ℕ) → b < 12 → get_or p.lists b None ≡ part_if (given b) (set_after_all before cs) b
 
 -- the replies, and the new contents of the parts that changed
-pub record AreChanges (cs : List Command) (previous : NumberSet) (p : Preparation) : Type 0 where
-  pub determined : IsDeterminedBy cs previous p.replies
+pub record AreChanges (cs : List Command) (before : NumberSet) (p : Preparation) : Type 0 where
+  pub determined : IsDeterminedBy cs before p.replies
   pub parts : (b : ℕ) → b < 12
-      → unwrap_or (get_or p.lists b None) (part_of previous b) ≡ part_of (set_after_all previous cs) b
+      → unwrap_or (get_or p.lists b None) (part_of before b) ≡ part_of (set_after_all before cs) b

@@ -33,7 +33,7 @@ QueriesLeaveTheSet = (cs : List Command) → list_any is_update cs ≡ false →
 pub record SetsAreUnitedByParts : Type 0 where
   pub parts : (sets : List NumberSet) → AreWithinParts sets → sets ≡ parts_below (union_of sets) 12
   pub within : (sets : List NumberSet) → AreWithinParts sets → IsWithin (union_of sets) pixels
-  pub previous : (sets : List NumberSet) → AreWithinParts sets → (p : ℕ) → base_pixel p < 12
+  pub contains : (sets : List NumberSet) → AreWithinParts sets → (p : ℕ) → base_pixel p < 12
       → set.contains (union_of sets) p ≡ set.contains (get_or sets (base_pixel p) set.empty) p
 
 -- The list of the first n parts has length n, and its element b is part b. The twelve parts of a set of pixels are each

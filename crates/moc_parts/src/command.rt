@@ -2,7 +2,8 @@
 ghost use Rattle.std.specs.Prelude.{◌≡◌, ◌<◌, ℕ, nat_eq, IfOk, IfSome, OnSome, None};
 ghost use Rattle.std.specs.FinSet as set;
 ghost use Rattle.moc_ranges.specs.Operations.{part_of};
-ghost use Rattle.moc_parts.specs.Commands.{footprint, is_update, operand_set, parts_met, IsCommand, IsOperand};
+ghost use Rattle.moc_parts.specs.Commands.{footprint, is_update, operand_set, parts_met};
+ghost use Rattle.moc_parts.specs.Commands.{IsCommand, IsOperand, NeedsOnly};
 ghost use Rattle.moc_parts.specs.Private.EffectiveSet.{effective_pixels};
 
 use crate::effective_set::EffectiveSet;
@@ -134,6 +135,25 @@ impl Command {
             | Command::Read(x) => parts_met(&x.set),
             Command::Keep(_) | Command::Invert | Command::Degrade(_) => PartSet::all(),
             Command::Near(cell) => parts_around(*cell, alloc),
+        }
+    }
+
+    /// Returns the only part of the footprint if the command can be executed on the list of this part alone: if it is
+    /// an `Add`, `Remove`, `Claim`, `Count` or `Read` whose operand is within one part and has no order. Otherwise
+    /// returns `None`.
+    ///
+    /// # Complexity
+    /// O(log n) for an operand of n ranges. Allocates nothing.
+    pub fn single_part(&self) -> Option<Part>
+        ensures { IfSome result (λ b. NeedsOnly self.now b) }
+    {
+        match self {
+            Command::Add(x)
+            | Command::Remove(x)
+            | Command::Claim(x)
+            | Command::Count(x)
+            | Command::Read(x) => x.single_part(),
+            _ => None,
         }
     }
 

@@ -21,7 +21,7 @@ use std::marker::Model;
 /// The original lists of the twelve parts, and the lists that replace some of them.
 #[derive(Drop)]
 pub(crate) struct Draft<'a> {
-    previous: [&'a Coverage; 12],
+    before: [&'a Coverage; 12],
     new_lists: Lists,
 }
 
@@ -35,11 +35,11 @@ impl<'a> Model for Draft<'a> {
     ghost coded = { draft_state_code };
 
     ghost view = { λ d. record {
-      previous = sets_of d.previous;
-      set = union_of (current_lists (sets_of d.previous) d.new_lists);
+      before = sets_of d.before;
+      set = union_of (current_lists (sets_of d.before) d.new_lists);
     } };
 
-    ghost invariant = { λ d. AreParts (current_lists (sets_of d.previous) d.new_lists)
+    ghost invariant = { λ d. AreParts (current_lists (sets_of d.before) d.new_lists)
         × (length d.new_lists ≡ 12) };
 }
 
@@ -52,22 +52,22 @@ impl<'a> Draft<'a> {
     ) -> Draft<'a>
         requires parts { AreParts (given_sets lists.now) }
         requires no_pixels { no_pixels.now ≡ set.empty }
-        ensures { result ≡ record { previous = given_sets lists.now; set = union_of (given_sets lists.now) } }
+        ensures { result ≡ record { before = given_sets lists.now; set = union_of (given_sets lists.now) } }
     {
-        let mut previous = [no_pixels; 12];
+        let mut before = [no_pixels; 12];
         for (b, list) in lists.iter().enumerate() {
-            previous[b] = list.unwrap_or(no_pixels);
+            before[b] = list.unwrap_or(no_pixels);
         }
-        Draft::without_changes(alloc, previous)
+        Draft::without_changes(alloc, before)
     }
 
     /// Creates a draft without any replaced list.
-    fn without_changes(alloc: Global, previous: [&'a Coverage; 12]) -> Draft<'a>
-        requires { AreParts (sets_of previous) }
-        ensures { result ≡ record { previous = sets_of previous.entry; set = union_of (sets_of previous.entry) } }
+    fn without_changes(alloc: Global, before: [&'a Coverage; 12]) -> Draft<'a>
+        requires { AreParts (sets_of before) }
+        ensures { result ≡ record { before = sets_of before.entry; set = union_of (sets_of before.entry) } }
     {
         Draft {
-            previous,
+            before,
             new_lists: Lists::new(alloc),
         }
     }
@@ -77,16 +77,16 @@ impl<'a> Draft<'a> {
         ensures list { result.now ≡ part_of self.now.set part }
         ensures within { IsWithin self.now.set pixels }
     {
-        let previous = &self.previous[..];
-        let previous = previous[part.index()];
-        self.new_lists.get(part).unwrap_or(previous)
+        let before = &self.before[..];
+        let before = before[part.index()];
+        self.new_lists.get(part).unwrap_or(before)
     }
 
     /// Replaces the list of one part. Fails with `Memory` if an allocation fails.
     fn put(&mut self, part: Part, list: Coverage) -> Result<(), Memory>
         requires { part_of list part ≡ list }
         ensures set { OnOk result (self.new.set ≡ with_part self.old.set part list) }
-        ensures previous { self.new.previous ≡ self.old.previous }
+        ensures before { self.new.before ≡ self.old.before }
     {
         self.new_lists.put(part, list)?;
         Ok(())
@@ -97,7 +97,7 @@ impl<'a> Draft<'a> {
         ensures { IsWithin self.now.set pixels }
     {
         // Reading a field makes the invariant of the draft available to the proof.
-        let _found = self.previous;
+        let _found = self.before;
     }
 
     /// Applies a change to the set, and returns the number of pixels that were added or removed.
@@ -111,7 +111,7 @@ impl<'a> Draft<'a> {
         ensures changed_pixels { IfOk result (λ n.
             n ≡ set.len (symmetric (set_after_change change.now self.old.set) self.old.set)) }
         ensures within { OnOk result (IsWithin self.old.set pixels) }
-        ensures previous { self.new.previous ≡ self.old.previous }
+        ensures before { self.new.before ≡ self.old.before }
     {
         self.prove_in_sky();
         let mut changed_pixels = 0;
@@ -191,7 +191,7 @@ impl<'a> Draft<'a> {
 
     /// Returns the replaced lists.
     pub(crate) fn into_new_lists(self) -> Lists
-        ensures lists { current_lists self.entry.previous result ≡ parts_below self.entry.set 12 }
+        ensures lists { current_lists self.entry.before result ≡ parts_below self.entry.set 12 }
         ensures within { IsWithin self.entry.set pixels }
         ensures twelve { length result ≡ 12 }
     {
@@ -207,17 +207,14 @@ impl<'a> Draft<'a> {
         ensures { IfOk result (λ lists.
             (b : ℕ) → b < 12 → get_or lists b None ≡ part_if (is_given given.now b) self.entry.set b) }
     {
-        let Draft {
-            previous,
-            new_lists,
-        } = self;
+        let Draft { before, new_lists } = self;
         let mut lists = new_lists;
         for part in Part::ALL {
             let b = part.index();
             if given[b].is_none() {
                 lists.clear(part);
             } else if lists.get(part).is_none() {
-                lists.put(part, previous[b].try_copy(alloc)?)?;
+                lists.put(part, before[b].try_copy(alloc)?)?;
             }
         }
         Ok(lists)

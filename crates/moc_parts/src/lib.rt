@@ -12,6 +12,7 @@ mod map;
 mod part;
 mod prepared;
 mod reply;
+mod single;
 mod surroundings;
 mod theorems;
 mod whole;

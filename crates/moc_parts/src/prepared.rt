@@ -75,18 +75,17 @@ impl Prepared {
 pub fn prepare(
     alloc: Global,
     batch: &Batch,
-    previous: &[Option<&Coverage>; 12],
+    before: &[Option<&Coverage>; 12],
 ) -> Result<Prepared, Memory>
-    requires { AreWithinParts (given_sets previous.now) }
+    requires { AreWithinParts (given_sets before.now) }
 
     // The result holds for every set that agrees with the given lists in the footprint: both the replies and the new
     // content of the footprint.
-    ensures { IfOk result (λ p. IsPrepared batch.now (is_given previous.now) (union_of (given_sets previous.now)) p) }
+    ensures { IfOk result (λ p. IsPrepared batch.now (is_given before.now) (union_of (given_sets before.now)) p) }
 {
     let no_pixels = Coverage::empty(alloc);
-    let mut draft = Draft::from_lists(alloc, previous, &no_pixels);
-    let replies = draft.answer_all(alloc, batch.commands())?;
-    let lists = draft.into_lists(alloc, previous)?;
+    let (draft, replies) = Draft::run(alloc, before, &no_pixels, batch.commands())?;
+    let lists = draft.into_lists(alloc, before)?;
     Ok(Prepared { lists, replies })
 }
 
@@ -101,14 +100,13 @@ pub fn prepare(
 pub fn prepare_changes(
     alloc: Global,
     batch: &Batch,
-    previous: &[Option<&Coverage>; 12],
+    before: &[Option<&Coverage>; 12],
 ) -> Result<Prepared, Memory>
-    requires { AreWithinParts (given_sets previous.now) }
-    ensures { IfOk result (λ p. AreChanges batch.now (union_of (given_sets previous.now)) p) }
+    requires { AreWithinParts (given_sets before.now) }
+    ensures { IfOk result (λ p. AreChanges batch.now (union_of (given_sets before.now)) p) }
 {
     let no_pixels = Coverage::empty(alloc);
-    let mut draft = Draft::from_lists(alloc, previous, &no_pixels);
-    let replies = draft.answer_all(alloc, batch.commands())?;
+    let (draft, replies) = Draft::run(alloc, before, &no_pixels, batch.commands())?;
     let lists = draft.into_new_lists();
     Ok(Prepared { lists, replies })
 }
@@ -124,14 +122,13 @@ pub fn prepare_changes(
 pub fn reply_of(
     alloc: Global,
     batch: &Batch,
-    previous: &[Option<&Coverage>; 12],
+    before: &[Option<&Coverage>; 12],
 ) -> Result<Replies, Memory>
     requires query { list_any is_update batch.now ≡ false }
-    requires parts { AreWithinParts (given_sets previous.now) }
-    ensures { IfOk result (λ r. AreRepliesTo batch.now (union_of (given_sets previous.now)) r) }
+    requires parts { AreWithinParts (given_sets before.now) }
+    ensures { IfOk result (λ r. AreRepliesTo batch.now (union_of (given_sets before.now)) r) }
 {
     let no_pixels = Coverage::empty(alloc);
-    let mut draft = Draft::from_lists(alloc, previous, &no_pixels);
-    let replies = draft.answer_all(alloc, batch.commands())?;
+    let (_, replies) = Draft::run(alloc, before, &no_pixels, batch.commands())?;
     Ok(replies)
 }

@@ -1,6 +1,7 @@
 //! The replies to commands.
 ghost use Rattle.std.specs.Prelude.{◌≡◌, ◌++◌, ◌∷◌, [], ◌⊎◌, ℕ, IfOk, IfSome, OnOk, Some, length, slice_get};
 ghost use Rattle.std.specs.Option.{option_copied};
+ghost use Rattle.moc_parts.specs.Commands.{is_no_change};
 
 use moc_ranges::{Coverage, Memory};
 use std::alloc::Global;
@@ -37,6 +38,14 @@ impl Reply {
             Reply::Changed(pixels) | Reply::Taken(pixels) | Reply::Total(pixels) => Some(*pixels),
             Reply::Claimed | Reply::Cover(_) | Reply::Near(_) => None,
         }
+    }
+
+    /// Returns whether the reply states that an `Add`, `Remove` or `Claim` left the set unchanged: `Changed(0)` or
+    /// `Taken`. O(1); allocates nothing.
+    pub fn is_no_change(&self) -> bool
+        ensures { result ≡ is_no_change self.now }
+    {
+        matches!(self, Reply::Changed(0) | Reply::Taken(_))
     }
 
     /// Returns a copy, which shares the blocks of a `Cover`. Costs at most as much as `Coverage::try_copy`.
@@ -117,8 +126,11 @@ impl Replies {
         Ok(())
     }
 
-    /// Creates a list of one reply.
-    pub(crate) fn one(alloc: Global, reply: Reply) -> Result<Replies, Memory>
+    /// Creates a list of one reply. O(1).
+    ///
+    /// # Errors
+    /// Fails with `Memory` if an allocation fails; the reply is then dropped.
+    pub fn one(alloc: Global, reply: Reply) -> Result<Replies, Memory>
         ensures { IfOk result (λ r. r ≡ reply ∷ []) }
     {
         let mut replies = Replies::new(alloc);
@@ -126,8 +138,9 @@ impl Replies {
         Ok(replies)
     }
 
-    /// Replaces the only reply.
-    pub(crate) fn set_only(&mut self, reply: Reply)
+    /// Replaces the only reply. Requires a list of exactly one reply. A list that is created before a command is
+    /// executed can hold its reply without a further allocation. O(1); allocates nothing.
+    pub fn set_only(&mut self, reply: Reply)
         requires { length self.old ≡ 1 }
         ensures { self.new ≡ reply ∷ [] }
     {

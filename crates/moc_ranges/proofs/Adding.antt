@@ -11,19 +11,19 @@ use Rattle.moc_blocks.specs.RangeList.{IsNormal, set_of, NumberSet, numbers}
 use Rattle.moc_blocks.specs.Lemmas.Members.{in_range, in_ranges, contains-set_of, contains-numbers, same_members}
 use Rattle.moc_blocks.specs.Lemmas.Sizes.{len_parts}
 use Rattle.moc_blocks.specs.Private.Blocks.{width_of}
-use Rattle.moc_blocks.specs.Private.Added.{IsInsertion}
+use Rattle.moc_blocks.specs.Private.Added.{AddsRange}
 use Rattle.moc_ranges.proofs.Views.{range_view}
 use Rattle.moc_operations.proofs.Walking.{and_swap}
 use Rattle.moc_blocks.proofs.Adding.{grown_width}
 
 -- ---- sets
 
-pub grown_set : (from to added : ℕ) (old new : List (ℕ × ℕ)) → IsInsertion from to old new added → set_of new ≡ set.union (set_of old) (numbers from to)
+pub grown_set : (from to added : ℕ) (old new : List (ℕ × ℕ)) → AddsRange from to old new added → set_of new ≡ set.union (set_of old) (numbers from to)
 grown_set from to added old new g = same_members _ _ (λ q.
     contains-set_of new q ∙ g.same q ∙ (λ i. sym (contains-set_of old q) i || sym (contains-numbers from to q) i)
     ∙ sym (set.contains-union nat_cmp_total (set_of old) (numbers from to) q))
 
-pub grown_count : (from to added : ℕ) (old new : List (ℕ × ℕ)) → IsNormal old → IsNormal new → IsInsertion from to old new added → added ≡ set.len (set.difference (numbers from to) (set_of old))
+pub grown_count : (from to added : ℕ) (old new : List (ℕ × ℕ)) → IsNormal old → IsNormal new → AddsRange from to old new added → added ≡ set.len (set.difference (numbers from to) (set_of old))
 grown_count from to added old new normal normal' g = omega (arith, grown_width from to old new normal normal' g.same, g.more)
 
 old_or : (o n : Bool) → (n ≡ true → o ≡ true) → (o || n) ≡ o

@@ -183,7 +183,8 @@ pub cells_step : (a : NumberSet) (k : ℕ) → filter (is_cell_of a) (cells_belo
 unfolding cells_below cells_at
 cells_step a k = filter-append (is_cell_of a) (cells_below k) (map (cell_number k) (range_with_len 0 (cell_count k)))
 
-none_at : (a : NumberSet) (first last k : ℕ) → HasOrders a first last → k ≤ 29 → (k < first) ⊎ (last ≤ k) → cells_at a k ≡ []
+-- an order outside these has no cells
+pub none_at : (a : NumberSet) (first last k : ℕ) → HasOrders a first last → k ≤ 29 → (k < first) ⊎ (last ≤ k) → cells_at a k ≡ []
 unfolding cells_at
 none_at a first last k has small out =
     filter-map (is_cell_of a) (cell_number k) (range_with_len 0 (cell_count k))

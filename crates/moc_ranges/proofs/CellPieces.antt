@@ -47,7 +47,7 @@ both_cells : (k : ℕ) (p : (ℕ × ℕ) × (ℕ × ℕ)) → both k p ≡ cells
 both_cells k p = cells_in-append k (nonempty_range p.0) (nonempty_range p.1) ∙ (λ i. filled_cells k p.0.0 p.0.1 i ++ filled_cells k p.1.0 p.1.1 i)
 
 -- the parents that are inside the range
-parents_are : (k from to first last : ℕ) → 0 < k → k ≤ 29 → AreInnerCells k from to first last → AreInnerCells (k - 1) from to ((first + 3) / 4) (last / 4)
+pub parents_are : (k from to first last : ℕ) → 0 < k → k ≤ 29 → AreInnerCells k from to first last → AreInnerCells (k - 1) from to ((first + 3) / 4) (last / 4)
 parents_are zero from to first last some small whole = absurd (omega arith)
 parents_are (suc k) from to first last some small whole =
     record { each = λ j. (there j, back j); in_range = below }

@@ -11,7 +11,7 @@ use Rattle.moc_blocks.specs.Lemmas.Members.{contains-numbers, same_members, cont
 use Rattle.moc_ranges.specs.Lemmas.Members.{contains-spans}
 use Rattle.moc_ranges.specs.Cells.{span, spans, pixels_of}
 use Rattle.std.specs.Option.{option_or}
-use Rattle.moc_ranges.specs.Faults.{first_error_of, pair_error}
+use Rattle.moc_ranges.specs.Errors.{first_error_of, pair_error}
 use Rattle.moc_ranges.specs.Private.Collected.{pixels_of_builder}
 use Rattle.moc_ranges.specs.Lemmas.{empty-union, union-empty, union-assoc, pixels_of-append, run_of_cells, in_union}
 use Rattle.moc_ranges.proofs.Sorting.{in_ranges-push, no_fault_parts}

@@ -6,6 +6,7 @@ pub mod Spans
 pub mod CellRuns
 pub mod CellOrders
 pub mod CellPieces
+pub mod CellCounts
 pub mod Gathering
 pub mod Looking
 pub mod Deepest

@@ -2,6 +2,7 @@
 pub mod Sorted
 pub mod Widen
 pub mod CellRuns
+pub mod CellCounts
 pub mod Walks
 pub mod Collected
 pub mod SortedCells

@@ -1,7 +1,7 @@
 //! Coverages: sets of pixels, their construction and queries.
 ghost use Rattle.std.specs.Prelude.{◌≡◌, ℕ, true, not, IfSome, MatchOption, ◌<◌, ◌≤◌, ◌↔◌, IsTrue, List, length};
 ghost use Rattle.std.specs.Prelude.{IfOk, IfErr, OnOk, None, unwrap_or};
-ghost use Rattle.moc_ranges.specs.Faults.{first_error};
+ghost use Rattle.moc_ranges.specs.Errors.{first_error};
 ghost use Rattle.std.specs.Cmp.{partial_equiv_from_equiv};
 ghost use Rattle.std.specs.FinSet as set;
 ghost use Rattle.moc_blocks.specs.RangeList.{IsNormal, AreRangesOf, set_of, pixel_count, numbers};
@@ -17,7 +17,7 @@ mod sets;
 use crate::errors::{Memory, RangesError};
 use crate::from_ranges::{build, check_pairs, sort_nonempty};
 use crate::pixels::PIXEL_COUNT;
-use moc_lists::{Chunks, RangeList, Ranges, Steps};
+use moc_lists::{Chunks, MAX_STEPS, RangeList, Ranges, Steps};
 use std::alloc::{AllocError, Global};
 use std::fmt;
 use std::marker::Model;
@@ -86,9 +86,9 @@ impl Coverage {
     /// Returns the result of `contains`, and adds the number of comparisons of the pixel with the bounds of a range or
     /// a chunk to `steps`. There are at most 8 more comparisons than the number of chunks has binary digits, for some
     /// partition of the set into chunks. Comparisons of positions of chunks are not counted. O((log n)²), does not
-    /// allocate. Requires that `steps` is less than 2^63.
+    /// allocate. Requires that `steps` is less than `MAX_STEPS`, which is 2^63.
     pub fn contains_counting(&self, pixel: u64, steps: &mut Steps) -> bool
-        requires { steps.old < 9223372036854775808 }
+        requires { steps.old < MAX_STEPS }
         ensures found { result ≡ set.contains self.now pixel }
         ensures cost { IsSearchOf self.now steps.old steps.new }
     {

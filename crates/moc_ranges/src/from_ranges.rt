@@ -1,7 +1,7 @@
 //! Sets from pairs in any order, and from ranges widened to cells.
 ghost use Rattle.std.specs.Prelude.{◌≡◌, ℕ, ◌*◌, ◌<◌, ◌≤◌, length, map, if◌then◌else◌, IfOk, IfErr, OnOk, OnErr};
 ghost use Rattle.std.specs.Prelude.{None, Some};
-ghost use Rattle.moc_ranges.specs.Faults.{first_error};
+ghost use Rattle.moc_ranges.specs.Errors.{first_error};
 ghost use Rattle.moc_ranges.specs.Private.Sorted.{IsSortedFrom};
 ghost use Rattle.moc_blocks.specs.Lemmas.Members.{in_ranges};
 ghost use Rattle.moc_blocks.specs.RangeList.{IsNormal, set_of, numbers, pixel_count};
@@ -133,7 +133,7 @@ pub fn build_widened(
     requires ranges { IsNormal ranges }
     ensures { IfOk result (λ l. set_of l ≡ set_of (map (widen size) ranges.entry)) }
 {
-    let mut built = ListBuilder::new(alloc, ranges.room())?;
+    let mut built = ListBuilder::new(alloc, ranges.capacity())?;
     let Some((from, to)) = ranges.next() else {
         return built.finish(alloc);
     };

@@ -29,9 +29,9 @@ no_shorter lanes xs ys same = elim (cases_lt (length xs) (length ys)) [
 ]
 
 pub all_answered : CrewsAnswerEachLine
-all_answered lanes lines text some reported =
-    let same : (lane : ℕ) → length (in_lane lane (dealt lanes reported.answers)) ≡ length (in_lane lane (dealt lanes lines)) =
-    λ lane. sym (ap length (reported.answered lane)) ∙ as_many_in script_rules lane set.empty reported.order ∙ ap length (reported.merged lane) in
-    let a = no_shorter lanes reported.answers lines same in
-    let b = no_shorter lanes lines reported.answers (λ lane. sym (same lane)) in
+all_answered lanes lines text some crew_text =
+    let same : (lane : ℕ) → length (in_lane lane (dealt lanes crew_text.answers)) ≡ length (in_lane lane (dealt lanes lines)) =
+    λ lane. sym (ap length (crew_text.answered lane)) ∙ as_many_in script_rules lane set.empty crew_text.order ∙ ap length (crew_text.merged lane) in
+    let a = no_shorter lanes crew_text.answers lines same in
+    let b = no_shorter lanes lines crew_text.answers (λ lane. sym (same lane)) in
     omega (arith, a, b)

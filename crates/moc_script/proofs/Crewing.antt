@@ -7,7 +7,7 @@ use Rattle.std.proofs.lemmas.Bool.{cases_lt}
 use Rattle.std.proofs.lemmas.List.Sums.{sum_by-cons}
 use Rattle.std.specs.List.{concat}
 use Rattle.moc_lists.specs.RangeList.{NumberSet}
-use Rattle.moc_lines.specs.Runs.{script_rules, AreShort, IsUnfinishedLine, line_limit}
+use Rattle.moc_lines.specs.Runs.{script_rules, AreShort, FailsOn, IsUnfinishedLine, line_limit}
 use Rattle.moc_script.specs.Crews.{in_lane, dealt, cover_line, nonblank_lines, IsCrewText, IsFailedLine, CrewEnds}
 use Rattle.moc_shared.specs.History.{calls_of, state_after, IsLegal}
 use Rattle.moc_script.specs.Private.LaneWork.{Performs}
@@ -15,15 +15,15 @@ use Rattle.moc_shared.specs.Batches.{BatchCall, batch_answer as object}
 use Rattle.moc_shared.specs.Clients.{record_of, start_of, clients_of, StandsForAll, Closes}
 use Rattle.moc_shared.specs.declared.map.SharedMap.{SharedMap}
 use Rattle.moc_shared.specs.declared.record.Calls.{Calls}
-use Rattle.moc_devices.specs.Devices.{Reading, Delivers, IsEnded, Writing, Accepts, AcceptsNone}
-use Rattle.moc_lines.specs.declared.run_error.RunError.TheVariants as run
-use Rattle.moc_script.specs.declared.crew_error.CrewError.TheVariants as crew
-use Rattle.moc_devices.specs.Lemmas.{Accepts-kept, Sends-all}
+use Rattle.moc_devices.specs.Devices.{SourceState, Delivers, IsEnded, SinkState, Accepts, AcceptsNone}
+use Rattle.moc_lines.specs.declared.run_error.RunError.{RunError}
+use Rattle.moc_lines.specs.declared.run_error.RunError.TheVariants.{Read, Write, LineTooLong, Memory, Spawn}
+use Rattle.moc_devices.specs.Lemmas.{Accepts-kept, AcceptsNone-refl, Sends-all}
 use Rattle.moc_shared.specs.declared.client.Client.{Client}
 use Rattle.moc_text.specs.Lines.{lines_of}
 use Rattle.moc_script.specs.Private.Input.{lane_lines}
-use Rattle.moc_script.specs.Private.Gathering.{HasLanes}
-use Rattle.moc_script.specs.Private.Joining.{AreForLines, IsMerged, AreCrewAnswers, MergesTo}
+use Rattle.moc_script.specs.Private.Gathering.{HasLanes, IsLanesError}
+use Rattle.moc_script.specs.Private.Joining.{AreForLines, IsMerged, AreCrewAnswers, EndsMerging, EndsWriting, MergesTo}
 use Rattle.moc_script.proofs.LaneLists.{none_above, as_long}
 use Rattle.moc_script.proofs.Weaving.{weave}
 
@@ -122,40 +122,64 @@ crew_of_lanes map n input answers left c end text some lanes all start many clos
         (subst (λ (l : List (List ℕ)). Performs object script_rules (lane_lines n input lane) has.0 l) whole has.2)
 
 -- an allocation failed while lines were read
-pub crew_failed_reading : (lanes line : ℕ) (a b : Reading) (w0 w1 : Writing) → (given : List ℕ) × Delivers a b given × IsUnfinishedLine line given → AcceptsNone w0 w1
-    → CrewEnds lanes a b w0 w1 (Err (crew.Run (run.Memory line)))
+pub crew_failed_reading : (lanes line : ℕ) (a b : SourceState) (w0 w1 : SinkState) → (given : List ℕ) × Delivers a b given × IsUnfinishedLine line given → AcceptsNone w0 w1
+    → CrewEnds lanes a b w0 w1 (Err (Memory line))
 crew_failed_reading lanes line a b w0 w1 begins_match kept = (kept, (begins_match.0, begins_match.1, inl begins_match.2))
 
 -- an allocation failed after all lines were read
-pub crew_out_of_memory : (lanes line : ℕ) (items : List ℕ) (a b : Reading) (w0 w1 : Writing) → Delivers a b items → IsEnded b → IsFailedLine line (lines_of items) → AcceptsNone w0 w1
-    → CrewEnds lanes a b w0 w1 (Err (crew.Run (run.Memory line)))
+pub crew_out_of_memory : (lanes line : ℕ) (items : List ℕ) (a b : SourceState) (w0 w1 : SinkState) → Delivers a b items → IsEnded b → IsFailedLine line (lines_of items) → AcceptsNone w0 w1
+    → CrewEnds lanes a b w0 w1 (Err (Memory line))
 crew_out_of_memory lanes line items a b w0 w1 consumed end refused kept = (kept, (items, consumed, inr (end, refused)))
 
-module _ (lanes : ℕ) (items cover : List ℕ) (answers : List Texts) (reported : AreCrewAnswers lanes (nonblank_lines (lines_of items)) answers cover) (b : Reading) (w0 w1 w2 : Writing) (end : IsEnded b) where
+module _ (lanes : ℕ) (items cover : List ℕ) (answers : List Texts) (crew_answers : AreCrewAnswers lanes (nonblank_lines (lines_of items)) answers cover) (b : SourceState) (w0 w1 w2 : SinkState) (end : IsEnded b) where
   for : AreForLines (length answers) answers (length (nonblank_lines (lines_of items)))
-  for = subst (λ (n : ℕ). AreForLines n answers (length (nonblank_lines (lines_of items)))) (sym reported.wide) reported.for_lines
+  for = subst (λ (n : ℕ). AreForLines n answers (length (nonblank_lines (lines_of items)))) (sym crew_answers.wide) crew_answers.for_lines
 
   -- the writer failed on the way
-  pub crew_failed : {E : Type 0} (a : Reading) (r : Result (Unit {0}) E) → Delivers a b items → MergesTo {E = E} answers cover w0 w1 r
-      → CrewEnds lanes a b w0 w1 (Err (crew.Run run.Write))
+  pub crew_failed : {E : Type 0} (a : SourceState) (r : Result (Unit {0}) E) → Delivers a b items → MergesTo {E = E} answers cover w0 w1 r
+      → CrewEnds lanes a b w0 w1 (Err Write)
   crew_failed a r consumed joins =
       let h = joins (length (nonblank_lines (lines_of items))) for in
-      (items, consumed, end, (h.2.sent, h.2.appended, (h.2.rest, subst (IsCrewText lanes (nonblank_lines (lines_of items))) h.2.parts (reported.text h.0 h.1))))
+      (items, consumed, end, (h.2.sent, h.2.appended, (h.2.rest, subst (IsCrewText lanes (nonblank_lines (lines_of items))) h.2.parts (crew_answers.text h.0 h.1))))
 
   all_written : {E : Type 0} → MergesTo {E = E} answers cover w0 w1 (Ok tt) → AcceptsNone w1 w2
       → (text : List ℕ) × Accepts w0 w2 text × IsCrewText lanes (nonblank_lines (lines_of items)) text
   all_written joins kept =
       let h = joins (length (nonblank_lines (lines_of items))) for in
-      (h.0 ++ cover, Accepts-kept w0 w1 w2 (h.0 ++ cover) (Sends-all (h.0 ++ cover) [] w0 w1 h.2 refl) kept, reported.text h.0 h.1)
+      (h.0 ++ cover, Accepts-kept w0 w1 w2 (h.0 ++ cover) (Sends-all (h.0 ++ cover) [] w0 w1 h.2 refl) kept, crew_answers.text h.0 h.1)
 
   -- the writer failed at its flush
-  pub crew_unflushed : {E : Type 0} (a : Reading) → Delivers a b items → MergesTo {E = E} answers cover w0 w1 (Ok tt) → AcceptsNone w1 w2
-      → CrewEnds lanes a b w0 w2 (Err (crew.Run run.Write))
+  pub crew_unflushed : {E : Type 0} (a : SourceState) → Delivers a b items → MergesTo {E = E} answers cover w0 w1 (Ok tt) → AcceptsNone w1 w2
+      → CrewEnds lanes a b w0 w2 (Err Write)
   crew_unflushed a consumed joins kept =
       let h = all_written joins kept in
       (items, consumed, end, (h.0, h.1, ([], subst (IsCrewText lanes (nonblank_lines (lines_of items))) (sym (append-nil h.0)) h.2)))
 
   -- all is written and flushed
-  pub crew_done : {E : Type 0} (a : Reading) → Delivers a b items → AreShort line_limit (lines_of items) → MergesTo {E = E} answers cover w0 w1 (Ok tt) → AcceptsNone w1 w2
+  pub crew_done : {E : Type 0} (a : SourceState) → Delivers a b items → AreShort line_limit (lines_of items) → MergesTo {E = E} answers cover w0 w1 (Ok tt) → AcceptsNone w1 w2
       → CrewEnds lanes a b w0 w2 (Ok tt)
   crew_done a consumed within joins kept = (items, consumed, end, within, all_written joins kept)
+
+-- the crew ends with the error of its writer, or of an allocation after the last line
+pub crew_not_written : (items cover : List ℕ) (answers : List Texts) (w0 w1 : SinkState) (e : RunError) → EndsMerging items answers cover w0 w1 (Err e) → EndsWriting items answers cover w0 w1 (Err e)
+crew_not_written items cover answers w0 w1 Write merges = λ lanes a b answered reads. crew_failed lanes items cover answers answered b w0 w1 w1 reads.1 a (Err Write) reads.0 merges
+crew_not_written items cover answers w0 w1 (Memory line) merges = λ lanes a b answered reads. crew_out_of_memory lanes line items a b w0 w1 reads.0 reads.1 (inr (inr merges.1)) merges.0
+crew_not_written items cover answers w0 w1 Read merges = absurd merges
+crew_not_written items cover answers w0 w1 (LineTooLong line) merges = absurd merges
+crew_not_written items cover answers w0 w1 Spawn merges = absurd merges
+
+-- the lanes failed, and nothing is written
+pub crew_unanswered : (lanes : ℕ) (items : List ℕ) (a b : SourceState) (w : SinkState) (e : RunError) → Delivers a b items → IsEnded b → IsLanesError items e → CrewEnds lanes a b w w (Err e)
+crew_unanswered lanes items a b w (Memory line) consumed end named = crew_out_of_memory lanes line items a b w w consumed end named (AcceptsNone-refl w)
+crew_unanswered lanes items a b w Spawn consumed end named = AcceptsNone-refl w
+crew_unanswered lanes items a b w Read consumed end named = absurd named
+crew_unanswered lanes items a b w Write consumed end named = absurd named
+crew_unanswered lanes items a b w (LineTooLong line) consumed end named = absurd named
+
+-- the input was not read, and nothing is written
+pub crew_unread : (lanes : ℕ) (a b : SourceState) (w : SinkState) (given : List ℕ) (e : RunError) → Delivers a b given → FailsOn given e → CrewEnds lanes a b w w (Err e)
+crew_unread lanes a b w given Read consumed fails = AcceptsNone-refl w
+crew_unread lanes a b w given (LineTooLong line) consumed fails = (AcceptsNone-refl w, (given, consumed, fails))
+crew_unread lanes a b w given (Memory line) consumed fails = crew_failed_reading lanes line a b w w (given, consumed, fails) (AcceptsNone-refl w)
+crew_unread lanes a b w given Write consumed fails = absurd fails
+crew_unread lanes a b w given Spawn consumed fails = absurd fails

@@ -32,18 +32,16 @@ use Rattle.moc_lines.specs.Language.{coverage_of, order_of, plain_operand_of, or
 use Rattle.moc_lines.specs.Language.{operand_of, command_named, command_with, degrade_of, near_of, only_field}
 use Rattle.moc_lines.specs.Language.{two_numbers, command_of, piece_command, commands_of, batch_of}
 use Rattle.moc_text.specs.Lines.{is_semicolon, pieces_of}
-use Rattle.moc_script.specs.Schedules.{BatchStep, as_in_script, client_by, only_client, only_client_and_part, step_by}
+use Rattle.moc_script.specs.Schedules.{BatchStep, client_by, only_client, only_client_and_part, step_by}
 use Rattle.moc_script.specs.Schedules.{step_at, other_step, begin_by, begin_of, step_of_line, Schedule, start_schedule}
 use Rattle.moc_script.specs.Schedules.{next_line, begin_lines_after, with_step, schedule_rules, step_taken}
 use Rattle.moc_script.specs.Schedules.{steps_taken}
 use Rattle.moc_lines.specs.Runs.{after_lines}
 use Rattle.moc_script.proofs.Single.{first_then}
 use Rattle.moc_script.specs.Theorems.{SchedulesHaveOneOrder}
-use Rattle.moc_lines.specs.declared.fault.LineError.{LineError}
-use Rattle.moc_lines.specs.declared.fault.LineError.TheVariants.{WrongCount, BadNumber, OrderTooLarge, CellTooLarge}
-use Rattle.moc_lines.specs.declared.fault.LineError.TheVariants.{Coverage, EmptyCommand, TooManyCommands}
-use Rattle.moc_script.specs.declared.fault.ScheduleLineError.{ScheduleLineError}
-use Rattle.moc_script.specs.declared.fault.ScheduleLineError.TheVariants.{Line}
+use Rattle.moc_lines.specs.declared.error.LineError.{LineError}
+use Rattle.moc_lines.specs.declared.error.LineError.TheVariants.{WrongCount, BadNumber, OrderTooLarge, CellTooLarge}
+use Rattle.moc_lines.specs.declared.error.LineError.TheVariants.{Coverage, EmptyCommand, TooManyCommands}
 use Rattle.moc_text.specs.Lemmas.{empty_within, read_within}
 
 -- ---- what holds if something was parsed
@@ -63,10 +61,6 @@ Any {A} a = Unit {0}
 ok_any : {A F : Type 0} (r : Result A F) → IfOk r Any
 ok_any (Ok a) = tt
 ok_any (Err e) = tt
-
-ok_in_script : {A : Type 0} (P : A → Type 0) (r : Result A LineError) → IfOk r P → IfOk (as_in_script r) P
-ok_in_script P (Ok a) h = h
-ok_in_script P (Err e) h = tt
 
 -- ---- the command of a text is one of sets of pixels, orders and cells
 
@@ -183,8 +177,8 @@ module _ (local : BatchesAreLocal) where
   begin_local text =
       let client = client_by (word_of text) in
       let line = after_word text in
-      ok_if Alone (is_blank_text line) (Err (Line WrongCount)) (begin_by (batch_of command_of) (word_of text) line) tt
-      (ok_then Any Alone client _ (ok_any client) (λ c _. ok_then (IsLocal batches) Alone (as_in_script (batch_of command_of line)) _ (ok_in_script (IsLocal batches) (batch_of command_of line) (batch_local line)) (λ cs is. (is, tt))))
+      ok_if Alone (is_blank_text line) (Err WrongCount) (begin_by (batch_of command_of) (word_of text) line) tt
+      (ok_then Any Alone client _ (ok_any client) (λ c _. ok_then (IsLocal batches) Alone (batch_of command_of line) _ (batch_local line) (λ cs is. (is, tt))))
 
   by_local : (step : ℕ → BatchStep) (text : List ℕ) → ((c : ℕ) → Alone (step c)) → IfOk (step_by step text) Alone
   by_local step text each = ok_then Any Alone (only_client text) _ (ok_any (only_client text)) (λ c _. each c)
@@ -260,12 +254,12 @@ by_step_error s step None is alone rest s' h = record {
   begins_match = λ xs same. h.begins_match (operations_after xs step) (begins_after s.begins (suc s.lines) xs step same);
 }
 
-by_saying : (s : Schedule) (r : Result BatchStep ScheduleLineError) → IfOk r (λ step. AreLocal batches (step ∷ []))
+by_saying : (s : Schedule) (r : Result BatchStep LineError) → IfOk r (λ step. AreLocal batches (step ∷ []))
     → (rest : List BatchStep) (s' : Schedule) → TakesOn (with_step (next_line s) (step_taken s r)) rest s' → TakesOn s (cons_option (step_taken s r) rest) s'
 by_saying s (Ok step) alone rest s' h = by_step_error s step (refusal batches s.world.locks step) refl alone rest s' h
 by_saying s (Err e) alone rest s' h = passed s rest s' h
 
-by_blanks : (s : Schedule) (b : Bool) (r : Result BatchStep ScheduleLineError) → IfOk r (λ step. AreLocal batches (step ∷ []))
+by_blanks : (s : Schedule) (b : Bool) (r : Result BatchStep LineError) → IfOk r (λ step. AreLocal batches (step ∷ []))
     → (rest : List BatchStep) (s' : Schedule) → TakesOn (cond b (next_line s) (with_step (next_line s) (step_taken s r))) rest s' → TakesOn s (cons_option (cond b None (step_taken s r)) rest) s'
 by_blanks s true r alone rest s' h = passed s rest s' h
 by_blanks s false r alone rest s' h = by_saying s r alone rest s' h

@@ -1,5 +1,5 @@
 -- Collection of the results of the lanes.
-use Rattle.std.proofs.Common.{◌≡◌, inr, ℕ, ◌+◌, ◌<◌, List, [], ◌∷◌, ◌++◌, length, map, get_or, Contains, Option, Some, None, Result, Ok, Err, refl, sym, ap, subst, arith, below_more}
+use Rattle.std.proofs.Common.{◌≡◌, inl, inr, ℕ, ◌+◌, ◌<◌, List, [], ◌∷◌, ◌++◌, length, map, get_or, Contains, Option, Some, None, Result, Ok, Err, refl, sym, ap, subst, arith, below_more}
 use Rattle.std.specs.Prelude.{IfErr, IsErrAnd}
 use Rattle.std.proofs.lemmas.List.Elements.{Contains-append_left, Contains-append_right}
 use Rattle.std.proofs.lemmas.List.{get_or_push, get_or_append_left}
@@ -11,11 +11,11 @@ use Rattle.moc_shared.specs.Clients.{record_of, IsClientOf, TakesIn}
 use Rattle.moc_script.specs.Private.Input.{lane_lines}
 use Rattle.moc_script.specs.Private.LaneEnds.{IsLaneEnd, AreLaneEnds}
 use Rattle.moc_script.specs.declared.crews.lane.LaneFailure.{LaneFailure}
-use Rattle.moc_script.specs.declared.crews.threads.LanesError.{LanesError}
-use Rattle.moc_script.specs.declared.crews.threads.LanesError.TheVariants as fault
+use Rattle.moc_lines.specs.declared.run_error.RunError.{RunError}
+use Rattle.moc_lines.specs.declared.run_error.RunError.TheVariants.{Read, Write, LineTooLong, Memory, Spawn}
 use Rattle.moc_text.specs.Lines.{lines_of}
 use Rattle.moc_script.specs.Crews.{IsNonblankLine}
-use Rattle.moc_script.specs.Private.Gathering.{CallsMade, HasBoth, HasLane, IsGathered, NamesFirst, NamesLine}
+use Rattle.moc_script.specs.Private.Gathering.{CallsMade, HasBoth, HasLane, IsGathered, NamesFirst, IsLanesError}
 
 pub has_both : (map : SharedMap) (a b r : BatchRecord) → TakesIn map a b r → (q : CallsMade) → (Contains a.own q → Contains r.own q) × (Contains b.own q → Contains r.own q)
 has_both map a b r taken q =
@@ -30,22 +30,30 @@ pub lane_of_end : (map : SharedMap) (lanes : ℕ) (input : List ℕ) (lane : ℕ
 lane_of_end map lanes input lane end is =
     let m = is.2 in (m.0, subst (λ (l : List CallsMade). Contains l (record { client = lane; made = m.0 })) (sym m.1) (0, omega arith, refl), m.2)
 
--- the line that an error of the lanes names is not blank
-pub first_named : (map : SharedMap) (lanes : ℕ) (input : List ℕ) (ends : List (Result LaneOutput LaneFailure)) (e : LanesError) → AreLaneEnds map lanes input ends
-    → NamesFirst ends e → NamesLine input e
-first_named map lanes input ends (fault.Memory line) are named =
+-- the line that an error of the lanes names is not blank, or is the line after the last
+pub first_named : (map : SharedMap) (lanes : ℕ) (input : List ℕ) (ends : List (Result LaneOutput LaneFailure)) (e : RunError) → AreLaneEnds map lanes input ends
+    → NamesFirst input ends e → IsLanesError input e
+first_named map lanes input ends (Memory line) are (inl named) =
     let first = named.0 in
     let here = named.1.0 in
     let low : here.0 < lanes = omega (arith, are.0, here.1) in
     let ended : IsLaneEnd map lanes input here.0 (Err first) = subst (IsLaneEnd map lanes input here.0) here.2 (are.1 here.0 (Err first) low) in
-    inr (subst (λ (n : ℕ). IsNonblankLine n (lines_of input)) (sym named.2) ended)
-first_named map lanes input ends fault.MemoryAfterLast are named = tt
-first_named map lanes input ends fault.Spawn are named = tt
+    inr (inl (subst (λ (n : ℕ). IsNonblankLine n (lines_of input)) (sym named.2) ended))
+first_named map lanes input ends (Memory line) are (inr named) = inr (inr named.1)
+first_named map lanes input ends Read are named = absurd named
+first_named map lanes input ends Write are named = absurd named
+first_named map lanes input ends (LineTooLong line) are named = absurd named
+first_named map lanes input ends Spawn are named = absurd named
 
 -- an error that is passed on
-pub passed_on : {T : Type 0} (r : Result T LanesError) (e : LanesError) (Q : LanesError → Type 0) → IsErrAnd r (λ f. f ≡ e) → Q e → IfErr r Q
-passed_on (Ok x) e Q same reported = tt
-passed_on (Err f) e Q same reported = subst Q (sym same) reported
+pub passed_on : {T : Type 0} (r : Result T RunError) (e : RunError) (Q : RunError → Type 0) → IsErrAnd r (λ f. f ≡ e) → Q e → IfErr r Q
+passed_on (Ok x) e Q same named = tt
+passed_on (Err f) e Q same named = subst Q (sym same) named
+
+-- an error that is passed on as the result
+pub result_passed_on : {T : Type 0} (r : Result T RunError) (e : RunError) (Q : Result T RunError → Type 0) → IsErrAnd r (λ f. f ≡ e) → Q (Err e) → Q r
+result_passed_on (Ok x) e Q same named = absurd same
+result_passed_on (Err f) e Q same named = subst (λ (x : RunError). Q (Err x)) (sym same) named
 
 abbrev Texts : Type 0
 Texts = List (List ℕ)

@@ -6,7 +6,7 @@ use native.Mathlib.Decide.{ℕ_discrete}
 use Rattle.std.proofs.Math.Nat.{mod-lt, mod-eq_of_lt}
 use Rattle.std.proofs.lemmas.Bool.{cases_lt}
 use Rattle.std.proofs.lemmas.List.{get_or-set_same, get_or-set_other, get_or_default}
-use Rattle.moc_devices.specs.Devices.{Writing, Accepts}
+use Rattle.moc_devices.specs.Devices.{SinkState, Accepts}
 use Rattle.std.specs.Result.{IsErr}
 use Rattle.std.specs.Prelude.{IsErrAnd}
 use Rattle.moc_script.specs.Crews.{in_lane, dealt}
@@ -15,7 +15,7 @@ use Rattle.moc_devices.specs.Lemmas.{Accepts-nil, Accepts-trans}
 use Rattle.moc_devices.specs.Devices.{Sends}
 use Rattle.moc_script.specs.Private.Joining.{AreForLines, IsMerged, SendsTurns, MergesTo}
 use Rattle.moc_script.proofs.LaneLists.{dealt-alone, dealt-here, dealt-else, next_left, next_rest}
-use Rattle.moc_script.proofs.Sending.{Sends-front, Sends-fault, Sends-ok, on_err}
+use Rattle.moc_script.proofs.Sending.{Sends-front, Sends-error, Sends-ok, on_err}
 
 abbrev Texts : Type 0
 Texts = List (List ℕ)
@@ -93,7 +93,7 @@ rest_of (suc k) lanes count turn all left text some for was sum =
     by (answer ∷ new) is next = next answer new is
 
 -- what is merged so far is written except for what is pending
-pub record Turns (all walks : List Texts) (turn : ℕ) (written written' : Writing) (pending : List ℕ) : Type 0 where
+pub record Turns (all walks : List Texts) (turn : ℕ) (written written' : SinkState) (pending : List ℕ) : Type 0 where
   pub count : ℕ
   pub text : List ℕ
   pub sent : List ℕ
@@ -103,7 +103,7 @@ pub record Turns (all walks : List Texts) (turn : ℕ) (written written' : Writi
   pub parts : text ≡ sent ++ pending
 
 -- nothing is merged yet
-pub Turns-start : (all : List Texts) (written : Writing) → 0 < length all → Turns all all 0 written written []
+pub Turns-start : (all : List Texts) (written : SinkState) → 0 < length all → Turns all all 0 written written []
 Turns-start all written some = record {
   count = 0;
   text = [];
@@ -114,7 +114,7 @@ Turns-start all written some = record {
   parts = refl;
 }
 
-module _ (all walks : List Texts) (turn : ℕ) (w0 w w' : Writing) (pending : List ℕ) (t : Turns all walks turn w0 w pending) where
+module _ (all walks : List Texts) (turn : ℕ) (w0 w w' : SinkState) (pending : List ℕ) (t : Turns all walks turn w0 w pending) where
   -- one more answer is sent
   pub Turns-more : {E : Type 0} (turn' : ℕ) (pending' answer : List ℕ) (new : Texts) → turn < length all → get_or walks turn [] ≡ answer ∷ new
       → Sends {E = E} (pending ++ answer) w pending' w' (Ok tt) → ((turn + 1 < length all) × (turn' ≡ turn + 1)) ⊎ ((turn + 1 ≡ length all) × (turn' ≡ 0))
@@ -163,13 +163,13 @@ module _ (all walks : List Texts) (turn : ℕ) (w0 w w' : Writing) (pending : Li
   }
 
 -- the writer failed before the text after the answers
-pub joins_fail : {E F : Type 0} (all : List Texts) (following pending : List ℕ) (w w' : Writing) (r : Result (Unit {0}) E) (r' : Result (Unit {0}) F) → IsErr r' → SendsTurns {E = E} all w pending w' r → MergesTo {E = F} all following w w' r'
+pub joins_fail : {E F : Type 0} (all : List Texts) (following pending : List ℕ) (w w' : SinkState) (r : Result (Unit {0}) E) (r' : Result (Unit {0}) F) → IsErr r' → SendsTurns {E = E} all w pending w' r → MergesTo {E = F} all following w w' r'
 joins_fail all following pending w w' r r' is turns count for =
     let h = turns.whole count for in
     (turns.sent ++ h.0, h.1, record { sent = turns.sent; rest = h.0 ++ following; parts = append_assoc turns.sent h.0 following; appended = turns.appended; pending = on_err _ r' is })
 
 -- the text after the answers is sent, with their pending bytes
-pub joins_then : {E F : Type 0} (all : List Texts) (following pending : List ℕ) (a b c : Writing) (r : Result (Unit {0}) F) → SendsTurns {E = E} all a pending b (Ok tt)
+pub joins_then : {E F : Type 0} (all : List Texts) (following pending : List ℕ) (a b c : SinkState) (r : Result (Unit {0}) F) → SendsTurns {E = E} all a pending b (Ok tt)
     → Sends {E = F} (pending ++ following) b [] c r → MergesTo {E = F} all following a c r
 joins_then all following pending a b c r turns sends count for =
     let h = turns.whole count for in
@@ -197,7 +197,7 @@ only_one (x ∷ []) d one = refl
 only_one (x ∷ y ∷ xs) d one = absurd (omega arith)
 
 -- the same, written with the text after them
-pub joins_alone : {E : Type 0} (all : List Texts) (text following : List ℕ) (a b : Writing) (r : Result (Unit {0}) E) → length all ≡ 1 → text ≡ concat (get_or all 0 [])
+pub joins_alone : {E : Type 0} (all : List Texts) (text following : List ℕ) (a b : SinkState) (r : Result (Unit {0}) E) → length all ≡ 1 → text ≡ concat (get_or all 0 [])
     → Sends {E = E} (text ++ following) a [] b r → MergesTo {E = E} all following a b r
 joins_alone all text following a b r one is sends count for = (
   text,
@@ -209,17 +209,11 @@ joins_alone all text following a b r one is sends count for = (
 )
 
 -- the same result, with another type of its error
-pub joins_ok : {E F : Type 0} (all : List Texts) (following : List ℕ) (a b : Writing) → MergesTo {E = E} all following a b (Ok tt) → MergesTo {E = F} all following a b (Ok tt)
+pub joins_ok : {E F : Type 0} (all : List Texts) (following : List ℕ) (a b : SinkState) → MergesTo {E = E} all following a b (Ok tt) → MergesTo {E = F} all following a b (Ok tt)
 joins_ok all following a b joins count for = let h = joins count for in (h.0, h.1, Sends-ok (h.0 ++ following) [] a b h.2)
 
-pub merges_error : {E F : Type 0} (all : List Texts) (following : List ℕ) (a b : Writing) (e : E) (f : F) → MergesTo {E = E} all following a b (Err e) → MergesTo {E = F} all following a b (Err f)
-merges_error all following a b e f joins count for = let h = joins count for in (h.0, h.1, Sends-fault (h.0 ++ following) [] [] a b (Err e) (Err f) refl h.2)
-
--- the same if an error is passed on
-pub joins_handed : {E F : Type 0} (all : List Texts) (following : List ℕ) (a b : Writing) (e : E) (f : F) (r : Result (Unit {0}) F) → IsErrAnd r (λ g. g ≡ f)
-    → MergesTo {E = E} all following a b (Err e) → MergesTo {E = F} all following a b r
-joins_handed all following a b e f (Ok u) given joins = absurd given
-joins_handed all following a b e f (Err g) given joins = merges_error all following a b e g joins
+pub merges_error : {E F : Type 0} (all : List Texts) (following : List ℕ) (a b : SinkState) (e : E) (f : F) → MergesTo {E = E} all following a b (Err e) → MergesTo {E = F} all following a b (Err f)
+merges_error all following a b e f joins count for = let h = joins count for in (h.0, h.1, Sends-error (h.0 ++ following) [] [] a b (Err e) (Err f) refl h.2)
 
 -- the texts of the next lane
 pub next_has : (walks : List Texts) (turn : ℕ) (old new : Texts) (answer : List ℕ) → turn < length walks → old ≡ get_or walks turn old → old ≡ answer ∷ new → get_or walks turn [] ≡ answer ∷ new

@@ -11,7 +11,7 @@ use Rattle.moc_lines.specs.Language.{piece_command, commands_of, batch_of, answe
 use Rattle.moc_text.specs.Lines.{is_semicolon, pieces_of}
 use Rattle.moc_script.proofs.Single.{first_then}
 use Rattle.moc_script.specs.Theorems.{is_at_sign, LinesWithoutOrder}
-use Rattle.moc_lines.specs.declared.fault.LineError.TheVariants.{EmptyCommand, TooManyCommands}
+use Rattle.moc_lines.specs.declared.error.LineError.TheVariants.{EmptyCommand, TooManyCommands}
 
 pub neither : (a b : Bool) → a || b ≡ false → (a ≡ false) × (b ≡ false)
 neither true b e = cc

@@ -12,13 +12,11 @@ use Rattle.moc_steps.specs.Machine.Step.{Begin}
 use Rattle.moc_lines.specs.Runs.{Rules, is_short, answers_to, after_lines, script_text, line_limit, rules_by, script_rules}
 use Rattle.moc_lines.specs.Language.{answer_to, after_batch, is_blank_text, word_of, after_word, batch_of, ◌>>=◌, command_of, command_by}
 use Rattle.moc_lines.specs.Language.{plain_operand_of}
-use Rattle.moc_script.specs.Schedules.{BatchStep, as_in_script, client_by, begin_of, other_step, step_with_batches, step_of_line}
+use Rattle.moc_script.specs.Schedules.{BatchStep, client_by, begin_of, other_step, step_with_batches, step_of_line}
 use Rattle.moc_script.specs.Schedules.{Schedule, next_line, answer_to_step, step_taken, with_step, last_lines, step_rules}
 use Rattle.moc_script.specs.Schedules.{start_schedule}
-use Rattle.moc_lines.specs.declared.fault.LineError.{LineError}
-use Rattle.moc_lines.specs.declared.fault.LineError.TheVariants.{WrongCount}
-use Rattle.moc_script.specs.declared.fault.ScheduleLineError.{ScheduleLineError}
-use Rattle.moc_script.specs.declared.fault.ScheduleLineError.TheVariants.{Line}
+use Rattle.moc_lines.specs.declared.error.LineError.{LineError}
+use Rattle.moc_lines.specs.declared.error.LineError.TheVariants.{WrongCount}
 use Rattle.moc_script.specs.Theorems.{plain_rules, is_at_sign, one_command}
 use Rattle.moc_script.specs.Theorems.{ScriptsOfSingleCommands, ScriptsWithoutOrder, SchedulesOfSingleCommands}
 use Rattle.moc_script.specs.Theorems.{SchedulesWithoutOrder}
@@ -85,7 +83,7 @@ scripts_without_order input none =
     (each-take_while _ (is_short line_limit) (lines_of input) (none_in_lines is_at_sign input none)))
 
 -- Equal steps have equal answers.
-module _ (denotes others : List ℕ → Result BatchStep ScheduleLineError) (Q : List ℕ → Type 0) (same : (line : List ℕ) → Q line → denotes line ≡ others line) where
+module _ (denotes others : List ℕ → Result BatchStep LineError) (Q : List ℕ → Type 0) (same : (line : List ℕ) → Q line → denotes line ≡ others line) where
   same_step : (s : Schedule) (line : List ℕ) → Q line → ((step_rules denotes).answer s line ≡ (step_rules others).answer s line) × ((step_rules denotes).after s line ≡ (step_rules others).after s line)
   same_step s line each = (
     ap (λ r. cond (is_blank_text line) [] (answer_to_step s r)) (same line each),
@@ -104,9 +102,9 @@ module _ (denotes others : List ℕ → Result BatchStep ScheduleLineError) (Q :
 -- Lines with equal batches have equal steps.
 begin_alike : (batch other : List ℕ → Result (List Command) LineError) (text : List ℕ) → (is_blank_text (after_word text) ≡ false → batch (after_word text) ≡ other (after_word text)) → begin_of batch text ≡ begin_of other text
 begin_alike batch other text same =
-    let begins_match : Result (List Command) LineError → Result BatchStep ScheduleLineError = λ r. client_by (word_of text) >>= (λ c. as_in_script r >>= (λ commands. Ok (Begin c commands))) in
-    let step : (b : Bool) → is_blank_text (after_word text) ≡ b → cond b (Err (Line WrongCount)) (begins_match (batch (after_word text))) ≡ cond b (Err (Line WrongCount)) (begins_match (other (after_word text))) =
-    λ b. elim b as (λ v. is_blank_text (after_word text) ≡ v → cond v (Err (Line WrongCount)) (begins_match (batch (after_word text))) ≡ cond v (Err (Line WrongCount)) (begins_match (other (after_word text)))) [
+    let begins_match : Result (List Command) LineError → Result BatchStep LineError = λ r. client_by (word_of text) >>= (λ c. r >>= (λ commands. Ok (Begin c commands))) in
+    let step : (b : Bool) → is_blank_text (after_word text) ≡ b → cond b (Err WrongCount) (begins_match (batch (after_word text))) ≡ cond b (Err WrongCount) (begins_match (other (after_word text))) =
+    λ b. elim b as (λ v. is_blank_text (after_word text) ≡ v → cond v (Err WrongCount) (begins_match (batch (after_word text))) ≡ cond v (Err WrongCount) (begins_match (other (after_word text)))) [
       | true ↦ λ is. refl
       | false ↦ λ is. ap begins_match (same is)
     ] in

@@ -1,17 +1,16 @@
 -- The texts with which a crew of lanes may answer, and what it has written when it ends.
 use Rattle.std.specs.Prelude.{◌≡◌, ◌==◌, ◌%◌, ℕ, List, [], ◌∷◌, if◌then◌else◌, ◌⊎◌, ◌<◌, ◌≤◌, ◌+◌, ◌-◌, false}
-use Rattle.std.specs.Prelude.{◌++◌, length, slice_index_or, Option, Result, Ok, Err, not, filter, fold, map}
+use Rattle.std.specs.Prelude.{◌++◌, length, slice_index_or, Result, Ok, Err, not, filter, fold, map}
 use Rattle.std.specs.FinSet as set
-use Rattle.moc_devices.specs.Devices.{Reading, Delivers, IsEnded, Writing, Accepts, AcceptsNone, CallsMore}
+use Rattle.moc_devices.specs.Devices.{SourceState, Delivers, IsEnded, SinkState, Accepts, AcceptsNone}
 use Rattle.std.specs.List.{concat, enumerate_from}
 use Rattle.moc_lists.specs.RangeList.{NumberSet}
 use Rattle.moc_text.specs.Lines.{lines_of}
 use Rattle.moc_lines.specs.Language.{is_blank_text, cover_text}
-use Rattle.moc_lines.specs.Runs.{Rules, AreShort, IsTooLong, IsUnfinishedLine, Flushes, line_limit, script_rules}
-use Rattle.moc_lines.specs.declared.run_error.RunError.TheVariants.{Read, Write, LineTooLong, Memory}
-use Rattle.moc_script.specs.declared.crew_error.CrewError.{CrewError}
+use Rattle.moc_lines.specs.Runs.{Rules, AreShort, IsTooLong, IsUnfinishedLine, line_limit, script_rules}
+use Rattle.moc_lines.specs.declared.run_error.RunError.{RunError}
+use Rattle.moc_lines.specs.declared.run_error.RunError.TheVariants.{Read, Write, LineTooLong, Memory, Spawn}
 use Rattle.moc_script.specs.declared.crews.lanes.Lanes.{Lanes}
-use Rattle.moc_script.specs.declared.crew_error.CrewError.TheVariants.{Run, Spawn}
 
 -- Lists that are dealt to lanes, and merges of lanes
 
@@ -87,32 +86,26 @@ IsFailedLine number lines = (number ≡ 0) ⊎ IsNonblankLine number lines ⊎ (
 -- accepted a crew's text of all of them. If the writer failed, the sink accepted a prefix of such a text; at any other
 -- error it accepted nothing. The line of an error is too long, or memory ran out while it was read or after all was
 -- read.
-abbrev pub CrewEnds : ℕ → Reading → Reading → Writing → Writing → Result (Unit {0}) CrewError → Type 0
+abbrev pub CrewEnds : ℕ → SourceState → SourceState → SinkState → SinkState → Result (Unit {0}) RunError → Type 0
 CrewEnds lanes reading reading' writing writing' (Ok _) =
     (given : List ℕ) × Delivers reading reading' given × IsEnded reading' × AreShort line_limit (lines_of given)
     × ((text : List ℕ) × Accepts writing writing' text × IsCrewText lanes (nonblank_lines (lines_of given)) text)
-CrewEnds lanes reading reading' writing writing' (Err (Run Write)) =
+CrewEnds lanes reading reading' writing writing' (Err Write) =
     (given : List ℕ) × Delivers reading reading' given × IsEnded reading'
     × ((text : List ℕ) × Accepts writing writing' text
     × ((rest : List ℕ) × IsCrewText lanes (nonblank_lines (lines_of given)) (text ++ rest)))
-CrewEnds lanes reading reading' writing writing' (Err (Run (LineTooLong line))) =
+CrewEnds lanes reading reading' writing writing' (Err (LineTooLong line)) =
     AcceptsNone writing writing'
     × ((given : List ℕ) × Delivers reading reading' given × IsTooLong line_limit (lines_of given) line)
-CrewEnds lanes reading reading' writing writing' (Err (Run Read)) = AcceptsNone writing writing'
-CrewEnds lanes reading reading' writing writing' (Err (Run (Memory line))) =
+CrewEnds lanes reading reading' writing writing' (Err Read) = AcceptsNone writing writing'
+CrewEnds lanes reading reading' writing writing' (Err (Memory line)) =
     AcceptsNone writing writing'
     × ((given : List ℕ) × Delivers reading reading' given
     × (IsUnfinishedLine line given ⊎ (IsEnded reading' × IsFailedLine line (lines_of given))))
 CrewEnds lanes reading reading' writing writing' (Err Spawn) = AcceptsNone writing writing'
 
--- the number of flushes of a crew: that of a run with this result, and none if a thread could not be started
-abbrev pub CrewFlushes : Result (Unit {0}) CrewError → Option ℕ → Option ℕ → Type 0
-CrewFlushes (Ok u) old new = Flushes (Ok u) old new
-CrewFlushes (Err (Run error)) old new = Flushes (Err error) old new
-CrewFlushes (Err Spawn) old new = CallsMore old new 0
-
 -- each line that is not blank has an answer, in whatever order the lines were applied
 abbrev pub CrewsAnswerEachLine : Type 0
 CrewsAnswerEachLine =
-    (lanes : ℕ) (lines : List (List ℕ)) (text : List ℕ) → 0 < lanes → (reported : IsCrewText lanes lines text)
-    → length reported.answers ≡ length lines
+    (lanes : ℕ) (lines : List (List ℕ)) (text : List ℕ) → 0 < lanes → (crew_text : IsCrewText lanes lines text)
+    → length crew_text.answers ≡ length lines

@@ -7,4 +7,3 @@ pub mod Input
 pub mod Gathering
 pub mod Joining
 pub mod Promises
-pub mod StepReading

@@ -14,7 +14,7 @@ use Rattle.moc_lines.specs.Runs.{Rules, after_lines, script_text, line_limit, ru
 use Rattle.moc_script.specs.Schedules.{BatchStep, step_with_batches, Schedule}
 use Rattle.moc_script.specs.Schedules.{step_rules, schedule_rules, start_schedule}
 use Rattle.moc_script.specs.Schedules.{steps_taken, schedule_text}
-use Rattle.moc_lines.specs.declared.fault.LineError.{LineError}
+use Rattle.moc_lines.specs.declared.error.LineError.{LineError}
 
 -- the batch of the one command of a text
 abbrev pub one_command : List ℕ → Result (List Command) LineError

@@ -1,10 +1,12 @@
 //! Scripts that several threads answer together. A crew is a set of such threads; each thread is a lane.
-ghost use Rattle.std.specs.Prelude.{◌≡◌, ◌≢◌, ◌<◌, ◌↔◌, false, IfOk, IfSome, IfErr, OnOk, OnErr};
+ghost use Rattle.std.specs.Prelude.{◌≡◌, ◌≢◌, ◌<◌, ◌↔◌, false, IfOk, IfErr, OnOk, OnErr};
 ghost use Rattle.std.specs.Prelude.{Err, IsErrOf, IsTrue, length};
-ghost use Rattle.moc_lines.specs.Runs.{EndsFlushed};
+ghost use Rattle.std.specs.FinSet as set;
+ghost use Rattle.moc_shared.specs.Clients.{clients_of, start_of};
+ghost use Rattle.moc_lines.specs.Runs.{EndsFlushed, Flushes};
 ghost use Rattle.moc_text.specs.Lines.{lines_of};
-ghost use Rattle.moc_script.specs.Crews.{CrewEnds, CrewFlushes, cover_line, lane_count, nonblank_lines};
-ghost use Rattle.moc_script.specs.Private.Gathering.{NamesLine};
+ghost use Rattle.moc_script.specs.Crews.{CrewEnds, cover_line, lane_count, nonblank_lines};
+ghost use Rattle.moc_script.specs.Private.Gathering.{AreLaneOutputs, IsLanesError};
 ghost use Rattle.moc_script.specs.Private.Joining.{EndsWriting, AreCrewAnswers};
 
 mod gate;
@@ -17,14 +19,13 @@ mod texts;
 mod theorems;
 mod threads;
 
-use crate::crew_error::CrewError;
 pub use gate::{Gate, OpenGate};
 use gathering::{all_outputs, take_in_all};
-use lane::Job;
+use lane::{Job, LaneOutput};
 pub use lanes::Lanes;
-use merging::{MergeError, write_merged};
+use merging::write_merged;
 use moc_devices::{Sink, Source};
-use moc_lines::{RunError, push_cover, read_all};
+use moc_lines::{RunError, line_after_last, push_cover, read_all};
 use moc_ranges::{Coverage, Memory};
 use moc_shared::{CloseError, NewError, SharedMap};
 use std::alloc::Global;
@@ -33,7 +34,7 @@ use std::sync::Wait;
 use std::thread::Threads;
 use texts::Texts;
 pub use theorems::crews_answer_each_line;
-use threads::{LanesError, run_lanes};
+use threads::run_lanes;
 
 /// The output of a crew.
 #[derive(Drop)]
@@ -44,18 +45,18 @@ struct CrewOutput {
     cover: Vec<u8>,
 }
 
-/// Answers the lines. Returns the answers, and the cover of the set after them.
+/// Answers the lines by the lanes.
 fn answer_all<R: Threads + Wait + Sync, G: Gate + Sync>(
     rt: &R,
     alloc: Global,
     gate: &G,
     input: &[u8],
     lanes: Lanes,
-) -> Result<CrewOutput, LanesError>
-    ensures reported { IfOk result (λ reported.
-        AreCrewAnswers (lane_count lanes) (nonblank_lines (lines_of input.now)) reported.answers.items
-        reported.cover.items) }
-    ensures line { IfErr result (λ e. NamesLine input.now e) }
+) -> Result<CrewOutput, RunError>
+    ensures crew_output { IfOk result (λ crew_output.
+        AreCrewAnswers (lane_count lanes) (nonblank_lines (lines_of input.now)) crew_output.answers.items
+        crew_output.cover.items) }
+    ensures line { IfErr result (λ e. IsLanesError input.now e) }
 {
     let start = Coverage::empty(alloc);
     let lanes = lanes.get();
@@ -63,7 +64,7 @@ fn answer_all<R: Threads + Wait + Sync, G: Gate + Sync>(
         Ok((map, clients)) => (map, clients),
         // The number of lanes is from 1 to 64.
         Err(NewError::BadCount) => unreachable!(),
-        Err(NewError::Memory) => return Err(LanesError::Memory { line: 0 }),
+        Err(NewError::Memory) => return Err(RunError::Memory { line: 0 }),
     };
     let job = Job {
         map: &map,
@@ -71,13 +72,41 @@ fn answer_all<R: Threads + Wait + Sync, G: Gate + Sync>(
         lanes,
     };
     let ends = run_lanes(rt, alloc, gate, job, clients)?;
-    let done = all_outputs(alloc, ends)?;
-    let (client, answers) = take_in_all(alloc, job, done)?;
+    let outputs = all_outputs(alloc, input, ends)?;
+    match close_map(alloc, map, input, lanes, outputs) {
+        Ok(crew_output) => Ok(crew_output),
+        Err(Memory) => Err(RunError::Memory {
+            line: line_after_last(input),
+        }),
+    }
+}
+
+/// Closes the map of lanes that have answered their lines. Returns the answers, and the cover of the set after them.
+fn close_map(
+    alloc: Global,
+    map: SharedMap,
+    input: &[u8],
+    lanes: u8,
+    outputs: Vec<LaneOutput>,
+) -> Result<CrewOutput, Memory>
+    requires some { 0 < lanes }
+    requires start { start_of map ≡ set.empty }
+    requires clients { clients_of map ≡ lanes }
+    requires outputs { AreLaneOutputs map lanes input.now outputs.items }
+    ensures { IfOk result (λ crew_output. AreCrewAnswers lanes (nonblank_lines (lines_of input.now))
+        crew_output.answers.items crew_output.cover.items) }
+{
+    let job = Job {
+        map: &map,
+        input,
+        lanes,
+    };
+    let (client, answers) = take_in_all(alloc, job, outputs)?;
     let set = match map.close(client) {
         Ok(set) => set,
         // The client stands for all clients, and holds no part.
         Err(CloseError::Midway { part: _ }) => unreachable!(),
-        Err(CloseError::Memory) => return Err(LanesError::MemoryAfterLast),
+        Err(CloseError::Memory) => return Err(Memory),
     };
     let cover = line_of_cover(alloc, &set)?;
     Ok(CrewOutput { answers, cover })
@@ -124,7 +153,7 @@ pub fn crew<R: Source, W: Sink, G: Gate + Sync, T: Threads + Wait + Sync>(
     writer: &mut W,
     lanes: Lanes,
     gate: &G,
-) -> Result<(), CrewError>
+) -> Result<(), RunError>
     requires reader { R.mark reader.old ≡ false }
     requires writer { W.mark writer.old ≡ false }
 
@@ -134,45 +163,44 @@ pub fn crew<R: Source, W: Sink, G: Gate + Sync, T: Threads + Wait + Sync>(
 
     // The call succeeds only at the end of the input, and then flushes once after all output.
     ensures end { EndsFlushed result (R.reading reader.new) (W.flushed writer.old) (W.flushed writer.new) }
-    ensures flushes { CrewFlushes result (W.flushes writer.old) (W.flushes writer.new) }
+    ensures flushes { Flushes result (W.flushes writer.old) (W.flushes writer.new) }
 
     // An error names a device only if it has failed; a device that has failed is reported.
-    ensures read { IsErrOf result (CrewError.Run RunError.Read) → IsTrue (R.mark reader.new) }
-    ensures write { IsErrOf result (CrewError.Run RunError.Write) ↔ IsTrue (W.mark writer.new) }
-    ensures reported { IsTrue (R.mark reader.new) → IsErrOf result (CrewError.Run RunError.Read) }
+    ensures read { IsErrOf result RunError.Read → IsTrue (R.mark reader.new) }
+    ensures write { IsErrOf result RunError.Write ↔ IsTrue (W.mark writer.new) }
+    ensures reported { IsTrue (R.mark reader.new) → IsErrOf result RunError.Read }
 {
     let input = read_all(alloc, reader)?;
-    let reported = match answer_all(rt, alloc, gate, &input, lanes) {
-        Ok(reported) => reported,
-        Err(error) => return Err(error.into_crew_error(&input)),
-    };
-    write_output(alloc, &input, &reported, writer)
+    let crew_output = answer_all(rt, alloc, gate, &input, lanes)?;
+    write_output(alloc, &input, &crew_output, writer)
 }
 
 /// Writes the answers to the lines of the input, and flushes the writer.
 fn write_output<W: Sink>(
     alloc: Global,
     input: &[u8],
-    reported: &CrewOutput,
+    crew_output: &CrewOutput,
     writer: &mut W,
-) -> Result<(), CrewError>
-    requires some { 0 < length reported.now.answers.items }
+) -> Result<(), RunError>
+    requires some { 0 < length crew_output.now.answers.items }
     requires writer { W.mark writer.old ≡ false }
-    ensures ends { EndsWriting input.now reported.now.answers.items reported.now.cover.items
+    ensures ends { EndsWriting input.now crew_output.now.answers.items crew_output.now.cover.items
         (W.writing writer.old) (W.writing writer.new) result }
     ensures flushed { OnOk result (IsTrue (W.flushed writer.new)) }
     ensures unflushed { OnErr result (IsTrue (W.flushed writer.new) → IsTrue (W.flushed writer.old)) }
-    ensures flushes { CrewFlushes result (W.flushes writer.old) (W.flushes writer.new) }
-    ensures write { IsErrOf result (CrewError.Run RunError.Write) ↔ IsTrue (W.mark writer.new) }
-    ensures read { result ≢ Err (CrewError.Run RunError.Read) }
+    ensures flushes { Flushes result (W.flushes writer.old) (W.flushes writer.new) }
+    ensures write { IsErrOf result RunError.Write ↔ IsTrue (W.mark writer.new) }
+    ensures read { result ≢ Err RunError.Read }
 {
-    match write_merged(alloc, &reported.answers, &reported.cover, writer) {
-        Ok(()) => {}
-        Err(MergeError::Memory) => return Err(LanesError::MemoryAfterLast.into_crew_error(input)),
-        Err(MergeError::Write) => return Err(RunError::Write.into()),
-    }
+    write_merged(
+        alloc,
+        input,
+        &crew_output.answers,
+        &crew_output.cover,
+        writer,
+    )?;
     if writer.flush().is_err() {
-        return Err(RunError::Write.into());
+        return Err(RunError::Write);
     }
     Ok(())
 }

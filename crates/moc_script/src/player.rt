@@ -4,9 +4,10 @@ ghost use Rattle.moc_steps.specs.Played.{entries_of, step_of};
 ghost use Rattle.moc_script.specs.Schedules.{answer_to_step, begin_lines, done_text, end_text};
 ghost use Rattle.moc_script.specs.Schedules.{name_of_refusal, schedule_rules, start_schedule, step_taken, with_step};
 
-use crate::fault::ReadStepError;
 use crate::step::read_step;
-use moc_lines::{Responder, is_blank_text, push_count, push_cover, push_error, push_reply_line};
+use moc_lines::{
+    LineError, Responder, is_blank_text, push_count, push_cover, push_error, push_reply_line,
+};
 use moc_parts::Replies;
 use moc_ranges::{Coverage, Memory};
 use moc_steps::{CoverError, Entry, Step, StepError, World};
@@ -78,8 +79,8 @@ impl Responder for Player {
         }
         match read_step(alloc, line) {
             Ok(step) => self.take(alloc, step, text),
-            Err(ReadStepError::Fault(fault)) => push_error(fault.name(), text),
-            Err(ReadStepError::Memory) => Err(Memory),
+            Err(LineError::Memory) => Err(Memory),
+            Err(error) => push_error(error.name(), text),
         }
     }
 

@@ -1,11 +1,9 @@
 //! The steps of the lines of a schedule.
-ghost use Rattle.std.specs.Prelude.{◌≤◌, SomeIff};
+ghost use Rattle.std.specs.Prelude.{◌≡◌, ◌≤◌, SomeIff};
 ghost use Rattle.moc_steps.specs.Played.{step_of};
-ghost use Rattle.moc_lines.specs.Language.{batch_of, command_of};
+ghost use Rattle.moc_lines.specs.Language.{ParsesAs, batch_of, command_of};
 ghost use Rattle.moc_script.specs.Schedules.{begin_of, client_by, only_client, only_client_and_part, step_of_line};
-ghost use Rattle.moc_script.specs.Private.StepReading.{ParsesStepAs};
 
-use crate::fault::{ReadStepError, ScheduleLineError};
 use moc_lines::{
     LineError, is_blank_text, is_word, only_field, parse_decimal, read_batch, split_word,
     two_fields,
@@ -29,41 +27,41 @@ fn part_of_number(number: u64) -> Option<Part>
 }
 
 /// Parses a client.
-fn read_client(field: &[u8]) -> Result<u32, ReadStepError>
-    ensures { ParsesStepAs (λ client. client) result (client_by field.now) }
+fn read_client(field: &[u8]) -> Result<u32, LineError>
+    ensures { result ≡ client_by field.now }
 {
     let number = parse_decimal(field).ok_or(LineError::BadNumber)?;
-    let client = client_of_number(number).ok_or(ScheduleLineError::ClientTooLarge)?;
+    let client = client_of_number(number).ok_or(LineError::ClientTooLarge)?;
     Ok(client)
 }
 
 /// Parses a client and a part: exactly two fields.
-fn only_client_and_part(text: &[u8]) -> Result<(u32, Part), ReadStepError>
-    ensures { ParsesStepAs (λ both. both) result (only_client_and_part text.now) }
+fn only_client_and_part(text: &[u8]) -> Result<(u32, Part), LineError>
+    ensures { result ≡ only_client_and_part text.now }
 {
     let (client, part) = two_fields(text)?;
     let client = parse_decimal(client).ok_or(LineError::BadNumber)?;
     let part = parse_decimal(part).ok_or(LineError::BadNumber)?;
-    let client = client_of_number(client).ok_or(ScheduleLineError::ClientTooLarge)?;
-    let part = part_of_number(part).ok_or(ScheduleLineError::PartTooLarge)?;
+    let client = client_of_number(client).ok_or(LineError::ClientTooLarge)?;
+    let part = part_of_number(part).ok_or(LineError::PartTooLarge)?;
     Ok((client, part))
 }
 
 /// Parses a client: exactly one field.
-fn only_client(text: &[u8]) -> Result<u32, ReadStepError>
-    ensures { ParsesStepAs (λ client. client) result (only_client text.now) }
+fn only_client(text: &[u8]) -> Result<u32, LineError>
+    ensures { result ≡ only_client text.now }
 {
     let field = only_field(text)?;
     read_client(field)
 }
 
 /// Parses the rest of `begin`: a client, and a batch of commands.
-fn read_begin(alloc: Global, text: &[u8]) -> Result<Step, ReadStepError>
-    ensures { ParsesStepAs step_of result (begin_of (batch_of command_of) text.now) }
+fn read_begin(alloc: Global, text: &[u8]) -> Result<Step, LineError>
+    ensures { ParsesAs step_of result (begin_of (batch_of command_of) text.now) }
 {
     let (field, line) = split_word(text);
     if is_blank_text(line) {
-        return Err(LineError::WrongCount.into());
+        return Err(LineError::WrongCount);
     }
     let client = read_client(field)?;
     let batch = read_batch(alloc, line)?;
@@ -71,8 +69,8 @@ fn read_begin(alloc: Global, text: &[u8]) -> Result<Step, ReadStepError>
 }
 
 /// Parses the step of a line.
-pub(crate) fn read_step(alloc: Global, line: &[u8]) -> Result<Step, ReadStepError>
-    ensures { ParsesStepAs step_of result (step_of_line line.now) }
+pub(crate) fn read_step(alloc: Global, line: &[u8]) -> Result<Step, LineError>
+    ensures { ParsesAs step_of result (step_of_line line.now) }
 {
     let (word, text) = split_word(line);
     if is_word(word, "begin") {
@@ -93,6 +91,6 @@ pub(crate) fn read_step(alloc: Global, line: &[u8]) -> Result<Step, ReadStepErro
         let client = only_client(text)?;
         Ok(Step::End { client })
     } else {
-        Err(LineError::UnknownWord.into())
+        Err(LineError::UnknownWord)
     }
 }

@@ -83,8 +83,8 @@ pub ends_from : (the : SharedMap) (op : List Command) (reply : List Reply) (numb
     (previous : List (Option Pointer)) → IsFootprint op previous → v.start ≡ start_of the → v.clients ≡ clients_of the
     → number ≡ v.mine.number → u ≡ with_parts v (notes_below previous 12)
     → CallTakesEffect batch_answer (call_by u.mine.number op reply) [] u w → TakesEffect the (call_by number op reply) v.mine w.mine
-ends_from the op reply number v u w previous whole =
-    ends_noted the op reply number v u w (notes_below previous 12) (λ p y h. noted_touched op previous 12 p y whole h)
+ends_from the op reply number v u w previous set_is_valid =
+    ends_noted the op reply number v u w (notes_below previous 12) (λ p y h. noted_touched op previous 12 p y set_is_valid h)
 
 pub undone_noted : (op : List Command) (v u w : ClientView) (notes : List PartNote)
     → ((p : ℕ) (y : Option NumberSet) → Contains notes (note p y) → IsTrue (footprint_of_all op p))
@@ -97,8 +97,8 @@ undone_noted op v u w notes touched held gave =
 
 pub undone_from : (op : List Command) (v u w : ClientView) (previous : List (Option Pointer)) → IsFootprint op previous
     → u ≡ with_parts v (notes_below previous 12) → w ≡ with_holds u [] → HasNoEffect op v.mine w.mine
-undone_from op v u w previous whole =
-    undone_noted op v u w (notes_below previous 12) (λ p y h. noted_touched op previous 12 p y whole h)
+undone_from op v u w previous set_is_valid =
+    undone_noted op v u w (notes_below previous 12) (λ p y h. noted_touched op previous 12 p y set_is_valid h)
 
 pub refuses_from : (the : SharedMap) (op : List Command) (b : Busy) (v w : ClientView) → v.clients ≡ clients_of the
     → MissesTaking op b.part b.holder v w → MissesPart the op b v.mine w.mine
@@ -208,19 +208,19 @@ ends_now the op reply number v w start clients number_is t =
 
 pub undone_held : (op : List Command) (v u : ClientView) (previous : List (Option Pointer)) → IsFootprint op previous
     → u ≡ with_parts v (notes_below previous 12) → HasNoEffect op v.mine u.mine
-undone_held op v u previous whole held =
+undone_held op v u previous set_is_valid held =
     let undone : HasNoEffect op v.mine (with_parts v (notes_below previous 12)).mine =
     record {
       same = (refl, refl, refl);
-      marks = adds op v (notes_below previous 12) (λ p y h. noted_touched op previous 12 p y whole h);
+      marks = adds op v (notes_below previous 12) (λ p y h. noted_touched op previous 12 p y set_is_valid h);
       misses = refl;
     } in
     subst (λ (r : BatchRecord). HasNoEffect op v.mine r) (sym (λ i. (held i).mine)) undone
 
 pub holds_now : (the : SharedMap) (a : Client) (h : Holding) → IsClientOf the a → h.client.number ≡ a.number
     → h.client.seat.table_id ≡ the.table.shared.table_id
-    → h.client.seat.me.0 ≡ with_parts a.seat.me.0 (notes_below h.previous 12) → IsCarried h.client.seat.me
-    → IsFootprint h.batch h.previous → AreWithinOwnParts h.previous → IsHoldingOf the h
+    → h.client.seat.me.0 ≡ with_parts a.seat.me.0 (notes_below h.slots 12) → IsCarried h.client.seat.me
+    → IsFootprint h.batch h.slots → AreWithinOwnParts h.slots → IsHoldingOf the h
 holds_now the a h of_a number table view carried footprint own = record {
   table = table;
   one = subst (λ (x : ClientView). IsSingleClient x) (sym view) (of_a.one.0, of_a.one.1);
@@ -324,9 +324,9 @@ idle_again the h a' of_h s number table no_slot = record {
 pub fails_from : (the : SharedMap) (op : List Command) (v u w : ClientView) (previous : List (Option Pointer))
     → IsFootprint op previous → v.start ≡ start_of the → v.clients ≡ clients_of the
     → u ≡ with_parts v (notes_below previous 12) → BatchFailsOutOfMemory op u w → FailsOutOfMemory the op v.mine w.mine
-fails_from the op v u w previous whole start clients held g = ⊎_elim
-    (λ e. inl (undone_from op v u w previous whole held e))
-    (λ t. inr (t.0, (t.1.0, ends_from the op t.1.0 v.mine.number v u w previous whole start clients refl held t.1.1)))
+fails_from the op v u w previous set_is_valid start clients held g = ⊎_elim
+    (λ e. inl (undone_from op v u w previous set_is_valid held e))
+    (λ t. inr (t.0, (t.1.0, ends_from the op t.1.0 v.mine.number v u w previous set_is_valid start clients refl held t.1.1)))
     g
 
 pub fails_held : (the : SharedMap) (op : List Command) (v w : ClientView) → v.start ≡ start_of the

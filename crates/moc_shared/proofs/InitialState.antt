@@ -88,7 +88,7 @@ module _ {S X O R Y : Type 0} (n : ℕ) (content : S → Y) (part : ℕ → X �
   pub begins : (words : List ℕ) (xs : List S) → length words ≡ table_index n → length xs ≡ table_index n → ((b : ℕ) → slice_index words b ≡ 0)
       → ((b : ℕ) (x : S) → get_elem? (map some xs) (table_index b) ≡ some (some x) → content x ≡ part b start) → valid start
       → TableInvariant n content part answer valid start clients (opening words xs (first_view start clients))
-  begins words xs wide deep zeros contents whole =
+  begins words xs word_count slot_count zeros contents set_is_valid =
       let first : V = first_view start clients in
       let rs : List (Record O R) = new_client_records 0 clients in
       let which = λ (i : ℕ) (v : V) (e : get_elem? (first ∷ []) i ≡ some v). let r : first ≡ v = one i v e in r in
@@ -98,11 +98,11 @@ module _ {S X O R Y : Type 0} (n : ℕ) (content : S → Y) (part : ℕ → X �
       record {
         log = [];
         legal = tt;
-        shown = (first.mine, (0, first, refl, here first.mine first.others), mine_fresh clients);
-        whole = whole;
-        named = λ e h. absurd (none_in e h);
-        wide = wide;
-        deep = mapped_length xs ∙ deep;
+        seen_by_some = (first.mine, (0, first, refl, here first.mine first.others), mine_fresh clients);
+        set_is_valid = set_is_valid;
+        clients_are_known = λ e h. absurd (none_in e h);
+        word_count = word_count;
+        slot_count = mapped_length xs ∙ slot_count;
         spare = λ b spare. zeros b;
         each_part = λ b l. let t = some_there xs (table_index b) (omega arith) in inl (zeros (table_index b), (t.0, t.1, contents b t.0 t.1));
         each_view =
@@ -126,10 +126,10 @@ module _ {S X O R Y : Type 0} (n : ℕ) (content : S → Y) (part : ℕ → X �
                   λ b y h. absurd
                   (none_in (note b y) (subst (λ (l : List (Note Y)). Contains l (note b y)) (holds_none rs) h));
             };
-        missed = λ r q pr pq h b m st. absurd
+        misses_are_marks = λ r q pr pq h b m st. absurd
             (misses_none r h b (kind r (subst (λ (u : V). Contains (records u) r) (sym (which pr.0 pr.1 pr.2)) pr.3))
             m);
-        alone = λ c. let f = (within_max O R c 0 clients).1 in let e = sums_are rs c in
+        clients_are_distinct = λ c. let f = (within_max O R c 0 clients).1 in let e = sums_are rs c in
             let z : times_in_views c (first ∷ []) ≡ times_in_view c first = zero-add (times_in_view c first) in omega arith;
       }
     where

@@ -32,9 +32,9 @@ module _ {S X O R Y : Type 0} (n : ℕ) (content : S → Y) (part : ℕ → X �
   closes words xs id v idle (s, (k, at), same_words, long, values) =
       let A = state_after answer start k.log in (
         k.log,
-        (k.legal, k.named),
+        (k.legal, k.clients_are_known),
         ((k.each_view id v at).fits v.mine (here v.mine v.others)).0,
-        k.whole,
+        k.set_is_valid,
         (λ b x l z e. let z' : slice_index s.words (table_index b) ≡ 0 = ap (λ (w : List ℕ). slice_index w (table_index b)) same_words ∙ z in ⊎_elim
             (λ (f : IsFree content part A s.words s.homes b). let q : f.1.0 ≡ x = some-injective f.1.0 x
             (sym (values (table_index b) f.1.0 f.1.1) ∙ e) in sym (ap content q) ∙ f.1.2)
@@ -52,7 +52,7 @@ module _ {S X O R Y : Type 0} (n : ℕ) (content : S → Y) (part : ℕ → X �
             let a = stood_of c v v.mine (here v.mine v.others) in
             let z = stood_of c u u.mine (here u.mine u.others) in
             let st = d.stands in
-            let same : h.0 ≡ id = one_view c s.views id h.0 v u (k.alone c) at h.3 (omega arith) (omega arith) in
+            let same : h.0 ≡ id = one_view c s.views id h.0 v u (k.clients_are_distinct c) at h.3 (omega arith) (omega arith) in
             let one : u ≡ v =
             some-injective u v (sym h.3 ∙ subst (λ (j : ℕ). get_elem? s.views j ≡ some v) (sym same) at) in
             none_in (note b h.2)
@@ -97,7 +97,7 @@ module _ {S X O R Y : Type 0} (n : ℕ) (content : S → Y) (part : ℕ → X �
             let a = stood_of c v v.mine (here v.mine v.others) in
             let z = stood_of c u u.mine (here u.mine u.others) in
             let st = d.stands in
-            let same : h.0 ≡ id = one_view c s.views id h.0 v u (k.alone c) at h.3 (omega arith) (omega arith) in
+            let same : h.0 ≡ id = one_view c s.views id h.0 v u (k.clients_are_distinct c) at h.3 (omega arith) (omega arith) in
             let one : u ≡ v =
             some-injective u v (sym h.3 ∙ subst (λ (j : ℕ). get_elem? s.views j ≡ some v) (sym same) at) in
             none_in (note b h.2)

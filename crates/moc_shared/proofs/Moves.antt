@@ -90,27 +90,27 @@ module _ {S X O R Y : Type 0} (n : ℕ) (content : S → Y) (part : ℕ → X �
       → Grows s.views v w
       → ((c : ℕ) → times_in_view c w ≡ times_in_view c v)
       → Invariant record { words = words; homes = homes; views = set s.views id w }
-  one_moved s k id v w at words homes log legal shown whole named wide deep spare parts mine others grows same = record {
+  one_moved s k id v w at words homes log legal seen_by_some set_is_valid clients_are_known word_count slot_count spare parts mine others grows same = record {
     log = log;
     legal = legal;
-    shown = shown;
-    whole = whole;
-    named = named;
-    wide = wide;
-    deep = deep;
+    seen_by_some = seen_by_some;
+    set_is_valid = set_is_valid;
+    clients_are_known = clients_are_known;
+    word_count = word_count;
+    slot_count = slot_count;
     spare = spare;
     each_part = parts;
     each_view = λ j u e. ⊎_elim
         (λ (t : (j ≡ id) × (w ≡ u)). subst (FitsIn log words homes) t.1 mine)
         (λ (t : (j ≢ id) × (get_elem? s.views j ≡ some u)). others j u t.0 t.1)
         (at_set s.views id j w u e);
-    missed = λ r q pr pq h b m st.
+    misses_are_marks = λ r q pr pq h b m st.
         let a = was s.views id v w at grows r pr in
         let z = was s.views id v w at grows q pq in
-        z.2 h b (⊎_elim (λ (x : Contains a.0.misses (h, b)). k.missed a.0 z.0 a.1 z.1 h b x (z.3 h st))
+        z.2 h b (⊎_elim (λ (x : Contains a.0.misses (h, b)). k.misses_are_marks a.0 z.0 a.1 z.1 h b x (z.3 h st))
         (λ (f : (y : Record O R) → IsPresent s.views y → StandsFor y h → Contains y.marks (h, b)). f z.0 z.1
         (z.3 h st)) (a.4 h b m));
-    alone = λ c. subst (λ (m : ℕ). m ≤ 1) (sym (sum_set_same (times_in_view c) s.views id v w at (same c))) (k.alone c);
+    clients_are_distinct = λ c. subst (λ (m : ℕ). m ≤ 1) (sym (sum_set_same (times_in_view c) s.views id v w at (same c))) (k.clients_are_distinct c);
   }
 
   -- part b is not held by the view
@@ -159,13 +159,13 @@ module _ {S X O R Y : Type 0} (n : ℕ) (content : S → Y) (part : ℕ → X �
       (λ other. (i, u, y, set_else views id i w other ∙ e, h))
 
   only_mine : (v : V) (r : Record O R) → v.others ≡ [] → Contains (records v) r → v.mine ≡ r
-  only_mine v r alone h = only v.mine r (subst (λ (l : List (Record O R)). Contains (v.mine ∷ l) r) alone h)
+  only_mine v r clients_are_distinct h = only v.mine r (subst (λ (l : List (Record O R)). Contains (v.mine ∷ l) r) clients_are_distinct h)
 
   -- some record has still seen the whole history if the records of the new view have seen what the old ones had seen
   still_shown : (s : State S V) (k : Invariant s) (id : ℕ) (v w : V) → get_elem? s.views id ≡ some v
       → ((r : Record O R) → Contains (records v) r → (q : Record O R) × Contains (records w) q × (q.seen ≡ r.seen))
       → (r : Record O R) × IsPresent (set s.views id w) r × (r.seen ≡ k.log)
-  still_shown s k id v w at keep = go k.shown.0 k.shown.1 k.shown.2
+  still_shown s k id v w at keep = go k.seen_by_some.0 k.seen_by_some.1 k.seen_by_some.2
     where
       go : (r : Record O R) → IsPresent s.views r → r.seen ≡ k.log → (q : Record O R) × IsPresent (set s.views id w) q
           × (q.seen ≡ k.log)
@@ -179,9 +179,9 @@ module _ {S X O R Y : Type 0} (n : ℕ) (content : S → Y) (part : ℕ → X �
   -- the same for views of one record that has seen the same history
   one_shown : (s : State S V) (k : Invariant s) (id : ℕ) (v w : V) → get_elem? s.views id ≡ some v → v.others ≡ []
       → w.mine.seen ≡ v.mine.seen → (r : Record O R) × IsPresent (set s.views id w) r × (r.seen ≡ k.log)
-  one_shown s k id v w at alone same =
+  one_shown s k id v w at clients_are_distinct same =
       still_shown s k id v w at
-      (λ r h. (w.mine, here w.mine w.others, same ∙ ap (λ (q : Record O R). q.seen) (only_mine v r alone h)))
+      (λ r h. (w.mine, here w.mine w.others, same ∙ ap (λ (q : Record O R). q.seen) (only_mine v r clients_are_distinct h)))
 
   -- the word of a held part is not 0
   never_zero : (set_is : X) (words : List ℕ) (homes : List (Option S)) (u : V) (b b' : ℕ) (y : Y)
@@ -194,13 +194,13 @@ module _ {S X O R Y : Type 0} (n : ℕ) (content : S → Y) (part : ℕ → X �
       → get_elem? s.homes (table_index b) ≡ some (some x) → content x ≡ part b (state_after answer start k.log)
       → Invariant record
       { words = set s.words (table_index b) mark; homes = set s.homes (table_index b) none; views = set s.views id (with_part v b (content x)) }
-  took_kept s k id v b x mark at alone stands mark_is within zero_is home is =
+  took_kept s k id v b x mark at clients_are_distinct stands mark_is within zero_is home is =
       let w = with_part v b (content x) in
       let log = k.log in
       let A = state_after answer start log in
       let old = k.each_view id v at in
-      let wide = k.wide in
-      let deep = k.deep in
+      let word_count = k.word_count in
+      let slot_count = k.slot_count in
       let new : Held A (set s.words (table_index b) mark) (set s.homes (table_index b) none) w b (content x) = record {
         within = within;
         word_is = get_or-set_same s.words (table_index b) mark 0 (omega arith) ∙ mark_is;
@@ -212,8 +212,8 @@ module _ {S X O R Y : Type 0} (n : ℕ) (content : S → Y) (part : ℕ → X �
       let older = λ (b' : ℕ) (y : Y) (h : Contains v.holds (note b' y)). let o = old.holding b' y h in
       let m : Held A (set s.words (table_index b) mark) (set s.homes (table_index b) none) v b' y =
       held_apart A s.words s.homes v b mark none b' y o (never_zero A s.words s.homes v b b' y zero_is o) in m in
-      one_moved s k id v w at (set s.words (table_index b) mark) (set s.homes (table_index b) none) log k.legal (one_shown s k id v w at alone refl)
-      k.whole k.named (length-set s.words (table_index b) mark ∙ wide) (length-set s.homes (table_index b) none ∙ deep) (spare_apart s.words b mark k.spare)
+      one_moved s k id v w at (set s.words (table_index b) mark) (set s.homes (table_index b) none) log k.legal (one_shown s k id v w at clients_are_distinct refl)
+      k.set_is_valid k.clients_are_known (length-set s.words (table_index b) mark ∙ word_count) (length-set s.homes (table_index b) none ∙ slot_count) (spare_apart s.words b mark k.spare)
       (λ b' l. dite (ℕ_discrete b' b)
       (λ e. inr (
         id,
@@ -228,10 +228,10 @@ module _ {S X O R Y : Type 0} (n : ℕ) (content : S → Y) (part : ℕ → X �
       (k.each_part b' l)))
       record {
         same_map = old.same_map;
-        fits = λ r h. subst (λ (q : Record O R). IsConsistent log q × IsConsistent q.seen q) (only_mine w r alone h)
+        fits = λ r h. subst (λ (q : Record O R). IsConsistent log q × IsConsistent q.seen q) (only_mine w r clients_are_distinct h)
             (old.fits v.mine (here v.mine v.others));
         known = λ r h c st. old.known v.mine (here v.mine v.others) c
-            (subst (λ (q : Record O R). StandsFor q c) (sym (only_mine w r alone h)) st);
+            (subst (λ (q : Record O R). StandsFor q c) (sym (only_mine w r clients_are_distinct h)) st);
         holding = λ b' y h. ⊎_elim
             (λ (e : note b (content x) ≡ note b' y). subst
             (λ (t : Note Y). Held A (set s.words (table_index b) mark) (set s.homes (table_index b) none) w t.part t.content) e new)
@@ -252,10 +252,10 @@ module _ {S X O R Y : Type 0} (n : ℕ) (content : S → Y) (part : ℕ → X �
       (λ r h. (
         v.mine,
         here v.mine v.others,
-        (λ g d m. subst (λ (q : Record O R). Contains q.marks (g, d)) (only_mine w r alone h)
+        (λ g d m. subst (λ (q : Record O R). Contains q.marks (g, d)) (only_mine w r clients_are_distinct h)
             (there (v.mine.number, b) v.mine.marks (g, d) m)),
-        (λ c st. subst (λ (q : Record O R). StandsFor q c) (sym (only_mine w r alone h)) st),
-        (λ g d m. inl (subst (λ (q : Record O R). Contains q.misses (g, d)) (sym (only_mine w r alone h)) m)),
+        (λ c st. subst (λ (q : Record O R). StandsFor q c) (sym (only_mine w r clients_are_distinct h)) st),
+        (λ g d m. inl (subst (λ (q : Record O R). Contains q.misses (g, d)) (sym (only_mine w r clients_are_distinct h)) m)),
       ))
       (λ c. refl)
 
@@ -274,7 +274,7 @@ module _ {S X O R Y : Type 0} (n : ℕ) (content : S → Y) (part : ℕ → X �
       → Invariant record
       { words = set s.words (table_index b) (slice_index s.words (table_index b)); homes = s.homes; views = set s.views id (with_miss v h b) }
       × (h < clients) × ¬ StandsFor v.mine h
-  missed_kept s k id v b h at alone within is apart =
+  missed_kept s k id v b h at clients_are_distinct within is apart =
       let w = with_miss v h b in
       let log = k.log in
       let A = state_after answer start log in
@@ -288,21 +288,21 @@ module _ {S X O R Y : Type 0} (n : ℕ) (content : S → Y) (part : ℕ → X �
       let not_mine : StandsFor v.mine h → ⊥ = λ st.
       let a = stood_of h v v.mine (here v.mine v.others) in
       let z = stood_of h u u.mine (here u.mine u.others) in
-      let same : o.0 ≡ id = one_view h s.views id o.0 v u (k.alone h) at o.3 (omega arith) (omega arith) in
+      let same : o.0 ≡ id = one_view h s.views id o.0 v u (k.clients_are_distinct h) at o.3 (omega arith) (omega arith) in
       let one : u ≡ v = some-injective u v (sym o.3 ∙ subst (λ (j : ℕ). get_elem? s.views j ≡ some v) (sym same) at) in
       apart o.2 (subst (λ (x : V). Contains x.holds (note b o.2)) one o.4) in
       let still : set s.words (table_index b) (slice_index s.words (table_index b)) ≡ s.words = set-get_or s.words (table_index b) 0 in (
         subst (λ (l : List ℕ). Invariant record { words = l; homes = s.homes; views = set s.views id w }) (sym still)
-            (one_moved s k id v w at s.words s.homes log k.legal (one_shown s k id v w at alone refl) k.whole k.named
-            k.wide k.deep k.spare
+            (one_moved s k id v w at s.words s.homes log k.legal (one_shown s k id v w at clients_are_distinct refl) k.set_is_valid k.clients_are_known
+            k.word_count k.slot_count k.spare
             (λ b' l. ⊎_elim (λ f. inl f) (λ g. inr (still_held s.views id v w b' at (λ y c. (y, c)) g))
             (k.each_part b' l))
             record {
               same_map = old.same_map;
-              fits = λ r g. subst (λ (q : Record O R). IsConsistent log q × IsConsistent q.seen q) (only_mine w r alone g)
+              fits = λ r g. subst (λ (q : Record O R). IsConsistent log q × IsConsistent q.seen q) (only_mine w r clients_are_distinct g)
                   (old.fits v.mine (here v.mine v.others));
               known = λ r g c st. old.known v.mine (here v.mine v.others) c
-                  (subst (λ (q : Record O R). StandsFor q c) (sym (only_mine w r alone g)) st);
+                  (subst (λ (q : Record O R). StandsFor q c) (sym (only_mine w r clients_are_distinct g)) st);
               holding = λ b' y g. let m = old.holding b' y g in
                   record {
                     within = m.within;
@@ -317,17 +317,17 @@ module _ {S X O R Y : Type 0} (n : ℕ) (content : S → Y) (part : ℕ → X �
             (λ r g. (
               v.mine,
               here v.mine v.others,
-              (λ c d m. subst (λ (q : Record O R). Contains q.marks (c, d)) (only_mine w r alone g) m),
-              (λ c st. subst (λ (q : Record O R). StandsFor q c) (sym (only_mine w r alone g)) st),
+              (λ c d m. subst (λ (q : Record O R). Contains q.marks (c, d)) (only_mine w r clients_are_distinct g) m),
+              (λ c st. subst (λ (q : Record O R). StandsFor q c) (sym (only_mine w r clients_are_distinct g)) st),
               (λ c d m. ⊎_elim
                   (λ (e : (h, b) ≡ (c, d)). inr
                   (λ q p st. subst (λ (z : ℕ × ℕ). Contains q.marks (z.0, z.1)) e
                   (subst (λ (z : Record O R). Contains z.marks (h, b))
-                  (one_record h s.views u.mine q (k.alone h) there_stands p stands
+                  (one_record h s.views u.mine q (k.clients_are_distinct h) there_stands p stands
                   (subst (λ (z : ℕ × ℕ). StandsFor q z.0) (sym e) st)) marked)))
                   (λ (t : Contains v.mine.misses (c, d)). inl t)
                   (cons_cases (h, b) v.mine.misses (c, d)
-                  (subst (λ (q : Record O R). Contains q.misses (c, d)) (sym (only_mine w r alone g)) m))),
+                  (subst (λ (q : Record O R). Contains q.misses (c, d)) (sym (only_mine w r clients_are_distinct g)) m))),
             ))
             (λ c. refl)),
         (k.each_view o.0 u o.3).known u.mine (here u.mine u.others) h stands,
@@ -348,20 +348,20 @@ module _ {S X O R Y : Type 0} (n : ℕ) (content : S → Y) (part : ℕ → X �
       let su : 0 < times_standing c u.mine = subst (λ (x : ℕ). 0 < times_standing x u.mine) same du.stands in
       let pv = stood_of c v v.mine (here v.mine v.others) in
       let pu = stood_of c u u.mine (here u.mine u.others) in
-      ne (one_view c s.views id j v u (k.alone c) at e (omega arith) (omega arith))
+      ne (one_view c s.views id j v u (k.clients_are_distinct c) at e (omega arith) (omega arith))
 
   gave_kept : (s : State S V) (k : Invariant s) (id : ℕ) (v : V) (b : ℕ) (x : S) (notes : List (Note Y))
       → get_elem? s.views id ≡ some v → v.others ≡ [] → v.holds ≡ note b (content x) ∷ notes
       → ((y : Y) → ¬ Contains notes (note b y))
       → Invariant record
       { words = set s.words (table_index b) 0; homes = set s.homes (table_index b) (some x); views = set s.views id (with_holds v notes) }
-  gave_kept s k id v b x notes at alone held apart =
+  gave_kept s k id v b x notes at clients_are_distinct held apart =
       let w = with_holds v notes in
       let log = k.log in
       let A = state_after answer start log in
       let old = k.each_view id v at in
-      let wide = k.wide in
-      let deep = k.deep in
+      let word_count = k.word_count in
+      let slot_count = k.slot_count in
       let in_old =
       λ (t : Note Y) (h : Contains notes t). subst (λ (l : List (Note Y)). Contains l t) (sym held)
       (there (note b (content x)) notes t h) in
@@ -372,8 +372,8 @@ module _ {S X O R Y : Type 0} (n : ℕ) (content : S → Y) (part : ℕ → X �
       let others_apart = λ (b' : ℕ) (y : Y) (h : Contains notes (note b' y)). let m : b' ≢ b =
       (λ e. apart y (subst (λ (j : ℕ). Contains notes (note j y)) e h)) in m in
       one_moved s k id v w at (set s.words (table_index b) 0) (set s.homes (table_index b) (some x)) log k.legal
-      (one_shown s k id v w at alone refl) k.whole k.named (length-set s.words (table_index b) 0 ∙ wide)
-      (length-set s.homes (table_index b) (some x) ∙ deep) (spare_apart s.words b 0 k.spare)
+      (one_shown s k id v w at clients_are_distinct refl) k.set_is_valid k.clients_are_known (length-set s.words (table_index b) 0 ∙ word_count)
+      (length-set s.homes (table_index b) (some x) ∙ slot_count) (spare_apart s.words b 0 k.spare)
       (λ b' l. dite (ℕ_discrete b' b)
       (λ e. inl
       (subst (λ (j : ℕ). IsFree content part A (set s.words (table_index b) 0) (set s.homes (table_index b) (some x)) j) (sym e)
@@ -431,16 +431,16 @@ module _ {S X O R Y : Type 0} (n : ℕ) (content : S → Y) (part : ℕ → X �
         homes = set s.homes (table_index b) (some x);
         views = set s.views id (after_call v k.log (call_by v.mine.number op reply) notes);
       }
-  ended_kept s k id v b x notes op reply at alone stands same_parts apart done =
+  ended_kept s k id v b x notes op reply at clients_are_distinct stands same_parts apart done =
       let e : Call O R = call_by v.mine.number op reply in
       let log = k.log in
       let log' = log ++ e ∷ [] in
       let w = after_call v log e notes in
       let A = state_after answer start log in
       let old = k.each_view id v at in
-      let wide = k.wide in
-      let deep = k.deep in
-      let did = done A k.whole (λ c y h. (old.holding c y h).noted) in
+      let word_count = k.word_count in
+      let slot_count = k.slot_count in
+      let did = done A k.set_is_valid (λ c y h. (old.holding c y h).noted) in
       let set_is : state_after answer start log' ≡ (answer A op).0 = result_with answer start log e in
       let in_old = λ (c : ℕ) (h : Contains (b ∷ parts_of_notes notes) c). let r : (y : Y) × Contains v.holds (note c y) =
       note_in v.holds c (subst (λ (l : List ℕ). Contains l c) (sym same_parts) h) in r in
@@ -455,10 +455,10 @@ module _ {S X O R Y : Type 0} (n : ℕ) (content : S → Y) (part : ℕ → X �
       (legal_with answer start log e k.legal (sym did.0))
       (w.mine, (id, w, at_new s.views id v w at, here w.mine w.others), refl)
       (subst valid (sym set_is) did.3)
-      (λ q h. ⊎_elim (λ (o : Contains log q). k.named q o)
+      (λ q h. ⊎_elim (λ (o : Contains log q). k.clients_are_known q o)
       (λ (t : e ≡ q). subst (λ (z : Call O R). z.client < clients) t
       (old.known v.mine (here v.mine v.others) v.mine.number stands)) (Contains-push_cases log e q h))
-      (length-set s.words (table_index b) 0 ∙ wide) (length-set s.homes (table_index b) (some x) ∙ deep) (spare_apart s.words b 0 k.spare)
+      (length-set s.words (table_index b) 0 ∙ word_count) (length-set s.homes (table_index b) (some x) ∙ slot_count) (spare_apart s.words b 0 k.spare)
       (λ c l. subst
       (λ (a : X). IsFree content part a (set s.words (table_index b) 0) (set s.homes (table_index b) (some x)) c ⊎ SomeHolds (set s.views id w) c)
       (sym set_is) (dite (ℕ_discrete c b)
@@ -476,12 +476,12 @@ module _ {S X O R Y : Type 0} (n : ℕ) (content : S → Y) (part : ℕ → X �
       (k.each_part c l))))
       record {
         same_map = λ c p. old.same_map c (subst (λ (m : ℕ). 0 < m) (same_sums c) p);
-        fits = λ r h. subst (λ (q : Record O R). IsConsistent log' q × IsConsistent q.seen q) (only_mine w r alone h)
+        fits = λ r h. subst (λ (q : Record O R). IsConsistent log' q × IsConsistent q.seen q) (only_mine w r clients_are_distinct h)
             (let f : IsConsistent log' w.mine = fits_with_call log e v.mine w.mine refl (starts_itself log')
             (old.fits v.mine (here v.mine v.others)).0 in (f, f));
         known = λ r h c st. old.known v.mine (here v.mine v.others) c
             (subst (λ (m : ℕ). 0 < m) (stood_with_call e v.mine log' c)
-            (subst (λ (q : Record O R). StandsFor q c) (sym (only_mine w r alone h)) st));
+            (subst (λ (q : Record O R). StandsFor q c) (sym (only_mine w r clients_are_distinct h)) st));
         holding = λ c y h.
             let i : Contains (parts_of_notes notes) c = part_in notes c y h in
             let z = in_old c (there b (parts_of_notes notes) c i) in
@@ -509,7 +509,7 @@ module _ {S X O R Y : Type 0} (n : ℕ) (content : S → Y) (part : ℕ → X �
           fits_longer log e r
               (λ d i same. let st : StandsFor r v.mine.number = subst (λ (c : ℕ). StandsFor r c) same (stands_by r d i) in
               let a = stood_of v.mine.number u r h in let z = stood_of v.mine.number v v.mine (here v.mine v.others) in
-              ne (one_view v.mine.number s.views id j v u (k.alone v.mine.number) at q (omega arith) (omega arith))) o.0,
+              ne (one_view v.mine.number s.views id j v u (k.clients_are_distinct v.mine.number) at q (omega arith) (omega arith))) o.0,
           o.1,
         );
         known = f.known;
@@ -528,10 +528,10 @@ module _ {S X O R Y : Type 0} (n : ℕ) (content : S → Y) (part : ℕ → X �
       (λ r h. (
         v.mine,
         here v.mine v.others,
-        (λ g d m. subst (λ (q : Record O R). Contains q.marks (g, d)) (only_mine w r alone h) m),
+        (λ g d m. subst (λ (q : Record O R). Contains q.marks (g, d)) (only_mine w r clients_are_distinct h) m),
         (λ c st. subst (λ (m : ℕ). 0 < m) (stood_with_call e v.mine log' c)
-            (subst (λ (q : Record O R). StandsFor q c) (sym (only_mine w r alone h)) st)),
-        (λ g d m. inl (subst (λ (q : Record O R). Contains q.misses (g, d)) (sym (only_mine w r alone h)) m)),
+            (subst (λ (q : Record O R). StandsFor q c) (sym (only_mine w r clients_are_distinct h)) st)),
+        (λ g d m. inl (subst (λ (q : Record O R). Contains q.misses (g, d)) (sym (only_mine w r clients_are_distinct h)) m)),
       ))
       (λ c. same_sums c)
     where
@@ -551,14 +551,14 @@ module _ {S X O R Y : Type 0} (n : ℕ) (content : S → Y) (part : ℕ → X �
 
   -- the effect of a failed step on its seat
   abbrev Refused : M → ℕ → ℕ → V → Type 0
-  Refused me b h w = let new : M = (w, me.1) in let missed : M = (with_miss me.0 h b, me.1) in (new ≡ missed)
+  Refused me b h w = let new : M = (w, me.1) in let misses_are_marks : M = (with_miss me.0 h b, me.1) in (new ≡ misses_are_marks)
       × (h < me.0.clients) × ¬ StandsFor me.0.mine h
 
   takes_there : (slots id : ℕ) (me : M) (b mark : ℕ) → b < n → IsSingleClient me.0 → mark ≡ suc me.0.mine.number
       → ((y : Y) → ¬ Contains me.0.holds (note b y))
       → Allows Invariant slots id me (table_index b) (λ x. either (eqb x 0) mark x)
       (TakesPart content part (step slots (table_index b) 0 mark none) me)
-  takes_there slots id me b mark within one mark_is apart s k deep at small =
+  takes_there slots id me b mark within one mark_is apart s k slot_count at small =
       let v : V = me.0 in
       let word : ℕ = slice_index s.words (table_index b) in
       dite (ℕ_discrete word 0)
@@ -614,7 +614,7 @@ module _ {S X O R Y : Type 0} (n : ℕ) (content : S → Y) (part : ℕ → X �
   pub gives_part : (slots id : ℕ) (me : M) (b : ℕ) (x : S) (cs : List (ℕ × S)) (notes : Notes) → IsSingleClient me.0
       → me.1 ≡ (table_index b, x) ∷ cs → me.0.holds ≡ note b (content x) ∷ notes → ((y : Y) → ¬ Contains notes (note b y))
       → Allows Invariant slots id me (table_index b) (λ _. 0) (λ _. GivesPart (step slots (table_index b) 0 0 none) me 0)
-  gives_part slots id me b x cs notes one carried held apart s k deep at small =
+  gives_part slots id me b x cs notes one carried held apart s k slot_count at small =
       let v : V = me.0 in
       let w : V = with_holds v (tail v.holds) in
       let same : notes ≡ tail v.holds = ap (tail {A = Note Y}) (sym held) in (
@@ -633,7 +633,7 @@ module _ {S X O R Y : Type 0} (n : ℕ) (content : S → Y) (part : ℕ → X �
       → ¬ Contains (parts_of_notes notes) b
       → HasEffect part answer valid e.operation e.reply me.0.holds (note b (content x) ∷ notes)
       → Allows Invariant slots id me (table_index b) (λ _. 0) (λ _. EndsWithCall answer e notes (step slots (table_index b) 0 0 none) me 0)
-  ends_call slots id me b x cs e notes one by carried same apart done s k deep at small =
+  ends_call slots id me b x cs e notes one by carried same apart done s k slot_count at small =
       let v : V = me.0 in
       let own : call_by v.mine.number e.operation e.reply ≡ e =
       (λ i. record { client = sym by i; operation = e.operation; reply = e.reply }) in
@@ -651,7 +651,7 @@ module _ {S X O R Y : Type 0} (n : ℕ) (content : S → Y) (part : ℕ → X �
       subst (λ (l : List (ℕ × S)). Invariant (stepped s (table_index b) 0 id l w gives)) (sym carried) new in
       let mine = (kept.each_view id w (at_new s.views id v w at)).fits w.mine (here w.mine w.others) in
       let known = λ (q : Call O R) (h : Contains (log ++ e ∷ []) q). let r : q.client < clients =
-      ⊎_elim (λ (o : Contains log q). k.named q o)
+      ⊎_elim (λ (o : Contains log q). k.clients_are_known q o)
       (λ (t : e ≡ q). subst (λ (z : Call O R). z.client < clients) t
       (subst (λ (m : ℕ). m < clients) (sym by) (old.known v.mine (here v.mine v.others) v.mine.number one.1)))
       (Contains-push_cases log e q h) in r in (
@@ -669,7 +669,7 @@ module _ {S X O R Y : Type 0} (n : ℕ) (content : S → Y) (part : ℕ → X �
                 sym (old.same_map v.mine.number (stands_in v one.1)).1 i,
               )) (
                 legal_with answer start log e k.legal
-                    (sym (done (state_after answer start log) k.whole (λ c y h. (old.holding c y h).noted)).0),
+                    (sym (done (state_after answer start log) k.set_is_valid (λ c y h. (old.holding c y h).noted)).0),
                 known,
               ),
           mine.1,

@@ -36,8 +36,8 @@ unmapped (y ∷ ys) (suc b) x e = unmapped ys b x e
 pub made : (words : List ℕ) (start : NumberSet) (slots : List (Option Pointer)) (clients : ℕ) → length words ≡ table_index 12
     → ((b : ℕ) → slice_index words b ≡ 0) → ArePartsOf start slots (table_index 12) → IsInSky start
     → TableInvariant 12 content part batch_answer IsInSky start clients (opening words slots (first_view start clients))
-made words start slots clients wide zeros stand within =
-    begins 12 content part batch_answer IsInSky start clients words slots wide stand.0 zeros
+made words start slots clients word_count zeros stand within =
+    begins 12 content part batch_answer IsInSky start clients words slots word_count stand.0 zeros
     (λ b x e. stand.1 b x (unmapped slots (table_index b) x e)) within
 
 last_one : (xs : List (Option Pointer)) (x y : Option Pointer) (b : ℕ) → get_elem? (xs ++ x ∷ []) b ≡ some y

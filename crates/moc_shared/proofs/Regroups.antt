@@ -49,22 +49,22 @@ module _ {S X O R Y : Type 0} (n : ℕ) (content : S → Y) (part : ℕ → X �
       → MarksStay s.views views → MissesStay s.views views → ((c : ℕ) → times_in_views c views ≤ times_in_views c s.views)
       → ((r : Record O R) × IsPresent views r × (r.seen ≡ k.log))
       → Invariant record { words = s.words; homes = s.homes; views = views }
-  regrouped s k views parts fits marks misses sums shown = record {
+  regrouped s k views parts fits marks misses sums seen_by_some = record {
     log = k.log;
     legal = k.legal;
-    shown = shown;
-    whole = k.whole;
-    named = k.named;
-    wide = k.wide;
-    deep = k.deep;
+    seen_by_some = seen_by_some;
+    set_is_valid = k.set_is_valid;
+    clients_are_known = k.clients_are_known;
+    word_count = k.word_count;
+    slot_count = k.slot_count;
     spare = k.spare;
     each_part = λ b l. ⊎_elim (λ f. inl f) (λ h. inr (parts b h)) (k.each_part b l);
     each_view = fits;
-    missed = λ r q pr pq h b m st.
+    misses_are_marks = λ r q pr pq h b m st.
         let a = misses r h b pr m in
         let z = marks q h pq st in
-        z.3 b (k.missed a.0 z.0 a.1 z.1 h b a.2 z.2);
-    alone = λ c. let within_max = k.alone c in let less = sums c in omega arith;
+        z.3 b (k.misses_are_marks a.0 z.0 a.1 z.1 h b a.2 z.2);
+    clients_are_distinct = λ c. let within_max = k.clients_are_distinct c in let less = sums c in omega arith;
   }
 
   at_new : (views : List V) (id : ℕ) (v w : V) → get_elem? views id ≡ some v → get_elem? (set views id w) id ≡ some w
@@ -222,7 +222,7 @@ module _ {S X O R Y : Type 0} (n : ℕ) (content : S → Y) (part : ℕ → X �
         f.0,
         g.0,
         fit,
-        λ h b m st. kept.missed w.mine w.mine
+        λ h b m st. kept.misses_are_marks w.mine w.mine
             (id, w, at_new s.views id v w at, here w.mine w.others)
             (id, w, at_new s.views id v w at, here w.mine w.others) h b m st,
       )
@@ -330,7 +330,7 @@ module _ {S X O R Y : Type 0} (n : ℕ) (content : S → Y) (part : ℕ → X �
       (λ (o : IsPresent s.views r). (r, o, m)) (was r p))
       (λ c. let a = sum_set (times_in_view c) s.views id v u at in let b = sum_set (times_in_view c) mid other w spent at_mid in
       let d = sum_u c in let e = sum_spent c in omega arith)
-      (seen_by k.shown.0 k.shown.1 k.shown.2)
+      (seen_by k.seen_by_some.0 k.seen_by_some.1 k.seen_by_some.2)
     where
       seen_by : (r : Record O R) → IsPresent s.views r → r.seen ≡ k.log → (q : Record O R)
           × IsPresent (set (set s.views id (joined_views v w)) other spent) q × (q.seen ≡ k.log)
@@ -471,7 +471,7 @@ module _ {S X O R Y : Type 0} (n : ℕ) (content : S → Y) (part : ℕ → X �
       (λ c. let a = sum_set (times_in_view c) s.views id v left at in let b = sum_by_push (times_in_view c) mid right in
       let d = two c in let e = sums c in let f : times_in_view c left ≡ times_standing c v.mine = zero-add (times_standing c v.mine) in
       omega arith)
-      (seen_by k.shown.0 k.shown.1 k.shown.2)
+      (seen_by k.seen_by_some.0 k.seen_by_some.1 k.seen_by_some.2)
     where
       two_views : List V
       two_views = set s.views id (first_record v) ++ right ∷ []
@@ -546,12 +546,12 @@ module _ {S X O R Y : Type 0} (n : ℕ) (content : S → Y) (part : ℕ → X �
       let sum = stood_of v.mine.number v v.mine (here v.mine v.others) in
       let same = (k.each_view id v at).same_map v.mine.number (omega arith) in (
         subst (λ (x : X). IsLegal answer x k.log) (sym same.0) k.legal,
-        λ e c. subst (λ (m : ℕ). e.client < m) (sym same.1) (k.named e c),
+        λ e c. subst (λ (m : ℕ). e.client < m) (sym same.1) (k.clients_are_known e c),
       )
 
   pub looks : (slots id : ℕ) (me : M) (b : ℕ) → StandsFor me.0.mine me.0.mine.number
       → Allows Invariant slots id me b (λ x. x) (ReadsHistory answer (step slots b 0 0 none) me)
-  looks slots id me b stands s k deep at small =
+  looks slots id me b stands s k slot_count at small =
       let v : V = me.0 in
       let old = k.each_view id v at in (
         with_history v k.log,
@@ -565,7 +565,7 @@ module _ {S X O R Y : Type 0} (n : ℕ) (content : S → Y) (part : ℕ → X �
 
   pub gathers : (slots id : ℕ) (me : M) (b : ℕ) (q : Record O R) → StandsFor me.0.mine me.0.mine.number
       → me.0.others ≡ q ∷ [] → Allows Invariant slots id me b (λ x. x) (MergesRecords answer (step slots b 0 0 none) me)
-  gathers slots id me b q stands two s k deep at small =
+  gathers slots id me b q stands two s k slot_count at small =
       let v : V = me.0 in
       let g = gathered_kept s k id v q at two in (
         merged v q k.log,

@@ -94,11 +94,11 @@ pub agrees : (cs : List Command) (slots : List (Option Pointer)) (a : NumberSet)
     → ((b : ℕ) (y : Option NumberSet) → Contains (notes_below slots 12) (note b y) → y ≡ part b a)
     → AgreeOn (footprint_of_all cs) (union_of (lists_of slots)) a
 unfolding base_pixel
-agrees cs slots a long own whole within noted q touched = elim (cases_lt (q / base_pixel_size) 12) [
+agrees cs slots a long own set_is_valid within noted q touched = elim (cases_lt (q / base_pixel_size) 12) [
   | inl l ↦
       let b : ℕ = q / base_pixel_size in
       union_at slots q own
-      ∙ ap (λ (s : NumberSet). finset.contains s q) (noted_list slots b a l (whole b l ∙ touched) noted)
+      ∙ ap (λ (s : NumberSet). finset.contains s q) (noted_list slots b a l (set_is_valid b l ∙ touched) noted)
       ∙ contains-part_of a b q ∙ ap (λ (t : Bool). finset.contains a q && t) (eq-eqb b b refl)
       ∙ and_true (finset.contains a q)
   | inr far ↦
@@ -118,7 +118,7 @@ pub same_part : (cs : List Command) (slots : List (Option Pointer)) (a b : Numbe
     → ((q : ℕ) → footprint_of_all cs (base_pixel q) ≡ false → finset.contains b q ≡ finset.contains a q)
     → (k : ℕ) → ¬ Contains (parts_of_notes (notes_below slots 12)) k → part k b ≡ part k a
 unfolding base_pixel part
-same_part cs slots a b whole v w out k none =
+same_part cs slots a b set_is_valid v w out k none =
     ap (λ (s : NumberSet). Some s)
     (same_members _ _
     (λ q. contains-part_of b k q ∙ one q (ℕ_discrete (q / base_pixel_size) k) ∙ sym (contains-part_of a k q)))
@@ -126,7 +126,7 @@ same_part cs slots a b whole v w out k none =
     untouched : k < 12 → footprint_of_all cs k ≡ false
     untouched l = elim (cases_Bool (footprint_of_all cs k)) [
       | inl t ↦
-          let s = some_is (slot_at slots k) (whole k l ∙ t) in
+          let s = some_is (slot_at slots k) (set_is_valid k l ∙ t) in
           absurd (none (part_note (notes_below slots 12) k (shared s.0) (place_note slots 12 k s.0 l s.1)))
       | inr f ↦ f
     ]
@@ -168,22 +168,22 @@ part_if_alike false a b n same = refl
 part_found : (slots : List (Option Pointer)) (b : ℕ) → AreWithinOwnParts slots
     → part_of (union_of (lists_of slots)) b ≡ list_of (slot_at slots b)
 part_found slots b own =
-    same_members _ _ (λ q. contains-part_of whole b q ∙ one q (ℕ_discrete (q / base_pixel_size) b))
+    same_members _ _ (λ q. contains-part_of set_is_valid b q ∙ one q (ℕ_discrete (q / base_pixel_size) b))
   where
-    whole : NumberSet
-    whole = union_of (lists_of slots)
+    set_is_valid : NumberSet
+    set_is_valid = union_of (lists_of slots)
 
     here : NumberSet
     here = list_of (slot_at slots b)
 
     one : (q : ℕ) → Dec (q / base_pixel_size ≡ b)
-        → (finset.contains whole q && nat_eq (q / base_pixel_size) b) ≡ finset.contains here q
-    one q (yes e) = ap (λ (t : Bool). finset.contains whole q && t) (eq-eqb (q / base_pixel_size) b e)
-        ∙ and_true (finset.contains whole q) ∙ union_at slots q own
+        → (finset.contains set_is_valid q && nat_eq (q / base_pixel_size) b) ≡ finset.contains here q
+    one q (yes e) = ap (λ (t : Bool). finset.contains set_is_valid q && t) (eq-eqb (q / base_pixel_size) b e)
+        ∙ and_true (finset.contains set_is_valid q) ∙ union_at slots q own
         ∙ ap (λ (k : ℕ). finset.contains (list_of (slot_at slots k)) q) e
     one q (no ne) =
         let no : nat_eq (q / base_pixel_size) b ≡ false = ne_eqb (q / base_pixel_size) b ne in
-        ap (λ (t : Bool). finset.contains whole q && t) no ∙ and_none (finset.contains whole q)
+        ap (λ (t : Bool). finset.contains set_is_valid q && t) no ∙ and_none (finset.contains set_is_valid q)
         ∙ sym (and_none (finset.contains here q)) ∙ sym (ap (λ (t : Bool). finset.contains here q && t) no)
         ∙ sym (contains-part_of here b q) ∙ ap (λ (a : NumberSet). finset.contains a q) (own b)
 
@@ -203,7 +203,7 @@ pub edits_from : (cs : List Command) (previous edited : List (Option Pointer)) (
     → content (slot_at edited b) ≡ changed_content (get_or p.lists b None) (content (slot_at previous b)))
     → Edits cs previous edited
 unfolding batch_answer replies_to
-edits_from cs previous edited p long own whole changes each =
+edits_from cs previous edited p long own set_is_valid changes each =
     let u : NumberSet = union_of (lists_of previous) in
     let u_within = union_within previous long own in
     let determined = changes.determined in
@@ -211,7 +211,7 @@ edits_from cs previous edited p long own whole changes each =
     λ (a : NumberSet) (v : IsWithin a pixels) (agree : AgreeOn (footprint_of_all cs) u a) (b : ℕ) (l : b < 12).
     let e : content (slot_at edited b) ≡ part_if (footprint_of_all cs b) (set_after_all a cs) b = each b l
     ∙ changed_is (slot_at previous b) (get_or p.lists b None) (part_of u b) (set_after_all u cs) b (footprint_of_all cs b)
-    (sym (part_found previous b own)) (whole b l) (changes.parts b l)
+    (sym (part_found previous b own)) (set_is_valid b l) (changes.parts b l)
     ∙ part_if_alike (footprint_of_all cs b) (set_after_all u cs) (set_after_all a cs) b (determined.inside a v agree b) in
     e in
     record {
@@ -219,9 +219,9 @@ edits_from cs previous edited p long own whole changes each =
           parts_same edited previous 12
           (λ b l. sym (some_content (slot_at edited b))
           ∙ ap (λ (o : Option NumberSet). is_some o) (now u u_within (itself cs u) b l)
-          ∙ some_part_if (footprint_of_all cs b) (set_after_all u cs) b ∙ sym (whole b l));
-      execution = λ a v noted.
-          let agree = agrees cs previous a long own whole v noted in (
+          ∙ some_part_if (footprint_of_all cs b) (set_after_all u cs) b ∙ sym (set_is_valid b l));
+      effect = λ a v noted.
+          let agree = agrees cs previous a long own set_is_valid v noted in (
             sym (determined.replied a v agree) ∙ determined.replied u u_within (itself cs u),
             (λ b y h.
                 let q = note_place edited 12 b y h in
@@ -229,7 +229,7 @@ edits_from cs previous edited p long own whole changes each =
                 part_if_some (footprint_of_all cs b) (set_after_all a cs) b y
                 (ap (λ (o : Option NumberSet). is_some o) (sym q.2))
                 (sym q.2 ∙ ap content (sym q.1) ∙ now a v agree b l)),
-            (λ k none. same_part cs previous a (set_after_all a cs) whole v (determined.stays a v) (determined.outside a v) k
+            (λ k none. same_part cs previous a (set_after_all a cs) set_is_valid v (determined.stays a v) (determined.outside a v) k
                 none),
             determined.stays a v,
           );
@@ -262,8 +262,8 @@ own_copies previous copies same own b =
 
 pub footprint_copies : (cs : List Command) (previous copies : List (Option Pointer)) → AreCopies previous copies
     → IsFootprint cs previous → IsFootprint cs copies
-footprint_copies cs previous copies same whole b l = sym (some_content (slot_at copies b))
-    ∙ ap (λ (o : Option NumberSet). is_some o) (same b) ∙ some_content (slot_at previous b) ∙ whole b l
+footprint_copies cs previous copies same set_is_valid b l = sym (some_content (slot_at copies b))
+    ∙ ap (λ (o : Option NumberSet). is_some o) (same b) ∙ some_content (slot_at previous b) ∙ set_is_valid b l
 
 -- a query leaves the contents unchanged, and has the replies that the copies give
 pub leaves : (cs : List Command) (previous copies : List (Option Pointer)) → length copies ≡ 12 → AreWithinOwnParts previous
@@ -272,13 +272,13 @@ pub leaves : (cs : List Command) (previous copies : List (Option Pointer)) → l
 unfolding batch_answer replies_to
 leaves cs previous copies long own_found whole_found same query local =
     let own = own_copies previous copies same own_found in
-    let whole = footprint_copies cs previous copies same whole_found in
+    let set_is_valid = footprint_copies cs previous copies same whole_found in
     let u : NumberSet = union_of (lists_of copies) in
     let u_within = union_within copies long own in
     record {
       same_parts = ap (λ (l : List PartNote). parts_of_notes l) (sym (notes_same previous copies 12 same));
-      execution = λ a v noted. (
-        local.reply a u v u_within (λ q t. sym (agrees cs copies a long own whole v noted q t)),
+      effect = λ a v noted. (
+        local.reply a u v u_within (λ q t. sym (agrees cs copies a long own set_is_valid v noted q t)),
         (λ b y h. noted b y
             (subst (λ (l : List PartNote). Contains l (note b y)) (sym (notes_same previous copies 12 same)) h)
             ∙ ap (part b) (sym (unchanged cs a query))),
@@ -308,4 +308,4 @@ local_batch (c ∷ cs) law some valid = law c cs valid
 -- some part was taken, because a footprint is not empty
 pub some_found : (cs : List Command) (previous : List (Option Pointer)) → IsFootprint cs previous → IsLocal batches cs
     → (b : ℕ) × (b < 12) × (is_some (slot_at previous b) ≡ true)
-some_found cs previous whole local = let s = local.some in (s.0, s.1, whole s.0 s.1 ∙ s.2)
+some_found cs previous set_is_valid local = let s = local.some in (s.0, s.1, set_is_valid s.0 s.1 ∙ s.2)

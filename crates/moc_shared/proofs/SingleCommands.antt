@@ -1,48 +1,39 @@
 -- A command whose footprint is a single part.
-use Rattle.std.proofs.Common.{◌≡◌, ◌≢◌, ℕ, ◌/◌, ◌&&◌, ◌||◌, Bool, true, false, not, true≢false, nat_eq, List, [], ◌∷◌, ◌++◌, length}
-use Rattle.std.proofs.Common.{refl, sym, ap, ◌∙◌, subst, inl, eq-eqb, eqb-true, ne_eqb, Contains, Option, Some, IsTrue}
+use Rattle.std.proofs.Common.{◌≡◌, ℕ, ◌<◌, ◌≤◌, arith, slice_index_or, ◌&&◌, ◌||◌, Bool, true, false, not, true≢false, nat_eq, List, [], ◌∷◌, ◌++◌, length}
+use Rattle.std.proofs.Common.{refl, sym, ap, ◌∙◌, subst, inl, eq-eqb, Contains, Option, Some, IsTrue}
 use Rattle.std.proofs.Common.{Result, Ok, Err, IfOk, OnErr}
 use Rattle.atomic_table.specs.Table.{Me}
-use native.Mathlib.Decide.{ℕ_discrete}
 use Rattle.std.specs.Cmp.{nat_cmp_total}
 use Rattle.std.specs.FinSet as finset
 use Rattle.std.specs.Ordering.{nat_cmp}
 use Rattle.moc_lists.specs.RangeList.{NumberSet}
 use Rattle.moc_lists.specs.Lemmas.Members.{same_members}
-use Rattle.moc_ranges.specs.Lemmas.Members.{contains-part_of}
-use Rattle.moc_ranges.specs.Operations.{base_pixel_size, pixels, part_of, IsWithin}
-use Rattle.moc_parts.specs.Objects.{IsLocal, AgreeOn, base_pixel}
+use Rattle.moc_ranges.specs.Operations.{part_of}
+use Rattle.moc_parts.specs.Objects.{IsLocal}
+use Rattle.moc_parts.specs.Lemmas.SingleParts.{same_reply, part_after, other_after}
 use Rattle.moc_parts.specs.Commands.{footprint, reply_on, set_after}
 use Rattle.moc_parts.specs.Batches.{batches, footprint_of_all}
 use Rattle.moc_parts.specs.declared.command.Command.{Command}
 use Rattle.moc_parts.specs.declared.reply.Reply.{Reply}
 use Rattle.moc_shared.specs.declared.map.SharedMap.{SharedMap}
-use Rattle.moc_shared.specs.History.{call_by, IsLegal}
+use Rattle.moc_shared.specs.History.{call_by, IsLegal, StandsFor}
 use Rattle.moc_shared.specs.Seats.{note, Pointer, ClientView}
 use Rattle.moc_shared.specs.Private.Invariant.{IsSingleClient}
 use Rattle.moc_shared.specs.Private.Seats.{PartNote, IsCarried, part, IsInSky}
 use Rattle.moc_shared.specs.Private.OperationEffects.{HasEffect}
 use Rattle.moc_shared.specs.Private.Held.{HoldsOnly}
-use Rattle.moc_shared.specs.Private.StepEffects.{with_part, with_parts, with_misses, with_holds, with_mark}
-use Rattle.moc_shared.specs.Private.Slots.{BatchTakesEffect, AreWaits, exactly, in_footprint}
+use Rattle.moc_shared.specs.Private.StepEffects.{with_part, with_parts, with_miss, with_misses, with_holds, with_mark}
+use Rattle.moc_shared.specs.Private.Slots.{BatchTakesEffect, MissesTaking, AreWaits, exactly, in_footprint}
 use Rattle.moc_shared.specs.Batches.{BatchCall, BatchRecord, batch_answer}
-use Rattle.moc_shared.specs.Clients.{start_of, clients_of, TakesEffectAfterWaiting, FailsOutOfMemoryWaiting}
+use Rattle.moc_shared.specs.Clients.{start_of, clients_of, TakesEffect, HasNoEffect}
+use Rattle.moc_shared.specs.Clients.{TakesEffectAfterWaiting, FailsOutOfMemoryWaiting}
 use Rattle.moc_shared.proofs.Basics.{here, none_in, only}
 use Rattle.moc_shared.proofs.Guarantees.{Stays, stays_through, stays_ended, stays_given, ends_noted, undone_noted, undone_at_once}
 use Rattle.moc_shared.proofs.WaitingViews.{waits_from, stays_waited}
-use Rattle.moc_shared.proofs.Unions.{and_true}
 
 or_false : (x : Bool) → (x || false) ≡ x
 or_false true = refl
 or_false false = refl
-
-and_none : (x : Bool) → (x && false) ≡ false
-and_none true = refl
-and_none false = refl
-
-both_true : (x y : Bool) → (x && y) ≡ true → x ≡ true
-both_true true y e = refl
-both_true false y e = absurd (true≢false (sym e))
 
 some_inside : (a b : NumberSet) → Some a ≡ Some b → a ≡ b
 some_inside a b e = cc
@@ -80,71 +71,20 @@ module _ (c : Command) (b : ℕ) (met : (k : ℕ) → footprint c k ≡ nat_eq b
   touched_it : footprint_of_all cs b ≡ true
   touched_it = touched_alone b ∙ eq-eqb b b refl
 
-  pixel_in : (s : NumberSet) (q : ℕ) → q / base_pixel_size ≡ b → finset.contains (part_of s b) q ≡ finset.contains s q
-  pixel_in s q e = contains-part_of s b q
-      ∙ ap (λ (t : Bool). finset.contains s q && t) (eq-eqb (q / base_pixel_size) b e) ∙ and_true (finset.contains s q)
-
-  pixel_out : (s : NumberSet) (q k : ℕ) → q / base_pixel_size ≢ k → finset.contains (part_of s k) q ≡ false
-  pixel_out s q k ne = contains-part_of s k q
-      ∙ ap (λ (t : Bool). finset.contains s q && t) (ne_eqb (q / base_pixel_size) k ne) ∙ and_none (finset.contains s q)
-
-  within_part : (s : NumberSet) → IsWithin s pixels → IsWithin (part_of s b) pixels
-  within_part s w = record {
-    each = λ q h. w.each q (both_true (finset.contains s q) (nat_eq (q / base_pixel_size) b) (sym (contains-part_of s b q) ∙ h));
-  }
-
-  -- part b of a set agrees with the whole set in part b
-  agrees_there : (s : NumberSet) → AgreeOn (footprint_of_all cs) (part_of s b) s
-  unfolding base_pixel
-  agrees_there s q t =
-      pixel_in s q (sym (eqb-true b (q / base_pixel_size) (sym (touched_alone (q / base_pixel_size)) ∙ t)))
-
-  untouched : (q : ℕ) → q / base_pixel_size ≢ b → footprint_of_all cs (base_pixel q) ≡ false
-  unfolding base_pixel
-  untouched q ne = touched_alone (q / base_pixel_size) ∙ ne_eqb b (q / base_pixel_size) (λ e. ne (sym e))
-
-  touched : (q : ℕ) → q / base_pixel_size ≡ b → footprint_of_all cs (base_pixel q) ≡ true
-  unfolding base_pixel
-  touched q e = ap (footprint_of_all cs) e ∙ touched_it
-
-  -- part b of the result is the result on part b
-  part_after : (s : NumberSet) → IsLocal batches cs → IsWithin s pixels
-      → set_after (part_of s b) c ≡ part_of (set_after s c) b
-  part_after s local w = same_members _ _ (λ q. one q (ℕ_discrete (q / base_pixel_size) b))
-    where
-      one : (q : ℕ) → Dec (q / base_pixel_size ≡ b)
-          → finset.contains (set_after (part_of s b) c) q ≡ finset.contains (part_of (set_after s c) b) q
-      one q (yes e) = local.inside (part_of s b) s (within_part s w) w (agrees_there s) q (touched q e)
-          ∙ sym (pixel_in (set_after s c) q e)
-      one q (no ne) = local.outside (part_of s b) (within_part s w) q (untouched q ne) ∙ pixel_out s q b ne
-          ∙ sym (pixel_out (set_after s c) q b ne)
-
-  -- the other parts do not change
-  other_after : (s : NumberSet) (k : ℕ) → k ≢ b → IsLocal batches cs → IsWithin s pixels
-      → part_of (set_after s c) k ≡ part_of s k
-  other_after s k apart local w = same_members _ _ (λ q. one q (ℕ_discrete (q / base_pixel_size) k))
-    where
-      one : (q : ℕ) → Dec (q / base_pixel_size ≡ k)
-          → finset.contains (part_of (set_after s c) k) q ≡ finset.contains (part_of s k) q
-      one q (yes e) = contains-part_of (set_after s c) k q
-          ∙ ap (λ (t : Bool). t && nat_eq (q / base_pixel_size) k)
-          (local.outside s w q (untouched q (λ f. apart (sym e ∙ f)))) ∙ sym (contains-part_of s k q)
-      one q (no ne) = pixel_out (set_after s c) q k ne ∙ sym (pixel_out s q k ne)
-
   -- the content of the part determines the effect
   pub answers_alone : (x y : NumberSet) (r : Reply) → IsLocal batches cs → y ≡ set_after x c → r ≡ reply_on x c
       → HasEffect part batch_answer IsInSky cs (r ∷ []) (note b (Some x) ∷ []) (note b (Some y) ∷ [])
   unfolding batch_answer part
   answers_alone x y r local new determined s w noted =
       let is : x ≡ part_of s b = some_inside x (part_of s b) (noted b (Some x) (here (note b (Some x)) [])) in (
-        local.reply s (part_of s b) w (within_part s w) (λ q t. sym (agrees_there s q t))
+        same_reply batches cs b touched_alone local s w
             ∙ ap (λ (a : NumberSet). reply_on a c ∷ []) (sym is) ∙ ap (λ (q : Reply). q ∷ []) (sym determined),
         (λ k z h. let e : note b (Some y) ≡ note k z = only (note b (Some y)) (note k z) h in
             sym (ap (λ (t : PartNote). t.content) e)
-            ∙ ap Some (new ∙ ap (λ (a : NumberSet). set_after a c) is ∙ part_after s local w)
+            ∙ ap Some (new ∙ ap (λ (a : NumberSet). set_after a c) is ∙ part_after batches cs b touched_alone local s w)
             ∙ ap (λ (j : ℕ). Some (part_of (set_after s c) j)) (ap (λ (t : PartNote). t.part) e)),
-        (λ k none. ap Some (other_after s k
-            (λ e. none (subst (λ (j : ℕ). Contains (b ∷ []) j) (sym e) (here b []))) local w)),
+        (λ k none. ap Some (other_after batches cs b touched_alone local s k
+            (λ e. none (subst (λ (j : ℕ). Contains (b ∷ []) j) (sym e) (here b []))) w)),
         local.stays s w,
       )
 
@@ -180,6 +120,31 @@ module _ (c : Command) (b : ℕ) (met : (k : ℕ) → footprint c k ≡ nat_eq b
     inl (undone_noted cs (with_misses init waits) u w (note b y ∷ []) (noted_alone y) held gave),
   )
 
+  -- ---- the effect on the view of a call that does not wait
+
+  pub tried_takes_effect : (the : SharedMap) (reply : Reply) (number : ℕ) (v u w : ClientView) (y : Option NumberSet)
+      → v.start ≡ start_of the → v.clients ≡ clients_of the → number ≡ v.mine.number → u ≡ with_parts v (note b y ∷ [])
+      → BatchTakesEffect cs (reply ∷ []) [] u w → TakesEffect the (call_by number cs (reply ∷ [])) v.mine w.mine
+  tried_takes_effect the reply number v u w y start clients number_is held determined =
+      ends_noted the cs (reply ∷ []) number v u w (note b y ∷ []) (noted_alone y) start clients number_is held determined
+
+  pub tried_has_no_effect : (v u w : ClientView) (y : Option NumberSet) → u ≡ with_parts v (note b y ∷ []) → w ≡ with_holds u []
+      → HasNoEffect cs v.mine w.mine
+  tried_has_no_effect v u w y held gave = undone_noted cs v u w (note b y ∷ []) (noted_alone y) held gave
+
+  -- the only part of the command was held by another client
+  pub missed_alone : (v w : ClientView) (h : ℕ) → b < 12 → v.holds ≡ [] → w ≡ with_miss v h b → h < v.clients
+      → ¬ StandsFor v.mine h → MissesTaking cs b h v w
+  missed_alone v w h below none is known other = (
+    [],
+    is ∙ (λ i. record (with_miss v h b) { holds = none i }),
+    (λ p y i. absurd (none_in (note p y) i)),
+    touched_it,
+    below,
+    known,
+    other,
+  )
+
 -- a client that held no part holds one part
 pub one_held : (v u : ClientView) (b : ℕ) (y : Option NumberSet) → v.holds ≡ [] → u ≡ with_part v b y
     → u ≡ with_parts v (note b y ∷ [])
@@ -211,7 +176,13 @@ holds_alone init me b a waits one is carried = record {
   held = λ i. (is i).holds;
 }
 
--- ---- the replies of a batch of one command
+-- ---- a batch of one command
+
+pub only_command : (cs : List Command) (c : Command) → 1 ≤ length cs → length cs < 2 → c ≡ slice_index_or cs 0 c
+    → c ∷ [] ≡ cs
+only_command [] c some one is = absurd (omega (arith, some))
+only_command (x ∷ []) c some one is = ap (λ (y : Command). y ∷ []) is
+only_command (x ∷ y ∷ ys) c some one is = absurd (omega (arith, one))
 
 last_reply : (a : NumberSet) (log : List BatchCall) (e : BatchCall) → IsLegal batch_answer a (log ++ e ∷ [])
     → (s : NumberSet) × (e.reply ≡ (batch_answer s e.operation).1)
@@ -219,13 +190,13 @@ last_reply a [] e h = (a, h.0)
 last_reply a (x ∷ xs) e h = last_reply (batch_answer a x.operation).0 xs e h.1
 
 pub only_reply : (the : SharedMap) (c : Command) (replies : List Reply) (number : ℕ) (old new : BatchRecord)
-    → TakesEffectAfterWaiting the (call_by number (c ∷ []) replies) old new → length replies ≡ 1
+    → TakesEffect the (call_by number (c ∷ []) replies) old new → length replies ≡ 1
 unfolding batch_answer
-only_reply the c replies number old new (mid, waited, ends) =
+only_reply the c replies number old new ends =
     let e : BatchCall = call_by number (c ∷ []) replies in
-    let legal : IsLegal batch_answer (start_of the) ((mid.seen ++ ends.between) ++ e ∷ []) =
+    let legal : IsLegal batch_answer (start_of the) ((old.seen ++ ends.between) ++ e ∷ []) =
     subst (λ (l : List BatchCall). IsLegal batch_answer (start_of the) l) ends.seen ends.history.0 in
-    let r = last_reply (start_of the) (mid.seen ++ ends.between) e legal in
+    let r = last_reply (start_of the) (old.seen ++ ends.between) e legal in
     ap (λ (l : List Reply). length l) r.1
 
 -- the call of one command, as a call of a batch and its replies

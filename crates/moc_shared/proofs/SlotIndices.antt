@@ -220,15 +220,15 @@ noted_touched op previous n p y so_far h = let q = note_place previous n p y h i
 pub holds_upto : (init v w : ClientView) (previous : List (Option Pointer)) (b h : ℕ)
     → v ≡ with_parts init (notes_below previous b) → w ≡ with_miss v h b → b < 12
     → ((k : ℕ) → b ≤ k → slot_at previous k ≡ None) → w.holds ≡ notes_below previous 12
-holds_upto init v w previous b h is missed within beyond =
-    (λ i. (missed i).holds) ∙ (λ i. (is i).holds) ∙ sym (notes_upto previous b (12 - b) beyond)
+holds_upto init v w previous b h is misses_are_marks within beyond =
+    (λ i. (misses_are_marks i).holds) ∙ (λ i. (is i).holds) ∙ sym (notes_upto previous b (12 - b) beyond)
     ∙ ap (notes_below previous) (let e : b + (12 - b) ≡ 12 = omega arith in e)
 
 pub refused_view : (init v w u : ClientView) (previous : List (Option Pointer)) (b h : ℕ)
     → v ≡ with_parts init (notes_below previous b) → w ≡ with_miss v h b → u ≡ with_holds w []
     → u ≡ with_holds (with_miss (with_parts init (notes_below previous b)) h b) []
-refused_view init v w u previous b h is missed gave = gave
-    ∙ ap (λ (x : ClientView). with_holds x []) (missed ∙ ap (λ (x : ClientView). with_miss x h b) is)
+refused_view init v w u previous b h is misses_are_marks gave = gave
+    ∙ ap (λ (x : ClientView). with_holds x []) (misses_are_marks ∙ ap (λ (x : ClientView). with_miss x h b) is)
 
 pub known_through : (init v : ClientView) (notes : List (PartNote)) (h : ℕ) → v ≡ with_parts init notes → (h < v.clients)
     → ¬ StandsFor v.mine h → (h < init.clients) × ¬ StandsFor init.mine h
@@ -246,21 +246,21 @@ note_of (t ∷ ts) b h = ⊎_elim
 pub none_from : (contents after : List (Option Pointer)) (b : ℕ) → b < length contents
     → ((k : ℕ) → b < k → slot_at contents k ≡ None) → after ≡ set contents b None → (k : ℕ) → b ≤ k
     → slot_at after k ≡ None
-none_from contents after b wide behind taken k l =
+none_from contents after b word_count behind taken k l =
     ap (λ (z : List (Option Pointer)). slot_at z k) taken ∙ off (ℕ_discrete k b)
   where
     off : Dec (k ≡ b) → slot_at (set contents b None) k ≡ None
-    off (yes e) = ap (slot_at (set contents b None)) e ∙ place_set_same contents b None wide
+    off (yes e) = ap (slot_at (set contents b None)) e ∙ place_set_same contents b None word_count
     off (no ne) = place_set_other contents b k None ne ∙ behind k (omega arith)
 
 -- the content at the highest index is noted first
 pub top_note : (contents after : List (Option Pointer)) (b : ℕ) (x : Pointer) → b < 12 → b < length contents
     → ((k : ℕ) → b < k → slot_at contents k ≡ None) → slot_at contents b ≡ Some x → after ≡ set contents b None
     → notes_below contents 12 ≡ note b (shared x) ∷ notes_below after 12
-top_note contents after b x within wide behind some taken =
+top_note contents after b x within word_count behind some taken =
     let rest : notes_below after 12 ≡ notes_below contents b =
     sym (ap (notes_below after) (let e : b + (12 - b) ≡ 12 = omega arith in e))
-    ∙ notes_upto after b (12 - b) (none_from contents after b wide behind taken)
+    ∙ notes_upto after b (12 - b) (none_from contents after b word_count behind taken)
     ∙ ap (λ (z : List (Option Pointer)). notes_below z b) taken ∙ notes_set contents b b None (le_refl b) in
     sym (ap (notes_below contents) (let e : suc b + (11 - b) ≡ 12 = omega arith in e))
     ∙ notes_upto contents (suc b) (11 - b) (λ k l. behind k l) ∙ notes_some contents b x some
@@ -287,7 +287,7 @@ pub shared_next : (previous edited after : List (Option Pointer)) (old now : Lis
     → get_or now n None ≡ get_or old n None → slot_at previous b ≡ Some p
     → arc_value new ≡ unwrap_or taken (arc_value p) → (k : ℕ) → k < n + 1
     → content (slot_at after k) ≡ changed_content (get_or old k None) (content (slot_at previous k))
-shared_next previous edited after old now n b p new taken so_far at wide put was same there is k l = elim (cases_lt k n) [
+shared_next previous edited after old now n b p new taken so_far at word_count put was same there is k l = elim (cases_lt k n) [
   | inl below ↦ ap (λ (z : List (Option Pointer)). content (slot_at z k)) put
       ∙ ap content (place_set_other edited b k (Some new) (λ e. omega arith)) ∙ so_far k below
   | inr here ↦
@@ -296,7 +296,7 @@ shared_next previous edited after old now n b p new taken so_far at wide put was
       ∙ ap (λ (j : ℕ). get_or old j None) (sym at) in
       subst (λ (j : ℕ). content (slot_at after j) ≡ changed_content (get_or old j None) (content (slot_at previous j))) e
       (ap (λ (z : List (Option Pointer)). content (slot_at z b)) put
-      ∙ ap content (place_set_same edited b (Some new) wide) ∙ ap (λ (a : NumberSet). Some a) is
+      ∙ ap content (place_set_same edited b (Some new) word_count) ∙ ap (λ (a : NumberSet). Some a) is
       ∙ (λ i. changed_content (from i) (content (sym there i))))
 ]
 

@@ -60,10 +60,10 @@ own_none b = part_of_nothing b
 
 pub own_set : (slots after : List (Option Pointer)) (b : ℕ) (p : Pointer) → AreWithinOwnParts slots → after ≡ set slots b (Some p)
     → b < length slots → IsWithinPart b (Some p) → AreWithinOwnParts after
-own_set slots after b p own put wide new k =
+own_set slots after b p own put word_count new k =
     subst (λ (l : List (Option Pointer)). IsWithinPart k (slot_at l k)) (sym put) (dite (ℕ_discrete k b)
     (λ e. subst (λ (s : Option Pointer). IsWithinPart k s)
-    (sym (ap (slot_at (set slots b (Some p))) e ∙ get_or-set_same slots b (Some p) None wide))
+    (sym (ap (slot_at (set slots b (Some p))) e ∙ get_or-set_same slots b (Some p) None word_count))
     (subst (λ (j : ℕ). IsWithinPart j (Some p)) (sym e) new))
     (λ ne. subst (λ (s : Option Pointer). IsWithinPart k s) (sym (get_or-set_other slots b k (Some p) None ne)) (own k)))
 

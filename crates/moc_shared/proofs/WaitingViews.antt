@@ -25,9 +25,9 @@ Pair x y = x ≡ y
 pub one_wait : (init v w : ClientView) (b h : ℕ) (waits : List (ℕ × ℕ)) → v ≡ with_misses init waits
     → AreWaits (exactly b) init waits → w ≡ with_miss v h b → h < v.clients → ¬ StandsFor v.mine h
     → (more : List (ℕ × ℕ)) × (w ≡ with_misses init more) × AreWaits (exactly b) init more
-one_wait init v w b h waits is each missed below apart = (
+one_wait init v w b h waits is each misses_are_marks below apart = (
   (h, b) ∷ waits,
-  missed ∙ ap (λ (x : ClientView). with_miss x h b) is,
+  misses_are_marks ∙ ap (λ (x : ClientView). with_miss x h b) is,
   λ g c i. ⊎_elim
       (λ (e : Pair (h, b) (g, c)). let known = subst (λ (x : ClientView). (h < x.clients) × ¬ StandsFor x.mine h) is
       (below, apart) in

@@ -17,7 +17,7 @@ use std::alloc::Global;
 pub struct SharedMap {
     pub(crate) table: Table<Option<Pointer>, ClientView, MapParameters, LockRule, Global>,
     pub(crate) alloc: Global,
-    ghost wide: { table.shared.table_id.words ≡ table_index 12 },
-    ghost deep: { table.shared.table_id.slots ≡ table_index 12 },
+    ghost word_count: { table.shared.table_id.words ≡ table_index 12 },
+    ghost slot_count: { table.shared.table_id.slots ≡ table_index 12 },
     ghost within_max: { table.shared.key.clients ≤ 64 },
 }

@@ -9,7 +9,7 @@ use Rattle.moc_lists.specs.RangeList.{NumberSet}
 use Rattle.moc_ranges.specs.Operations.{part_of}
 use Rattle.moc_parts.specs.Objects.{Object}
 use Rattle.moc_steps.specs.Machine.{Running, Locks, Clients, World, Entry, twelve, is_nonempty, holds, holder, next_part}
-use Rattle.moc_steps.specs.Machine.{answer_on_previous, previous_content, part_at, with_reply}
+use Rattle.moc_steps.specs.Machine.{answer_on_previous, taken_content_of, part_at, with_reply}
 use Rattle.moc_steps.specs.Orders.{OperationState, executed_alone}
 use Rattle.moc_steps.specs.declared.error.StepError.{StepError}
 use Rattle.moc_steps.specs.declared.error.StepError.TheVariants.{PartHeld, AllTaken}
@@ -62,7 +62,7 @@ module _ {Op Reply : Type 0} (o : Object Op Reply) where
 
   -- the contents that a client has taken after a Take
   abbrev pub previous_next : World Op Reply → ℕ → Option (Running Op) → NumberSet
-  previous_next w c r = option_map_or (λ r. set.union (previous_content o w c) (unwrap_or (option_map (part_at o w) (next_part o r)) set.empty)) r (previous_content o w c)
+  previous_next w c r = option_map_or (λ r. set.union (taken_content_of o w c) (unwrap_or (option_map (part_at o w) (next_part o r)) set.empty)) r (taken_content_of o w c)
 
   -- the parts after an Edit
   abbrev pub edited_parts : World Op Reply → ℕ → Option (Running Op) → ℕ → List NumberSet

@@ -119,7 +119,7 @@ module _ (n : ℕ) (m : Table) (ps : List NumberSet) (hs : List (Option ℕ)) (e
       let is : world_of n (map.remove m c) ps es' ≡ world_after batches v (machine.Step.End c) = (λ i. record {
         locks = record { begun = n; clients = values-remove (λ (s : ClientState). s.running) m c i };
         parts = ps;
-        previous = values-remove (λ (s : ClientState). s.previous) m c i;
+        taken_content = values-remove (λ (s : ClientState). s.taken_content) m c i;
         order = (order_is ∙ sym (ap (completed batches v c) (runs n m ps hs es kept c s has))) i;
       }) in (
         is,
@@ -186,10 +186,10 @@ module _ (n : ℕ) (m : Table) (ps : List NumberSet) (hs : List (Option ℕ)) (e
   pub entry_place : (c : ℕ) (s : ClientState) (i : ℕ) → map.get m c ≡ Some s → s.entry_index ≡ Some i → i < length es
   entry_place c s i has at = below_names es i s.running.number (some_name s.entry_index i (operation_numbers (entries_of es)) s.running.number at (kept.placed c s has).1)
 
-  reply_is : (c : ℕ) (s : ClientState) → map.get m c ≡ Some s → (answer_on_previous batches (world_of n m ps es) c s.running).1 ≡ replies_on s.previous s.running.operation
+  reply_is : (c : ℕ) (s : ClientState) → map.get m c ≡ Some s → (answer_on_previous batches (world_of n m ps es) c s.running).1 ≡ replies_on s.taken_content s.running.operation
   reply_is c s has = ap (λ F. replies_on F s.running.operation) (previous_is n m ps hs es kept c s has)
 
-  pub done_ends : (c : ℕ) (s : ClientState) (i : ℕ) (e : Entry) (y : List Reply) → map.get m c ≡ Some s → s.entry_index ≡ Some i → slice_get es i ≡ Some e → y ≡ replies_on s.previous s.running.operation
+  pub done_ends : (c : ℕ) (s : ClientState) (i : ℕ) (e : Entry) (y : List Reply) → map.get m c ≡ Some s → s.entry_index ≡ Some i → slice_get es i ≡ Some e → y ≡ replies_on s.taken_content s.running.operation
       → refusal batches (world_of n m ps es).locks (machine.Step.End c) ≡ None → Goes n m ps es (machine.Step.End c) n (map.remove m c) ps hs (set_at es i (answers e y))
   done_ends c s i e y has at there y_is h =
       let r : Running (List Command) = s.running in
@@ -202,7 +202,7 @@ module _ (n : ℕ) (m : Table) (ps : List NumberSet) (hs : List (Option ℕ)) (e
       ∙ ap (λ z. map_list (with_reply batches r.number z) (entries_of es)) (y_is ∙ sym (reply_is c s has))
       ∙ sym (ap (λ b. cond b (entries_of es) (map_list (with_reply batches r.number (answer_on_previous batches (world_of n m ps es) c r).1) (entries_of es))) (committed_stays c s has some))) h
 
-  pub done_tells : (c : ℕ) (s : ClientState) (y : List Reply) → map.get m c ≡ Some s → is_some s.entry_index ≡ true → y ≡ replies_on s.previous s.running.operation
+  pub done_tells : (c : ℕ) (s : ClientState) (y : List Reply) → map.get m c ≡ Some s → is_some s.entry_index ≡ true → y ≡ replies_on s.taken_content s.running.operation
       → Some y ≡ reply_to batches (world_of n m ps es) (machine.Step.End c)
   done_tells c s y has some y_is =
       ap (λ z. Some z) (y_is ∙ sym (reply_is c s has))

@@ -21,7 +21,7 @@ pub mod Values
 pub mod Preserved
 pub mod PreservedSteps
 pub mod TakenParts
-pub mod PreviousContents
+pub mod TakenContents
 pub mod Batches
 pub mod Loops
 pub mod EndGoes

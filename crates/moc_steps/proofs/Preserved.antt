@@ -30,8 +30,8 @@ Table = map.FinMap nat_cmp ClientState
 abbrev pub clients_of : Table → Clients (List Command)
 clients_of m = map_values (λ s. s.running) m
 
-abbrev pub previous_of : Table → map.FinMap nat_cmp NumberSet
-previous_of m = map_values (λ s. s.previous) m
+abbrev pub taken_content_is : Table → map.FinMap nat_cmp NumberSet
+taken_content_is m = map_values (λ s. s.taken_content) m
 
 -- a changed client, among the clients of the machine
 pub clients_changed : (n : ℕ) (m : Table) (c : ℕ) (s s' : ClientState) (f : Running (List Command) → Running (List Command)) → map.get m c ≡ Some s → s'.running ≡ f s.running
@@ -43,10 +43,10 @@ clients_changed n m c s s' f is e =
     ∙ ap (λ y. record { begun = n; clients = changed batches (clients_of m) c y f }) (sym x_is)
 
 -- a client whose taken contents do not change
-pub previous_same : (m : Table) (c : ℕ) (s s' : ClientState) → map.get m c ≡ Some s → s'.previous ≡ s.previous → previous_of (map.insert m c s') ≡ previous_of m
+pub previous_same : (m : Table) (c : ℕ) (s s' : ClientState) → map.get m c ≡ Some s → s'.taken_content ≡ s.taken_content → taken_content_is (map.insert m c s') ≡ taken_content_is m
 previous_same m c s s' is e =
-    values-insert (λ (s : ClientState). s.previous) m c s' ∙ ap (map.insert (previous_of m) c) e
-    ∙ insert_again (previous_of m) c s.previous (get-values (λ (s : ClientState). s.previous) m c ∙ ap (option_map (λ (s : ClientState). s.previous)) is)
+    values-insert (λ (s : ClientState). s.taken_content) m c s' ∙ ap (map.insert (taken_content_is m) c) e
+    ∙ insert_again (taken_content_is m) c s.taken_content (get-values (λ (s : ClientState). s.taken_content) m c ∙ ap (option_map (λ (s : ClientState). s.taken_content)) is)
 
 -- the holder of a part
 pub holder_of : (w : BatchWorld) → IsReachable batches w → (c b : ℕ) (r : Running (List Command)) → client_at batches w c ≡ Some r → holds batches r b ≡ true → holder batches w.locks.clients b ≡ Some c
@@ -156,4 +156,4 @@ same_on n n' m ps ps' es es' c b s s' is same q =
 
 -- a Quit
 pub quits : ClientState → ClientState
-quits s = record { running = record s.running { quits = true }; previous = s.previous; entry_index = s.entry_index }
+quits s = record { running = record s.running { quits = true }; taken_content = s.taken_content; entry_index = s.entry_index }

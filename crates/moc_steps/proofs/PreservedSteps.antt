@@ -15,7 +15,7 @@ use Rattle.moc_parts.specs.Prepared.{part_if as kept_part}
 use Rattle.moc_steps.specs.Machine as machine
 use Rattle.moc_steps.specs.Machine.{Running, Locks, new_running, holds, holder, is_nonempty}
 use Rattle.moc_steps.specs.Machine.{refusal, has_taken, next_part, unless_idle, take_refusal, edit_refusal}
-use Rattle.moc_steps.specs.Machine.{give_refusal, quit_refusal, end_refusal, world_after, client_at, previous_content, part_at}
+use Rattle.moc_steps.specs.Machine.{give_refusal, quit_refusal, end_refusal, world_after, client_at, taken_content_of, part_at}
 use Rattle.moc_steps.specs.Orders.{operation_numbers, client_of}
 use Rattle.moc_steps.specs.Private.ClientState.{ClientState}
 use Rattle.moc_steps.specs.Private.Effects.{IsApplicable, client_after, changed_at, changed_table}
@@ -42,7 +42,7 @@ use Rattle.moc_steps.proofs.Permitted.{midway_of, take_permitted, edit_permitted
 use Rattle.moc_steps.proofs.EditStep.{has_part, names_push}
 use Rattle.moc_steps.proofs.AnyObject.{reached_explained}
 use Rattle.moc_steps.proofs.Values.{get-values, values-insert}
-use Rattle.moc_steps.proofs.Preserved.{Table, clients_of, previous_of, clients_changed, previous_same, holder_of, holder_nobody}
+use Rattle.moc_steps.proofs.Preserved.{Table, clients_of, taken_content_is, clients_changed, previous_same, holder_of, holder_nobody}
 use Rattle.moc_steps.proofs.Preserved.{holder_same, same_on, kept_on, at_each}
 
 -- a step from one world to the next that preserves the invariant
@@ -80,8 +80,8 @@ module _ (n : ℕ) (m : Table) (ps : List NumberSet) (hs : List (Option ℕ)) (e
   pub runs : (c : ℕ) (s : ClientState) → map.get m c ≡ Some s → client_at batches (world_of n m ps es) c ≡ Some s.running
   runs c s h = get-values (λ (s : ClientState). s.running) m c ∙ ap (option_map (λ (s : ClientState). s.running)) h
 
-  pub previous_is : (c : ℕ) (s : ClientState) → map.get m c ≡ Some s → previous_content batches (world_of n m ps es) c ≡ s.previous
-  previous_is c s h = ap (λ x. unwrap_or x set.empty) (get-values (λ (s : ClientState). s.previous) m c ∙ ap (option_map (λ (s : ClientState). s.previous)) h)
+  pub previous_is : (c : ℕ) (s : ClientState) → map.get m c ≡ Some s → taken_content_of batches (world_of n m ps es) c ≡ s.taken_content
+  previous_is c s h = ap (λ x. unwrap_or x set.empty) (get-values (λ (s : ClientState). s.taken_content) m c ∙ ap (option_map (λ (s : ClientState). s.taken_content)) h)
 
   pub quit_goes : (c : ℕ) → refusal batches (world_of n m ps es).locks (machine.Step.Quit c) ≡ None → Goes n m ps es (machine.Step.Quit c) n (changed_table m c Quit) ps hs es
   quit_goes c h =
@@ -92,7 +92,7 @@ module _ (n : ℕ) (m : Table) (ps : List NumberSet) (hs : List (Option ℕ)) (e
       let is : world_of n (map.insert m c s') ps es ≡ world_after batches (world_of n m ps es) (machine.Step.Quit c) = (λ i. record {
         locks = clients_changed n m c s s' (λ r. record r { quits = true }) t.1 refl i;
         parts = ps;
-        previous = previous_same m c s s' t.1 refl i;
+        taken_content = previous_same m c s s' t.1 refl i;
         order = entries_of es;
       }) in
       subst (λ m'. Goes n m ps es (machine.Step.Quit c) n m' ps hs es) (sym (table_is m c s Quit t.1)) (
@@ -114,7 +114,7 @@ module _ (n : ℕ) (m : Table) (ps : List NumberSet) (hs : List (Option ℕ)) (e
       let is : world_of n (map.insert m c s') ps es ≡ world_after batches (world_of n m ps es) (machine.Step.Give c b) = (λ i. record {
         locks = clients_changed n m c s s' (λ r. record r { given = set.insert r.given b }) t.1 refl i;
         parts = ps;
-        previous = previous_same m c s s' t.1 refl i;
+        taken_content = previous_same m c s s' t.1 refl i;
         order = entries_of es;
       }) in
       let b_low : b < 12 = (taken_footprint batches s.running b (and_true _ _ g.0).0).0 in
@@ -152,8 +152,8 @@ module _ (n : ℕ) (m : Table) (ps : List NumberSet) (hs : List (Option ℕ)) (e
           | inl t ↦ (λ i. t i && (eq-eqb (base_pixel p) q (inv.1.own q p t)) i) ∙ sym (ap (λ x. set.contains x p) list_is ∙ t)
           | inr f ↦ ap (λ x. x && nat_eq (base_pixel p) q) f ∙ sym (ap (λ x. set.contains x p) list_is ∙ f)
         ]),
-        same_set _ _ (λ p. has_part s.previous q p ∙ not_true_false _ (λ t.
-            let a = and_true (set.contains s.previous p) (nat_eq (base_pixel p) q) t in
+        same_set _ _ (λ p. has_part s.taken_content q p ∙ not_true_false _ (λ t.
+            let a = and_true (set.contains s.taken_content p) (nat_eq (base_pixel p) q) t in
             let taken : has_taken batches s.running q ≡ true = ap (has_taken batches s.running) (sym (eqb-true (base_pixel p) q a.1)) ∙ own.within p (ap (λ F. set.contains F p) (previous_is c s has) ∙ a.0) in
             let l : q < q = taken_below batches s.running q q next taken in absurd (omega arith)) ∙ sym (has-empty p)),
         is_some_of s.entry_index entry_index,
@@ -173,14 +173,14 @@ module _ (n : ℕ) (m : Table) (ps : List NumberSet) (hs : List (Option ℕ)) (e
         | inl e ↦ absurd (cc (next, own.sound.all (is_any_of r.edited q e)))
         | inr e ↦ clash r.quits e p.0
       ]) in
-      let found_e : previous_next batches (world_of n m ps es) c (client_at batches (world_of n m ps es) c) ≡ set.union s.previous list =
+      let found_e : previous_next batches (world_of n m ps es) c (client_at batches (world_of n m ps es) c) ≡ set.union s.taken_content list =
       ap (previous_next batches (world_of n m ps es) c) (runs c s has)
       ∙ ap (λ F. set.union F (unwrap_or (option_map (part_at batches (world_of n m ps es)) (next_part batches r)) set.empty)) (previous_is c s has)
-      ∙ ap (λ x. set.union s.previous (unwrap_or (option_map (part_at batches (world_of n m ps es)) x) set.empty)) next ∙ ap (set.union s.previous) (sym list_is) in
+      ∙ ap (λ x. set.union s.taken_content (unwrap_or (option_map (part_at batches (world_of n m ps es)) x) set.empty)) next ∙ ap (set.union s.taken_content) (sym list_is) in
       let is : world_of n (map.insert m c s') ps es ≡ world_after batches (world_of n m ps es) (machine.Step.Take c) = (λ i. record {
         locks = clients_changed n m c s s' (λ r. record r { taken = suc r.taken }) has refl i;
         parts = ps;
-        previous = (values-insert (λ (s : ClientState). s.previous) m c s' ∙ ap (map.insert (previous_of m) c) (sym found_e)) i;
+        taken_content = (values-insert (λ (s : ClientState). s.taken_content) m c s' ∙ ap (map.insert (taken_content_is m) c) (sym found_e)) i;
         order = entries_of es;
       }) in
       subst (λ m'. Goes n m ps es (machine.Step.Take c) n m' ps (set_at hs q (Some c)) es) (sym (table_is m c s (Take q list) has)) (
@@ -197,8 +197,8 @@ module _ (n : ℕ) (m : Table) (ps : List NumberSet) (hs : List (Option ℕ)) (e
             (at_each m c s' (λ q z. HasEntryIndex (operation_numbers (entries_of es)) z.running z.entry_index) (kept.placed c s has) (λ q z d g. kept.placed q z g)),
       )
 
-  pub edit_goes : (c b : ℕ) (s s' : ClientState) (list : NumberSet) (es' : List Entry) → map.get m c ≡ Some s → s'.running ≡ record s.running { edited = set.insert s.running.edited b } → s'.previous ≡ s.previous
-      → list ≡ part_of (set_after_all s.previous s.running.operation) b → entries_of es' ≡ appended batches (entries_of es) c (Some s.running)
+  pub edit_goes : (c b : ℕ) (s s' : ClientState) (list : NumberSet) (es' : List Entry) → map.get m c ≡ Some s → s'.running ≡ record s.running { edited = set.insert s.running.edited b } → s'.taken_content ≡ s.taken_content
+      → list ≡ part_of (set_after_all s.taken_content s.running.operation) b → entries_of es' ≡ appended batches (entries_of es) c (Some s.running)
       → HasEntryIndex (operation_numbers (entries_of es')) s'.running s'.entry_index → ((q : ℕ) (z : ClientState) → map.get m q ≡ Some z → HasEntryIndex (operation_numbers (entries_of es')) z.running z.entry_index)
       → refusal batches (world_of n m ps es).locks (machine.Step.Edit c b) ≡ None → Goes n m ps es (machine.Step.Edit c b) n (map.insert m c s') (set_at ps b list) hs es'
   edit_goes c b s s' list es' has run_is found_e list_is order_is own others h =
@@ -208,7 +208,7 @@ module _ (n : ℕ) (m : Table) (ps : List NumberSet) (hs : List (Option ℕ)) (e
       let is : world_of n (map.insert m c s') (set_at ps b list) es' ≡ world_after batches v (machine.Step.Edit c b) = (λ i. record {
         locks = clients_changed n m c s s' (λ r. record r { edited = set.insert r.edited b }) has run_is i;
         parts = parts_are i;
-        previous = previous_same m c s s' has found_e i;
+        taken_content = previous_same m c s s' has found_e i;
         order = (order_is ∙ sym (ap (appended batches (entries_of es) c) (runs c s has))) i;
       }) in (
         is,
@@ -220,15 +220,15 @@ module _ (n : ℕ) (m : Table) (ps : List NumberSet) (hs : List (Option ℕ)) (e
       )
 
   pub begin_goes : (c : ℕ) (op : List Command) → IsLocal batches op → c < 2 ^ 32 → refusal batches (world_of n m ps es).locks (machine.Step.Begin c op) ≡ None
-      → Goes n m ps es (machine.Step.Begin c op) (suc n) (map.insert m c (record { running = new_running batches n op; previous = set.empty; entry_index = None })) ps hs es
+      → Goes n m ps es (machine.Step.Begin c op) (suc n) (map.insert m c (record { running = new_running batches n op; taken_content = set.empty; entry_index = None })) ps hs es
   begin_goes c op local l h =
       let v : BatchWorld = world_of n m ps es in
-      let s' : ClientState = record { running = new_running batches n op; previous = set.empty; entry_index = None } in
+      let s' : ClientState = record { running = new_running batches n op; taken_content = set.empty; entry_index = None } in
       let idle : client_at batches v c ≡ None = idle_of batches v.locks (client_at batches v c) h in
       let is : world_of (suc n) (map.insert m c s') ps es ≡ world_after batches v (machine.Step.Begin c op) = (λ i. record {
         locks = record { begun = suc n; clients = values-insert (λ (s : ClientState). s.running) m c s' i };
         parts = ps;
-        previous = values-insert (λ (s : ClientState). s.previous) m c s' i;
+        taken_content = values-insert (λ (s : ClientState). s.taken_content) m c s' i;
         order = entries_of es;
       }) in (
         is,
@@ -283,15 +283,15 @@ module _ (n : ℕ) (m : Table) (ps : List NumberSet) (hs : List (Option ℕ)) (e
   -- the first Edit of a client: its entry is appended, and the client gets the index of the entry
   pub first_edit_goes : (c b : ℕ) (s : ClientState) (entry_index : ℕ) (list : NumberSet) (e : Entry) → map.get m c ≡ Some s → s.entry_index ≡ None → entry_index ≡ length es
       → e.begin ≡ s.running.number → e.client ≡ c → e.reply ≡ None
-      → list ≡ part_of (set_after_all s.previous s.running.operation) b → refusal batches (world_of n m ps es).locks (machine.Step.Edit c b) ≡ None
-      → Goes n m ps es (machine.Step.Edit c b) n (map.insert m c (record { running = record s.running { edited = set.insert s.running.edited b }; previous = s.previous; entry_index = Some entry_index })) (set_at ps b list) hs (es ++ e ∷ [])
+      → list ≡ part_of (set_after_all s.taken_content s.running.operation) b → refusal batches (world_of n m ps es).locks (machine.Step.Edit c b) ≡ None
+      → Goes n m ps es (machine.Step.Edit c b) n (map.insert m c (record { running = record s.running { edited = set.insert s.running.edited b }; taken_content = s.taken_content; entry_index = Some entry_index })) (set_at ps b list) hs (es ++ e ∷ [])
   first_edit_goes c b s entry_index list e has none place_is begin_is client_is reply_is list_is h =
       let none_edited : is_nonempty s.running.edited ≡ false = (kept.placed c s has).0 ∙ ap is_some none in
       let order_is : entries_of (es ++ e ∷ []) ≡ appended batches (entries_of es) c (Some s.running) =
       entries_push es e ∙ (λ i. entries_of es ++ record { begin = begin_is i; client = client_is i; reply = reply_is i } ∷ [])
       ∙ sym (ap (λ (t : Bool). cond t (entries_of es) (entries_of es ++ record { begin = s.running.number; client = c; reply = None } ∷ [])) none_edited) in
       let names_are : operation_numbers (entries_of (es ++ e ∷ [])) ≡ operation_numbers (entries_of es) ++ e.begin ∷ [] = ap operation_numbers (entries_push es e) ∙ names_push (entries_of es) (entry_of e) in
-      edit_goes c b s (record { running = record s.running { edited = set.insert s.running.edited b }; previous = s.previous; entry_index = Some entry_index }) list (es ++ e ∷ []) has refl refl list_is order_is (
+      edit_goes c b s (record { running = record s.running { edited = set.insert s.running.edited b }; taken_content = s.taken_content; entry_index = Some entry_index }) list (es ++ e ∷ []) has refl refl list_is order_is (
         is_any_of (set.insert s.running.edited b) b (has-insert_same s.running.edited b),
         ap (λ ns. slice_get ns entry_index) names_are ∙ ap (slice_get (operation_numbers (entries_of es) ++ e.begin ∷ [])) (place_is ∙ sym (length-names es))
             ∙ get_last (operation_numbers (entries_of es)) e.begin ∙ ap (λ k. Some k) begin_is,
@@ -302,15 +302,15 @@ module _ (n : ℕ) (m : Table) (ps : List NumberSet) (hs : List (Option ℕ)) (e
   pub committed_at : (c : ℕ) (s : ClientState) (v : BatchWorld) → map.get m c ≡ Some s → world_of n m ps es ≡ v → is_some s.entry_index ≡ true → IfSome (client_at batches v c) (λ r. is_nonempty r.edited ≡ true)
   committed_at c s v has is some = subst (λ x. IfSome x (λ r. is_nonempty r.edited ≡ true)) (sym (ap (λ v. client_at batches v c) (sym is) ∙ runs c s has)) ((kept.placed c s has).0 ∙ some)
 
-  pub kept_list : (cs : List Command) (previous list : NumberSet) (lists : List (Option NumberSet)) (b : ℕ) → b < 12 → footprint_of_all cs b ≡ true
-      → ((b : ℕ) → b < 12 → get_or lists b None ≡ kept_part (footprint_of_all cs b) (set_after_all previous cs) b) → Some list ≡ get_or lists b None → list ≡ part_of (set_after_all previous cs) b
-  kept_list cs previous list lists b low has each is =
-      some_same (Some list) list (part_of (set_after_all previous cs) b) refl (is ∙ each b low ∙ ap (λ t. kept_part t (set_after_all previous cs) b) has)
+  pub kept_list : (cs : List Command) (taken_content list : NumberSet) (lists : List (Option NumberSet)) (b : ℕ) → b < 12 → footprint_of_all cs b ≡ true
+      → ((b : ℕ) → b < 12 → get_or lists b None ≡ kept_part (footprint_of_all cs b) (set_after_all taken_content cs) b) → Some list ≡ get_or lists b None → list ≡ part_of (set_after_all taken_content cs) b
+  kept_list cs taken_content list lists b low has each is =
+      some_same (Some list) list (part_of (set_after_all taken_content cs) b) refl (is ∙ each b low ∙ ap (λ t. kept_part t (set_after_all taken_content cs) b) has)
 
-  pub kept_some : {A : Type 0} (cs : List Command) (previous : NumberSet) (lists : List (Option NumberSet)) (b : ℕ) → b < 12 → footprint_of_all cs b ≡ true
-      → ((b : ℕ) → b < 12 → get_or lists b None ≡ kept_part (footprint_of_all cs b) (set_after_all previous cs) b) → get_or lists b None ≡ None → A
-  kept_some cs previous lists b low has each none =
-      let is : None ≡ Some (part_of (set_after_all previous cs) b) = sym none ∙ each b low ∙ ap (λ t. kept_part t (set_after_all previous cs) b) has in absurd (cc (is))
+  pub kept_some : {A : Type 0} (cs : List Command) (taken_content : NumberSet) (lists : List (Option NumberSet)) (b : ℕ) → b < 12 → footprint_of_all cs b ≡ true
+      → ((b : ℕ) → b < 12 → get_or lists b None ≡ kept_part (footprint_of_all cs b) (set_after_all taken_content cs) b) → get_or lists b None ≡ None → A
+  kept_some cs taken_content lists b low has each none =
+      let is : None ≡ Some (part_of (set_after_all taken_content cs) b) = sym none ∙ each b low ∙ ap (λ t. kept_part t (set_after_all taken_content cs) b) has in absurd (cc (is))
 
   -- the client in the table, as a client of the machine
   pub seen_as : (k k' : ℕ) (v : BatchWorld) (x : Option ClientState) → world_of n m ps es ≡ v → k' ≡ k → map.get m k' ≡ x → client_at batches v k ≡ option_map (λ (s : ClientState). s.running) x

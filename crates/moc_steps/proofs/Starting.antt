@@ -40,7 +40,7 @@ module _ (m : Table) (ps : List NumberSet) (es : List Entry) (start : NumberSet)
   starts = λ i. record {
     locks = record { begun = 0; clients = (ap clients_of idle ∙ values-empty (λ (s : ClientState). s.running)) i };
     parts = parts i;
-    previous = (ap (λ (t : Table). (world_of 0 t ps es).previous) idle ∙ values-empty (λ (s : ClientState). s.previous)) i;
+    taken_content = (ap (λ (t : Table). (world_of 0 t ps es).taken_content) idle ∙ values-empty (λ (s : ClientState). s.taken_content)) i;
     order = entries_of (none i);
   }
 

@@ -180,14 +180,14 @@ pub record World (Op Reply : Type 0) : Type 0 where
   -- the contents of the twelve parts
   pub parts : List NumberSet
   -- for each midway client, the union of the contents of the parts when it took them
-  pub previous : map.FinMap nat_cmp NumberSet
+  pub taken_content : map.FinMap nat_cmp NumberSet
   -- the committed operations in the order of their first Edits
   pub order : List (Entry Reply)
 
 module _ {Op Reply : Type 0} (o : Object Op Reply) where
   -- the world with this set, in which all clients are idle
   abbrev pub start_world : NumberSet → World Op Reply
-  start_world start = record { locks = all_idle o; parts = parts_below start 12; previous = map.empty; order = [] }
+  start_world start = record { locks = all_idle o; parts = parts_below start 12; taken_content = map.empty; order = [] }
 
   -- the content of a part
   abbrev pub part_at : World Op Reply → ℕ → NumberSet
@@ -198,12 +198,12 @@ module _ {Op Reply : Type 0} (o : Object Op Reply) where
   client_at w c = map.get w.locks.clients c
 
   -- the union of the contents of the parts when the client took them
-  abbrev pub previous_content : World Op Reply → ℕ → NumberSet
-  previous_content w c = unwrap_or (map.get w.previous c) set.empty
+  abbrev pub taken_content_of : World Op Reply → ℕ → NumberSet
+  taken_content_of w c = unwrap_or (map.get w.taken_content c) set.empty
 
   -- the new set and the reply of the client's operation, computed from the parts that it has taken
   abbrev pub answer_on_previous : World Op Reply → ℕ → Running Op → NumberSet × Reply
-  answer_on_previous w c r = o.answer (previous_content w c) r.operation
+  answer_on_previous w c r = o.answer (taken_content_of w c) r.operation
 
   -- an entry with its reply, if it is that of operation n
   abbrev pub with_reply : ℕ → Reply → Entry Reply → Entry Reply
@@ -216,13 +216,13 @@ module _ {Op Reply : Type 0} (o : Object Op Reply) where
   parts_after w step = w.parts
 
   -- the taken contents after a step: a Begin starts with none, a Take adds the part's content, an End removes them
-  abbrev pub previous_after : World Op Reply → Step Op → map.FinMap nat_cmp NumberSet
-  previous_after w (Begin c op) = map.insert w.previous c set.empty
-  previous_after w (Take c) = map.insert w.previous c (option_map_or
-      (λ r. set.union (previous_content w c) (unwrap_or (option_map (part_at w) (next_part o r)) set.empty))
-      (client_at w c) (previous_content w c))
-  previous_after w (End c) = map.remove w.previous c
-  previous_after w step = w.previous
+  abbrev pub taken_content_after : World Op Reply → Step Op → map.FinMap nat_cmp NumberSet
+  taken_content_after w (Begin c op) = map.insert w.taken_content c set.empty
+  taken_content_after w (Take c) = map.insert w.taken_content c (option_map_or
+      (λ r. set.union (taken_content_of w c) (unwrap_or (option_map (part_at w) (next_part o r)) set.empty))
+      (client_at w c) (taken_content_of w c))
+  taken_content_after w (End c) = map.remove w.taken_content c
+  taken_content_after w step = w.taken_content
 
   -- the order after a step: the first Edit of an operation appends its entry, and its End adds the reply unless it quit
   abbrev pub entries_after : World Op Reply → Step Op → List (Entry Reply)
@@ -240,7 +240,7 @@ module _ {Op Reply : Type 0} (o : Object Op Reply) where
   world_after w step = record {
     locks = locks_after o w.locks step;
     parts = parts_after w step;
-    previous = previous_after w step;
+    taken_content = taken_content_after w step;
     order = entries_after w step;
   }
 

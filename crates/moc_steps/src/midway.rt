@@ -32,7 +32,7 @@ pub(crate) struct ActiveOperation {
     given: PartSet,
     quits: bool,
     /// The lists of the parts that it has taken, as they were when it took them.
-    previous: [Option<SharedList>; 12],
+    taken_lists: [Option<SharedList>; 12],
     /// The result of its operation, computed at its first Edit.
     prepared_update: Option<PreparedUpdate>,
 }
@@ -56,18 +56,18 @@ impl Model for ActiveOperation {
         given = m.given;
         quits = m.quits;
       };
-      previous = union_of (contents_of m.previous);
+      taken_content = union_of (contents_of m.taken_lists);
       entry_index = option_map (λ x. x.entry_index) m.prepared_update;
     } };
 
-    ghost invariant = { λ m. ClientInvariant m.batch m.taken m.edited m.parts.items m.previous m.prepared_update };
+    ghost invariant = { λ m. ClientInvariant m.batch m.taken m.edited m.parts.items m.taken_lists m.prepared_update };
 }
 
 impl ActiveOperation {
     /// Creates the state of a client that begins an operation. Fails with `Memory` if an allocation fails.
     pub(crate) fn new(alloc: Global, number: u64, batch: Batch) -> Result<ActiveOperation, Memory>
         ensures { IfOk result (λ m.
-            m ≡ record { running = new_running batches number batch; previous = set.empty; entry_index = None }) }
+            m ≡ record { running = new_running batches number batch; taken_content = set.empty; entry_index = None }) }
     {
         let parts = parts_of(alloc, &batch)?;
         Ok(ActiveOperation {
@@ -78,7 +78,7 @@ impl ActiveOperation {
             edited: PartSet::none(),
             given: PartSet::none(),
             quits: false,
-            previous: no_lists(),
+            taken_lists: no_lists(),
             prepared_update: None,
         })
     }
@@ -211,7 +211,7 @@ impl ActiveOperation {
         ensures entry_index { IfOk result (λ m. m.entry_index ≡ entry_index) }
         ensures value { IfOk result (λ m. IsUpdateResult self.now m) }
     {
-        PreparedUpdate::new(alloc, &self.batch, &self.previous, entry_index)
+        PreparedUpdate::new(alloc, &self.batch, &self.taken_lists, entry_index)
     }
 
     /// Returns the index of its entry in the order, if the operation is committed.
@@ -226,7 +226,7 @@ impl ActiveOperation {
         requires value { IsSome self.now.entry_index }
         requires part { footprint_of_all self.now.running.operation part ≡ true }
         ensures { option_copied result
-            ≡ Some (part_of (set_after_all self.now.previous self.now.running.operation) part) }
+            ≡ Some (part_of (set_after_all self.now.taken_content self.now.running.operation) part) }
     {
         self.prepared_update.as_ref()?.list(part)
     }
@@ -235,14 +235,14 @@ impl ActiveOperation {
     pub(crate) fn take(&mut self, part: Part, list: SharedList)
         requires next { machine.next_part batches self.old.running ≡ Some part }
         requires own { part_of list part ≡ list }
-        requires fresh { part_of self.old.previous part ≡ set.empty }
+        requires fresh { part_of self.old.taken_content part ≡ set.empty }
         requires first { self.old.entry_index ≡ None }
         ensures { self.new ≡ record self.old {
           running = record self.old.running { taken = suc self.old.running.taken };
-          previous = set.union self.old.previous list;
+          taken_content = set.union self.old.taken_content list;
         } }
     {
-        self.previous[part.index()] = Some(list);
+        self.taken_lists[part.index()] = Some(list);
         self.taken += 1;
     }
 
@@ -251,7 +251,7 @@ impl ActiveOperation {
         requires { IsUpdateResult self.old prepared_update }
         ensures { self.new ≡ record {
           running = record self.old.running { edited = set.insert self.old.running.edited part };
-          previous = self.old.previous;
+          taken_content = self.old.taken_content;
           entry_index = Some prepared_update.entry_index;
         } }
     {

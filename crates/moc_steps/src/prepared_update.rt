@@ -40,15 +40,16 @@ impl PreparedUpdate {
     pub(crate) fn new(
         alloc: Global,
         batch: &Batch,
-        previous: &[Option<SharedList>; 12],
+        taken_lists: &[Option<SharedList>; 12],
         entry_index: usize,
     ) -> Result<PreparedUpdate, Memory>
-        requires own { AreWithinParts (contents_of previous.now) }
-        requires footprint { (b : ℕ) → b < 12 → is_some (get_or previous.now b None) ≡ footprint_of_all batch.now b }
+        requires own { AreWithinParts (contents_of taken_lists.now) }
+        requires footprint { (b : ℕ) → b < 12
+            → is_some (get_or taken_lists.now b None) ≡ footprint_of_all batch.now b }
         ensures entry_index { IfOk result (λ m. m.entry_index ≡ entry_index) }
-        ensures value { IfOk result (λ m. IsResultFrom batch.now (contents_of previous.now) m) }
+        ensures value { IfOk result (λ m. IsResultFrom batch.now (contents_of taken_lists.now) m) }
     {
-        let mut prepared = prepare(alloc, batch, &lists_of(previous))?;
+        let mut prepared = prepare(alloc, batch, &lists_of(taken_lists))?;
         let copy = prepared.reply().try_copy(alloc)?;
         let lists = share_lists(alloc, &mut prepared)?;
         Ok(PreparedUpdate {
@@ -82,11 +83,11 @@ impl PreparedUpdate {
 }
 
 /// Borrows the shared lists.
-fn lists_of(previous: &[Option<SharedList>; 12]) -> [Option<&Coverage>; 12]
-    ensures { map option_copied result ≡ previous.now }
+fn lists_of(taken_lists: &[Option<SharedList>; 12]) -> [Option<&Coverage>; 12]
+    ensures { map option_copied result ≡ taken_lists.now }
 {
     let mut lists = [None; 12];
-    for (b, share) in previous.iter().enumerate() {
+    for (b, share) in taken_lists.iter().enumerate() {
         if let Some(share) = share {
             lists[b] = Some(share.list());
         }

@@ -14,7 +14,7 @@ ghost use Rattle.moc_parts.specs.Prepared.{given_sets};
 ghost use Rattle.moc_steps.specs.Played.{entries_of, step_of, IsCoverError, IsRefused};
 ghost use Rattle.moc_steps.specs.Private.Worlds.{NoPartHeld, IsHighestHolder};
 ghost use Rattle.moc_steps.specs.Private.ClientState.{ClientState};
-ghost use Rattle.moc_steps.specs.declared.error.StepError.TheVariants as fault;
+ghost use Rattle.moc_steps.specs.declared.error.StepError.TheVariants as error;
 
 use crate::error::{CoverError, StepError};
 use crate::midway::ActiveOperation;
@@ -111,7 +111,10 @@ impl World {
         if n > 0 {
             return Err(CoverError::Midway { n });
         }
-        Ok(merge_parts(self.alloc, &lists(&self.parts))?)
+        match merge_parts(self.alloc, &lists(&self.parts)) {
+            Ok(set) => Ok(set),
+            Err(Memory) => Err(CoverError::Memory),
+        }
     }
 
     /// Returns the reason why a Begin is refused, or `None` if it is permitted.
@@ -226,7 +229,7 @@ impl World {
     fn take(&mut self, client: u32) -> Result<(), StepError>
         requires { refusal batches self.old.locks (machine.Step.Take client) ≡ None }
         ensures after { OnOk result (self.new ≡ world_after batches self.old (machine.Step.Take client)) }
-        ensures failure { IfErr result (λ why. why ≡ fault.Memory) }
+        ensures failure { IfErr result (λ why. why ≡ error.Memory) }
         ensures unchanged { OnErr result (self.new ≡ self.old) }
     {
         // Neither of the next two calls fails, because the step is permitted.

@@ -8,7 +8,7 @@ use Rattle.serde_json.specs.Read.{read}
 use Rattle.moc_lists.specs.RangeList.{NumberSet}
 use Rattle.moc_ranges.specs.Lemmas.{union-assoc}
 use Rattle.moc_text.specs.Ascii.{deeper}
-use Rattle.moc_text.specs.Faults.{Fails}
+use Rattle.moc_text.specs.Errors.{Fails}
 use Rattle.moc_text.specs.JsonFormat.{order_of_name, whole_number, cell_pixels, element_error, items_pixels}
 use Rattle.moc_text.specs.JsonFormat.{elements_error, array_pixels, name_error, members_pixels, members_error}
 use Rattle.moc_text.specs.JsonFormat.{deepest_name, IsJson, RepresentsJson, IsJsonError}
@@ -53,7 +53,7 @@ one_members bytes a b j k x y =
     let value = one_value bytes x.value y.value x.json y.json in
     let found : Some x.members ≡ Some y.members = sym x.object ∙ ap as_object value ∙ y.object in
     let members : x.members ≡ y.members = cc in
-    (x.set_is ∙ ap members_pixels members ∙ sym y.set_is, x.deepest_is ∙ ap deepest_name members ∙ sym y.deepest_is)
+    (x.set_is ∙ ap members_pixels members ∙ sym y.set_is, x.moc_order_is ∙ ap deepest_name members ∙ sym y.moc_order_is)
 
 -- a text with an error does not represent a set
 pub faulty_says_nothing : (bytes : List ℕ) (a : NumberSet) (k : Option ℕ) (e : JsonError) → RepresentsJson bytes a k → IsJsonError bytes e → ⊥

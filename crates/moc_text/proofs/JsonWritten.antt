@@ -500,5 +500,5 @@ written_represents a stated text utf8 is in_pixels small fine =
       set_is = same_members a (members_pixels (members_below cells empty_order 30)) (λ q.
           ap (λ (b : NumberSet). set.contains b q) (sym (cells_fill a in_pixels)) ∙ contains-pixels_of q cells
           ∙ sym (say.contain q ∙ members_have q cells empty_order 30 (omega arith) ∙ all_below q cells (cells_are a)));
-      deepest_is = sym (deepest_is a stated small fine);
+      moc_order_is = sym (deepest_is a stated small fine);
     }

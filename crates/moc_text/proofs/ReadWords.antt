@@ -62,11 +62,11 @@ progress_none text = record {
   read = tt;
   set_is = refl;
   order_is = refl;
-  deepest_is = refl;
+  moc_order_is = refl;
 }
 
-pub progress_skip : (text : List ℕ) (b : ℕ) (rest : List ℕ) (a : NumberSet) (order deepest : Option ℕ) → is_separator b ≡ true → Progress text (b ∷ rest) a order deepest → Progress text rest a order deepest
-progress_skip text b rest a order deepest h p =
+pub progress_skip : (text : List ℕ) (b : ℕ) (rest : List ℕ) (a : NumberSet) (order moc_order : Option ℕ) → is_separator b ≡ true → Progress text (b ∷ rest) a order moc_order → Progress text rest a order moc_order
+progress_skip text b rest a order moc_order h p =
     let place : length text - length (b ∷ rest) + 1 ≡ length text - length rest = omega (arith, p.within) in
     record {
       good = p.good;
@@ -76,7 +76,7 @@ progress_skip text b rest a order deepest h p =
       read = p.read;
       set_is = p.set_is;
       order_is = p.order_is;
-      deepest_is = p.deepest_is;
+      moc_order_is = p.moc_order_is;
     }
 
 -- a valid word is not empty and has no separator
@@ -127,29 +127,29 @@ none_small : IsSmall None
 none_small k e = absurd cc
 
 -- the current order is valid
-pub small_current_order : (text rest : List ℕ) (a : NumberSet) (order deepest : Option ℕ) → Progress text rest a order deepest → IsSmall order
-small_current_order text rest a order deepest p = subst IsSmall (sym p.order_is) (order_after_small None p.good p.numbers none_small p.read)
+pub small_current_order : (text rest : List ℕ) (a : NumberSet) (order moc_order : Option ℕ) → Progress text rest a order moc_order → IsSmall order
+small_current_order text rest a order moc_order p = subst IsSmall (sym p.order_is) (order_after_small None p.good p.numbers none_small p.read)
 
 -- if no bytes remain, all words are parsed
-pub says_all : (text : List ℕ) (a : NumberSet) (order deepest : Option ℕ) → Progress text [] a order deepest → Represents text a deepest
-says_all text a order deepest p =
+pub says_all : (text : List ℕ) (a : NumberSet) (order moc_order : Option ℕ) → Progress text [] a order moc_order → Represents text a moc_order
+says_all text a order moc_order p =
     let all : p.good ≡ words text = sym (p.parts ∙ append-nil p.good) in
     record {
       numbers = p.numbers;
       read = subst (λ (ws : List Word). AreNumbersOf None ws p.numbers) all p.read;
       set_is = p.set_is;
-      deepest_is = p.deepest_is;
+      moc_order_is = p.moc_order_is;
     }
 
 no_fault : (f g : Option TextError) → f ≡ None → g ≡ None → option_or f g ≡ None
 no_fault f g h k = rw h k
 
-pub progress_word : (text rest : List ℕ) (a : NumberSet) (order deepest : Option ℕ) (n : WordNumbers) (after : List ℕ) (a' : NumberSet) (order' deepest' : Option ℕ)
-    → IsSmall order → Progress text rest a order deepest → Scanned (length text) rest n after
-    → mark_error n.mark ≡ None → order' ≡ current_order order n.mark → deepest' ≡ deeper deepest (current_order None n.mark)
+pub progress_word : (text rest : List ℕ) (a : NumberSet) (order moc_order : Option ℕ) (n : WordNumbers) (after : List ℕ) (a' : NumberSet) (order' moc_order' : Option ℕ)
+    → IsSmall order → Progress text rest a order moc_order → Scanned (length text) rest n after
+    → mark_error n.mark ≡ None → order' ≡ current_order order n.mark → moc_order' ≡ deeper moc_order (current_order None n.mark)
     → item_error order' (length text - length rest) n.item ≡ None → a' ≡ set.union a (item_pixels order' n.item)
-    → Progress text after a' order' deepest'
-progress_word text rest a order deepest n after a' order' deepest' small p s mf oi di if si =
+    → Progress text after a' order' moc_order'
+progress_word text rest a order moc_order n after a' order' moc_order' small p s mf oi di if si =
     let at = length text - length rest in
     let t = numbers_at at s.shape in
     let mark : mark_error t.mark ≡ None = sym (mark_error-held t.mark) ∙ ap (λ (x : WordNumbers). mark_error x.mark) (sym s.is) ∙ mf in
@@ -157,7 +157,7 @@ progress_word text rest a order deepest n after a' order' deepest' small p s mf 
     let small' : IsSmall (current_order order t.mark) = small_order order t.mark small mark in
     let item : item_error (current_order order t.mark) at t.item ≡ None = sym (item_error-held (current_order order t.mark) at t.item small') ∙ ap (λ k. item_error k at (held_maybe t.item)) (sym o) ∙ ap (λ (x : WordNumbers). item_error order' at x.item) (sym s.is) ∙ if in
     let added : a' ≡ set.union a (item_pixels (current_order order t.mark) t.item) = si ∙ ap (set.union a) (ap (λ (x : WordNumbers). item_pixels order' x.item) s.is ∙ ap (λ k. item_pixels k (held_maybe t.item)) o ∙ item_pixels-held (current_order order t.mark) at t.item small' item) in
-    let d : deepest' ≡ deeper deepest (current_order None t.mark) = di ∙ ap (deeper deepest) (ap (λ (x : WordNumbers). current_order None x.mark) s.is ∙ order_at-held None t.mark mark) in
+    let d : moc_order' ≡ deeper moc_order (current_order None t.mark) = di ∙ ap (deeper moc_order) (ap (λ (x : WordNumbers). current_order None x.mark) s.is ∙ order_at-held None t.mark mark) in
     let w : Word = record { at = at; bytes = shape_text s.shape } in
     let fault : error_of (order_after None p.numbers) at t ≡ None = ap (λ k. error_of k at t) (sym p.order_is) ∙ no_fault (mark_error t.mark) (item_error (current_order order t.mark) at t.item) mark item in
     record {
@@ -168,16 +168,16 @@ progress_word text rest a order deepest n after a' order' deepest' small p s mf 
       read = AreNumbersOf_push None p.good p.numbers w t p.read (s.shape, s.lawful, refl, refl) fault;
       set_is = added ∙ ap (λ (r : NumberSet). set.union r (item_pixels (current_order order t.mark) t.item)) p.set_is ∙ ap (λ k. set.union (pixels_of_words None p.numbers) (item_pixels (current_order k t.mark) t.item)) p.order_is ∙ sym (pixels_said_push None p.numbers t);
       order_is = o ∙ ap (λ k. current_order k t.mark) p.order_is ∙ sym (order_after_push None p.numbers t);
-      deepest_is = d ∙ ap (λ k. deeper k (current_order None t.mark)) p.deepest_is ∙ sym (deepest_of_push p.numbers t);
+      moc_order_is = d ∙ ap (λ k. deeper k (current_order None t.mark)) p.moc_order_is ∙ sym (deepest_of_push p.numbers t);
     }
 
 -- ---- errors
 
 -- a word without a valid shape
-pub fault_shape : (text : List ℕ) (b : ℕ) (rest : List ℕ) (a : NumberSet) (order deepest : Option ℕ) (f : TextError)
-    → Progress text (b ∷ rest) a order deepest → is_separator b ≡ false
+pub fault_shape : (text : List ℕ) (b : ℕ) (rest : List ℕ) (a : NumberSet) (order moc_order : Option ℕ) (f : TextError)
+    → Progress text (b ∷ rest) a order moc_order → is_separator b ≡ false
     → HasShapeError (record { at = length text - length (b ∷ rest); bytes = take_while is_word_byte (b ∷ rest) }) f → IsFirstError text f
-fault_shape text b rest a order deepest f p h fault = record {
+fault_shape text b rest a order moc_order f p h fault = record {
   good = p.good;
   numbers = p.numbers;
   bad = record { at = length text - length (b ∷ rest); bytes = take_while is_word_byte (b ∷ rest) };
@@ -188,10 +188,10 @@ fault_shape text b rest a order deepest f p h fault = record {
 }
 
 -- a valid word with an error
-fault_numbers : (text rest : List ℕ) (a : NumberSet) (order deepest : Option ℕ) (n : WordNumbers) (after : List ℕ) (f : TextError)
-    → Progress text rest a order deepest → (s : Scanned (length text) rest n after)
+fault_numbers : (text rest : List ℕ) (a : NumberSet) (order moc_order : Option ℕ) (n : WordNumbers) (after : List ℕ) (f : TextError)
+    → Progress text rest a order moc_order → (s : Scanned (length text) rest n after)
     → error_of order (length text - length rest) (numbers_at (length text - length rest) s.shape) ≡ Some f → IsFirstError text f
-fault_numbers text rest a order deepest n after f p s fault =
+fault_numbers text rest a order moc_order n after f p s fault =
     let at = length text - length rest in
     let t = numbers_at at s.shape in
     record {
@@ -204,24 +204,24 @@ fault_numbers text rest a order deepest n after f p s fault =
       fault = inr (t, (s.shape, s.lawful, refl, refl), ap (λ k. error_of k at t) (sym p.order_is) ∙ fault);
     }
 
-pub fault_mark : (text rest : List ℕ) (a : NumberSet) (order deepest : Option ℕ) (n : WordNumbers) (after : List ℕ) (f : TextError)
-    → Progress text rest a order deepest → Scanned (length text) rest n after → mark_error n.mark ≡ Some f → IsFirstError text f
-fault_mark text rest a order deepest n after f p s h =
+pub fault_mark : (text rest : List ℕ) (a : NumberSet) (order moc_order : Option ℕ) (n : WordNumbers) (after : List ℕ) (f : TextError)
+    → Progress text rest a order moc_order → Scanned (length text) rest n after → mark_error n.mark ≡ Some f → IsFirstError text f
+fault_mark text rest a order moc_order n after f p s h =
     let at = length text - length rest in
     let t = numbers_at at s.shape in
     let mark : mark_error t.mark ≡ Some f = sym (mark_error-held t.mark) ∙ ap (λ (x : WordNumbers). mark_error x.mark) (sym s.is) ∙ h in
-    fault_numbers text rest a order deepest n after f p s (rw mark refl)
+    fault_numbers text rest a order moc_order n after f p s (rw mark refl)
 
-pub fault_item : (text rest : List ℕ) (a : NumberSet) (order deepest : Option ℕ) (n : WordNumbers) (after : List ℕ) (order' : Option ℕ) (f : TextError)
-    → IsSmall order → Progress text rest a order deepest → Scanned (length text) rest n after → mark_error n.mark ≡ None → order' ≡ current_order order n.mark → item_error order' (length text - length rest) n.item ≡ Some f → IsFirstError text f
-fault_item text rest a order deepest n after order' f small p s mf oi h =
+pub fault_item : (text rest : List ℕ) (a : NumberSet) (order moc_order : Option ℕ) (n : WordNumbers) (after : List ℕ) (order' : Option ℕ) (f : TextError)
+    → IsSmall order → Progress text rest a order moc_order → Scanned (length text) rest n after → mark_error n.mark ≡ None → order' ≡ current_order order n.mark → item_error order' (length text - length rest) n.item ≡ Some f → IsFirstError text f
+fault_item text rest a order moc_order n after order' f small p s mf oi h =
     let at = length text - length rest in
     let t = numbers_at at s.shape in
     let mark : mark_error t.mark ≡ None = sym (mark_error-held t.mark) ∙ ap (λ (x : WordNumbers). mark_error x.mark) (sym s.is) ∙ mf in
     let o : order' ≡ current_order order t.mark = oi ∙ ap (λ (x : WordNumbers). current_order order x.mark) s.is ∙ order_at-held order t.mark mark in
     let small' : IsSmall (current_order order t.mark) = small_order order t.mark small mark in
     let item : item_error (current_order order t.mark) at t.item ≡ Some f = sym (item_error-held (current_order order t.mark) at t.item small') ∙ ap (λ k. item_error k at (held_maybe t.item)) (sym o) ∙ ap (λ (x : WordNumbers). item_error order' at x.item) (sym s.is) ∙ h in
-    fault_numbers text rest a order deepest n after f p s (rw mark item)
+    fault_numbers text rest a order moc_order n after f p s (rw mark item)
 
 -- ---- the scanner's result in the loop
 
@@ -232,7 +232,7 @@ is_end-first (b ∷ rest) h = refl
 pub scanned_word : (len : ℕ) (rest : List ℕ) (n : WordNumbers) (after : List ℕ) → length rest ≤ len → 0 < length rest → is_separator (get_or rest 0 0) ≡ false → scan_word len rest ≡ Ok (n, after) → Scanned len rest n after
 scanned_word len rest n after le some h e = subst (WordOutcome len rest) e (word_outcome len rest le (is_end-first rest some ∙ h))
 
-pub fault_scanned : (text rest : List ℕ) (a : NumberSet) (order deepest : Option ℕ) (f : TextError) → Progress text rest a order deepest → 0 < length rest → is_separator (get_or rest 0 0) ≡ false → scan_word (length text) rest ≡ Err f → IsFirstError text f
-fault_scanned text [] a order deepest f p some h e = absurd (omega arith)
-fault_scanned text (b ∷ rest) a order deepest f p some h e =
-    fault_shape text b rest a order deepest f p h (subst (WordOutcome (length text) (b ∷ rest)) e (word_outcome (length text) (b ∷ rest) p.within h))
+pub fault_scanned : (text rest : List ℕ) (a : NumberSet) (order moc_order : Option ℕ) (f : TextError) → Progress text rest a order moc_order → 0 < length rest → is_separator (get_or rest 0 0) ≡ false → scan_word (length text) rest ≡ Err f → IsFirstError text f
+fault_scanned text [] a order moc_order f p some h e = absurd (omega arith)
+fault_scanned text (b ∷ rest) a order moc_order f p some h e =
+    fault_shape text b rest a order moc_order f p h (subst (WordOutcome (length text) (b ∷ rest)) e (word_outcome (length text) (b ∷ rest) p.within h))

@@ -150,7 +150,7 @@ abbrev Represented : List ℕ → Result (NumberSet × Option ℕ) TextError →
 Represented text r = MatchResult r (λ read. Represents text read.0 read.1) (λ fault. IsFirstError text fault)
 
 from_numbers : (text : List ℕ) (r : Result (List WordNumbers) TextError) → Outcome None (words text) r → Represented text (r >>= (λ ns. Ok (pixels_of_words None ns, deepest_of ns)))
-from_numbers text (Ok ns) o = record { numbers = o.0; read = o.1; set_is = o.2; deepest_is = o.3 }
+from_numbers text (Ok ns) o = record { numbers = o.0; read = o.1; set_is = o.2; moc_order_is = o.3 }
 from_numbers text (Err f) o = record { good = o.good; numbers = o.numbers; bad = o.bad; others = o.others; parts = o.parts; before = o.read; fault = o.fault }
 
 none_small : IsSmall None

@@ -21,7 +21,7 @@ use Rattle.moc_ranges.specs.Lemmas.{pixels_of-append, cells_fill, union-assoc, e
 use Rattle.moc_text.specs.Ascii.{IsNumber}
 use Rattle.moc_text.specs.Private.Scan.{leading_digits, after_digits, saturated_value, starts_with_digit}
 use Rattle.moc_text.specs.Lines.{lines_of}
-use Rattle.moc_ranges.specs.Faults.{first_error_of}
+use Rattle.moc_ranges.specs.Errors.{first_error_of}
 use Rattle.moc_text.specs.UniqList.{uniq_line_error, uniq_error, numbers_on, RepresentsUniq, uniq_text}
 use Rattle.moc_text.specs.Private.UniqReading.{after_line_feed, IsPart, IsLineRead, LinesSoFar}
 use Rattle.moc_text.specs.declared.uniq.UniqError.{UniqError}

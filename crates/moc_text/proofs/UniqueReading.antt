@@ -216,7 +216,7 @@ first_fault before (c ∷ a) (d ∷ b) v w x y (m ∷ ms) (n ∷ ns) f g e ra rb
 pub one_set : (text : List ℕ) (a b : NumberSet) (j k : Option ℕ) → Represents text a j → Represents text b k → (a ≡ b) × (j ≡ k)
 one_set text a b j k x y =
     let e : x.numbers ≡ y.numbers = one_read None (words text) x.numbers y.numbers x.read y.read in
-    (x.set_is ∙ ap (pixels_of_words None) e ∙ sym y.set_is, x.deepest_is ∙ ap deepest_of e ∙ sym y.deepest_is)
+    (x.set_is ∙ ap (pixels_of_words None) e ∙ sym y.set_is, x.moc_order_is ∙ ap deepest_of e ∙ sym y.moc_order_is)
 
 pub one_first_fault : (text : List ℕ) (f g : TextError) → IsFirstError text f → IsFirstError text g → f ≡ g
 one_first_fault text f g x y = first_fault None x.good y.good x.bad y.bad x.others y.others x.numbers y.numbers f g (sym x.parts ∙ y.parts) x.before y.before x.fault y.fault

@@ -400,5 +400,5 @@ written_is_read a stated in_pixels small fine =
       numbers = numbers 0 shapes;
       read = subst (λ (w : List Word). AreNumbersOf None w (numbers 0 shapes)) ws (runs_read stated None rs 0 small runs);
       set_is = sym (runs_said stated None rs 0 runs ∙ runs_pixels cells ∙ cells_fill a in_pixels);
-      deepest_is = sym (runs_deepest stated None rs 0 small runs ∙ ap (λ k. deeper k stated) (runs_of-deepest cells) ∙ deepest_is_written a stated fine);
+      moc_order_is = sym (runs_deepest stated None rs 0 small runs ∙ ap (λ k. deeper k stated) (runs_of-deepest cells) ∙ deepest_is_written a stated fine);
     }

@@ -212,12 +212,12 @@ abbrev pub deepest_of : List WordNumbers → Option ℕ
 deepest_of [] = None
 deepest_of (n ∷ ns) = deeper (current_order None n.mark) (deepest_of ns)
 
--- The text represents this set and this deepest order.
-pub record Represents (text : List ℕ) (a : NumberSet) (deepest : Option ℕ) : Type 0 where
+-- The text represents this set and this MOC order.
+pub record Represents (text : List ℕ) (a : NumberSet) (moc_order : Option ℕ) : Type 0 where
   pub numbers : List WordNumbers
   pub read : AreNumbersOf None (words text) numbers
   pub set_is : a ≡ pixels_of_words None numbers
-  pub deepest_is : deepest ≡ deepest_of numbers
+  pub moc_order_is : moc_order ≡ deepest_of numbers
 
 -- The first invalid word of the text has this error.
 pub record IsFirstError (text : List ℕ) (f : TextError) : Type 0 where

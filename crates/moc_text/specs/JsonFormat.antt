@@ -117,15 +117,15 @@ IsTextAt (Some place) found text = IsTextOf (option_and_then (λ (m : List ℕ �
 abbrev pub HasText : List ℕ → ℕ → Option ℕ → Option (List ℕ) → Type 0
 HasText bytes number place text = (d : Data) × IsJson bytes d × IsTextAt place (object_member number d) text
 
--- The text is a valid object that represents this set and this deepest order.
-pub record RepresentsJson (bytes : List ℕ) (a : NumberSet) (deepest : Option ℕ) : Type 0 where
+-- The text is a valid object that represents this set and this MOC order.
+pub record RepresentsJson (bytes : List ℕ) (a : NumberSet) (moc_order : Option ℕ) : Type 0 where
   pub value : Data
   pub json : IsJson bytes value
   pub members : Members
   pub object : as_object value ≡ Some members
   pub without_error : members_error 0 members ≡ None
   pub set_is : a ≡ members_pixels members
-  pub deepest_is : deepest ≡ deepest_name members
+  pub moc_order_is : moc_order ≡ deepest_name members
 
 -- The text has this error: it is not JSON, not an object, or an object with an invalid name.
 abbrev pub IsJsonError : List ℕ → JsonError → Type 0

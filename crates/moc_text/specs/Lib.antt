@@ -5,7 +5,7 @@ pub mod Lines
 pub mod UniqList
 pub mod JsonFormat
 pub mod JsonText
-pub mod Faults
+pub mod Errors
 pub mod Names
 pub mod Places
 pub mod Private

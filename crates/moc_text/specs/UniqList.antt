@@ -6,7 +6,7 @@ use Rattle.std.specs.Str.Parse.{digits_value}
 use Rattle.moc_sphere.specs.CellNumber.{CellNumber, is_uniq, IsCell, uniq_of}
 use Rattle.moc_lists.specs.RangeList.{NumberSet}
 use Rattle.moc_ranges.specs.Cells.{cells_of, pixels_of}
-use Rattle.moc_ranges.specs.Faults.{first_error_of}
+use Rattle.moc_ranges.specs.Errors.{first_error_of}
 use Rattle.moc_text.specs.Lines.{lines_of}
 use Rattle.moc_text.specs.declared.uniq.UniqError.{UniqError}
 use Rattle.moc_text.specs.declared.uniq.UniqError.TheVariants.{BadByte, NotUniq}

@@ -9,8 +9,8 @@ ghost use Rattle.moc_text.specs.Lines.{lines_of};
 ghost use Rattle.moc_text.specs.Names.{name_of_uniq};
 ghost use Rattle.moc_text.specs.Places.{error_line};
 ghost use Rattle.moc_text.specs.Private.UniqReading.{after_line_feed, IsLineRead};
-ghost use Rattle.moc_text.specs.Faults.{Fails};
-ghost use Rattle.moc_ranges.specs.Faults.{first_error_of};
+ghost use Rattle.moc_text.specs.Errors.{Fails};
+ghost use Rattle.moc_ranges.specs.Errors.{first_error_of};
 ghost use Rattle.moc_text.specs.UniqList.{RepresentsUniq, uniq_error, uniq_line_error, uniq_text};
 
 use crate::ascii::digits;
@@ -24,13 +24,13 @@ use thiserror::Error;
 #[derive(Debug, Clone, Copy, PartialEq, Eq, Error)]
 pub enum UniqError {
     /// A line has a byte that is not a digit.
-    #[error("a byte that is no digit, in line {line}")]
+    #[error("unexpected byte in line {line}")]
     BadByte {
         /// The number of the line.
         line: usize,
     },
     /// The number on a line is below 4, or 2^62 or above.
-    #[error("a number that is no NUNIQ number, in line {line}")]
+    #[error("invalid NUNIQ number in line {line}")]
     NotUniq {
         /// The number of the line.
         line: usize,
@@ -69,7 +69,7 @@ impl From<OutOfMemory> for UniqError {
 
     ghost from_gives = { λ _ e. e ≡ Memory };
 
-    fn from(_e: OutOfMemory) -> UniqError {
+    fn from(_error: OutOfMemory) -> UniqError {
         UniqError::Memory
     }
 }

@@ -33,7 +33,7 @@ impl WriteError {
 impl From<AllocError> for WriteError {
     ghost from_gives = { λ _ e. e ≡ Memory };
 
-    fn from(_e: AllocError) -> WriteError {
+    fn from(_error: AllocError) -> WriteError {
         WriteError::Memory
     }
 }

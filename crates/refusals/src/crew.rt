@@ -1,7 +1,8 @@
 //! Runs a script of four lines with two lanes, and reports the result and the number of output lines.
 
 use anyhow::{Result, bail};
-use moc_script::{Lanes, OpenGate, OverReader, OverWriter, crew};
+use moc_devices::{OverReader, OverWriter};
+use moc_script::{Lanes, OpenGate, crew};
 use std::alloc::Global;
 use std::io::Print;
 use std::marker::Sync;

@@ -1,7 +1,8 @@
 //! Runs a script of six lines, and reports the result and the number of replies.
 
 use anyhow::Result;
-use moc_script::{OverReader, OverWriter, run};
+use moc_devices::{OverReader, OverWriter};
+use moc_lines::run;
 use std::alloc::Global;
 use std::io::Print;
 

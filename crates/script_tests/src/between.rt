@@ -1,6 +1,7 @@
 //! Scripts, schedules and numbers over devices that move one byte a call.
 use crate::failing::{Devices, FailingSink, FailingSource, WORKING};
-use moc_script::{Renumbering, RunError, play, renumber, run};
+use moc_lines::{Renumbering, RunError, renumber, run};
+use moc_script::play;
 use std::alloc::Global;
 use std::process::Abort;
 

@@ -4,9 +4,9 @@ use crate::failing::{
     Devices, FailingSink, FailingSource, Failure, WORKING, failing_reader, failing_writer,
 };
 use crate::scripts::million_lines;
-use moc_script::{
-    CrewError, Gate, LINE_LIMIT, Lanes, OpenGate, OverReader, OverWriter, RunError, crew,
-};
+use moc_devices::{OverReader, OverWriter};
+use moc_lines::{LINE_LIMIT, RunError};
+use moc_script::{Gate, Lanes, OpenGate, crew};
 use std::alloc::Global;
 use std::marker::Sync;
 use std::process::Abort;
@@ -44,11 +44,7 @@ fn crew_between<T: Abort + Threads + Wait + Sync, G: Gate + Sync>(
     let lanes = lanes(rt, count);
     let mut source = FailingSource::new(script, devices);
     let mut sink = FailingSink::new(alloc, devices);
-    let result = match crew(rt, alloc, &mut source, &mut sink, lanes, gate) {
-        Ok(()) => Ok(()),
-        Err(CrewError::Run(error)) => Err(error),
-        Err(CrewError::Spawn) => panic!(rt; "a thread could not be started"),
-    };
+    let result = crew(rt, alloc, &mut source, &mut sink, lanes, gate);
     CallEnd {
         devices,
         result,
@@ -270,10 +266,7 @@ fn too_long_a_line(rt: HostRuntime) {
         lanes(&rt, 2),
         &gate,
     );
-    assert_eq!(rt;
-        result,
-        Err(CrewError::Run(RunError::LineTooLong { line: 2 }))
-    );
+    assert_eq!(rt; result, Err(RunError::LineTooLong { line: 2 }));
     assert!(rt; taken.is_empty());
     assert_eq!(rt; gate.passed.load(Ordering::SeqCst), 0);
 }

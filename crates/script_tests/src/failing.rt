@@ -1,7 +1,7 @@
 //! Devices that move one byte a call, and fail.
 ghost use Rattle.std.specs.Prelude.{◌≡◌, [], false, Some};
 
-use moc_script::{DeviceFault, Log, Sink, Source};
+use moc_devices::{DeviceFault, Log, Sink, Source};
 use std::alloc::Global;
 use std::io::{self, ErrorKind, Read, Write};
 

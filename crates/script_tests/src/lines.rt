@@ -1,11 +1,11 @@
 //! The calls of `moc_lines` for other line languages: words and fields, commands, replies, and inputs that are read
 //! whole.
 use crate::between::has_text;
+use moc_devices::{OverReader, OverWriter};
 use moc_lines::{
-    Commands, LINE_LIMIT, LineError, OverReader, OverWriter, ReadError, ScriptInputError,
-    answer_all_lines, answer_text, is_blank_text, is_word, line_after_last, only_field,
-    parse_decimal, push_count, push_cover, push_error, push_reply_line, read_all, read_batch,
-    read_commands, split_line, split_word, two_fields,
+    Commands, LINE_LIMIT, LineError, RunError, answer_all_lines, answer_text, is_blank_text,
+    is_word, line_after_last, only_field, parse_decimal, push_count, push_cover, push_error,
+    push_reply_line, read_all, read_batch, read_commands, split_line, split_word, two_fields,
 };
 use moc_parts::{Map, Reply};
 use moc_ranges::Coverage;
@@ -57,13 +57,13 @@ fn fields(rt: HostRuntime) {
     has_text(&rt, second, "18");
     for text in ["", " ", "7 8"] {
         assert!(rt;
-            only_field(text.as_bytes()) == Err(ReadError::Fault(LineError::WrongCount)),
+            only_field(text.as_bytes()) == Err(LineError::WrongCount),
             "{text:?}"
         );
     }
     for text in ["", "7", "7 8 9"] {
         assert!(rt;
-            two_fields(text.as_bytes()) == Err(ReadError::Fault(LineError::WrongCount)),
+            two_fields(text.as_bytes()) == Err(LineError::WrongCount),
             "{text:?}"
         );
     }
@@ -111,7 +111,7 @@ fn batches(rt: HostRuntime) {
             "{line}"
         );
     }
-    for (line, fault) in [
+    for (line, error) in [
         ("", LineError::EmptyCommand),
         ("add 0/0;", LineError::EmptyCommand),
         ("hop", LineError::UnknownWord),
@@ -119,10 +119,7 @@ fn batches(rt: HostRuntime) {
         ("near 0 12", LineError::CellTooLarge),
     ] {
         let read = read_batch(rt.alloc(), line.as_bytes());
-        assert!(rt;
-            matches!(read, Err(ReadError::Fault(seen)) if seen == fault),
-            "{line}"
-        );
+        assert!(rt; matches!(read, Err(seen) if seen == error), "{line}");
     }
 }
 
@@ -167,7 +164,7 @@ fn a_line_too_long_is_numbered(rt: HostRuntime) {
     assert!(rt; all.is_ok());
     text.push(b'x').expect(&rt, "memory");
     let all = read_all(rt.alloc(), &mut OverReader::new(text.as_slice()));
-    assert!(rt; matches!(all, Err(ScriptInputError::TooLong { line: 2 })));
+    assert!(rt; matches!(all, Err(RunError::LineTooLong { line: 2 })));
 }
 
 #[test]

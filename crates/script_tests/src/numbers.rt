@@ -1,10 +1,8 @@
 //! Replies to lines of numbers.
 use crate::between::{Language, expect_answers as expect};
-use moc_script::{
-    LINE_LIMIT, NumberError, Numbering, NumberingNameError, OverReader, OverWriter, Renumbering,
-    RunError, renumber,
-};
-use moc_sphere::Order;
+use moc_devices::{OverReader, OverWriter};
+use moc_lines::{LINE_LIMIT, NumberError, Numbering, Renumbering, RunError, renumber};
+use moc_sphere::{InvalidName, Order};
 use std::alloc::{AllocError, Global};
 use std::process::Abort;
 use std::str::FromStr;
@@ -60,7 +58,12 @@ fn all_cells_of_order_1(rt: HostRuntime) {
             );
         }
     }
-    assert!(rt; Numbering::from_str("nested") == Err(NumberingNameError::NotNumbering));
+    assert!(rt;
+        Numbering::from_str("nested")
+            == Err(InvalidName {
+                expected: "`nest`, `ring` or `uniq`"
+            })
+    );
 }
 
 // Cells of the smallest and of the largest order: the first and the last in a numbering.
@@ -226,7 +229,7 @@ fn one_number(rt: HostRuntime) {
         (uniq, nest, 15, Err(NumberError::OtherOrder)),
     ] {
         let order = Order::of(1);
-        assert_eq!(rt; Renumbering { from, to, order }.of(number), told);
+        assert_eq!(rt; Renumbering { from, to, order }.apply(number), told);
     }
     let faults = [NumberError::WrongCount, NumberError::BadNumber];
     assert_eq!(rt; faults.map(NumberError::name), ["WrongCount", "BadNumber"]);

@@ -1,7 +1,9 @@
 //! Replies to schedules.
 use crate::between::{CallEnd, Language, between, expect_answers, expect_end, holds};
 use crate::failing::{Devices, Failure, PLENTY, failing_reader, failing_writer};
-use moc_script::{OverReader, OverWriter, RunError, play};
+use moc_devices::{OverReader, OverWriter};
+use moc_lines::RunError;
+use moc_script::play;
 use std::alloc::{AllocError, Global};
 use std::process::Abort;
 

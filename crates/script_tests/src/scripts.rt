@@ -2,10 +2,8 @@
 use crate::between::{CallEnd, Language, between, expect_answers, expect_end, holds};
 use crate::failing::{Devices, FailsOnce, Failure, PLENTY, failing_reader, failing_writer};
 use crate::silent::{SilentReader, SilentWriter, run_over_std};
-use moc_script::{
-    CrewError, DeviceFault, LINE_LIMIT, LineError, OverReader, OverWriter, ReadError, RunError,
-    ScheduleLineError, Sink, Source, run, write_all,
-};
+use moc_devices::{DeviceFault, OverReader, OverWriter, Sink, Source, write_all};
+use moc_lines::{LINE_LIMIT, LineError, RunError, run};
 use std::alloc::{AllocError, Global};
 use std::fmt::Display;
 use std::process::Abort;
@@ -544,26 +542,22 @@ fn texts_of_errors(rt: HostRuntime) {
     expect_text(
         &rt,
         alloc,
-        &CrewError::Spawn,
+        &RunError::Spawn,
         "a thread could not be started",
     );
-    let error = CrewError::Run(RunError::Read);
-    expect_text(&rt, alloc, &error, "the input could not be read");
     expect_text(&rt, alloc, &DeviceFault, "a device failed");
-    let fault = ReadError::Fault(LineError::TooManyCommands);
-    expect_text(&rt, alloc, &fault, "a line has at most 16 commands");
-    expect_text(&rt, alloc, &ReadError::Memory, "out of memory");
+    let error = LineError::TooManyCommands;
+    expect_text(&rt, alloc, &error, "more than 16 commands");
+    expect_text(&rt, alloc, &LineError::Memory, "out of memory");
 }
 
 #[test]
 fn texts_of_schedule_errors(rt: HostRuntime) {
     let alloc = rt.alloc();
-    let fault = ScheduleLineError::Line(LineError::BadNumber);
-    expect_text(&rt, alloc, &fault, "a field that is no number");
-    let fault = ScheduleLineError::ClientTooLarge;
-    expect_text(&rt, alloc, &fault, "a client above 4294967295");
-    let fault = ScheduleLineError::PartTooLarge;
-    expect_text(&rt, alloc, &fault, "a part above 11");
+    let error = LineError::ClientTooLarge;
+    expect_text(&rt, alloc, &error, "client number above 4294967295");
+    let error = LineError::PartTooLarge;
+    expect_text(&rt, alloc, &error, "part number above 11");
 }
 
 // Returns the lines of a text before the line with this number, counted from 1.

@@ -2,7 +2,8 @@
 ghost use Rattle.std.specs.Prelude.{◌≡◌, false, OnOk};
 ghost use Rattle.moc_lines.specs.Runs.{AnswersAll, answers_of};
 
-use moc_script::{OverReader, OverWriter, RunError, Sink, Source, run};
+use moc_devices::{OverReader, OverWriter, Sink, Source};
+use moc_lines::{RunError, run};
 use std::alloc::Global;
 use std::io::{self, ErrorKind, Read, Write};
 

@@ -5,7 +5,8 @@ ghost use Rattle.moc_lines.specs.Runs.{answers_to, script_rules, whole_lines_of}
 
 use crate::between::has_text;
 use crate::failing::{FailingSink, WORKING};
-use moc_lines::{DeviceFault, GuardedSource, Log, RunError, answer_all_lines};
+use moc_devices::{DeviceFault, GuardedSource, Log};
+use moc_lines::{RunError, answer_all_lines};
 use moc_parts::Map;
 use moc_ranges::Coverage;
 use std::alloc::Global;

@@ -28,8 +28,9 @@ use std::thread;
 /// The number of threads.
 const THREADS: u8 = 8;
 
-/// The number of turns of each thread.
-const TURNS: u64 = 10_000;
+/// The number of turns of each thread. With run-time checks on a busy machine, all of them take twenty seconds. The
+/// toolchain ends a test after sixty.
+const TURNS: u64 = 4_000;
 
 /// The number of cells of order 5 in a base pixel.
 const CELLS: u64 = 1024;

@@ -78,14 +78,14 @@ len-set_of (range ∷ ranges) normal =
     ∙ ap (λ n. (range.1 - range.0) + n) (len-set_of ranges normal.3)
     ∙ sym (sum_by-cons (λ range. range.1 - range.0) range ranges)
 
-room : (low : ℕ) (ranges : List (ℕ × ℕ)) → low ≤ pixel_count → IsNormal ranges → BeginsAfter low ranges
+capacity : (low : ℕ) (ranges : List (ℕ × ℕ)) → low ≤ pixel_count → IsNormal ranges → BeginsAfter low ranges
     → low + set.len (set_of ranges) ≤ pixel_count
-room low [] le normal after = omega (arith, len_nothing)
-room low (range ∷ ranges) le normal after =
-    omega (arith, len-set_of_cons range ranges normal, room range.1 ranges normal.1 normal.3 normal.2)
+capacity low [] le normal after = omega (arith, len_nothing)
+capacity low (range ∷ ranges) le normal after =
+    omega (arith, len-set_of_cons range ranges normal, capacity range.1 ranges normal.1 normal.3 normal.2)
 
 -- the size of a normal list's set is at most the number of pixels
 pub len_bounded : (ranges : List (ℕ × ℕ)) → IsNormal ranges → set.len (set_of ranges) ≤ pixel_count
 len_bounded [] normal = omega (arith, len_nothing)
 len_bounded (range ∷ ranges) normal =
-    omega (arith, len-set_of_cons range ranges normal, room range.1 ranges normal.1 normal.3 normal.2)
+    omega (arith, len-set_of_cons range ranges normal, capacity range.1 ranges normal.1 normal.3 normal.2)

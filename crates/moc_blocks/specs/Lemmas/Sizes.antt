@@ -52,9 +52,9 @@ insert-old a k has = same_members _ _ (λ q.
     set.contains-insert nat_cmp_total a k q
     ∙ old (eq_by_cmp nat_cmp q k) (set.contains a q) (λ e. ap (set.contains a) (same_number q k e) ∙ has))
 
-growing_list : (a : NumberSet) (k : ℕ) (p : ℕ → Bool) → set.contains a k ≡ false
+len-retain-insert : (a : NumberSet) (k : ℕ) (p : ℕ → Bool) → set.contains a k ≡ false
     → set.len (set.retain (set.insert a k) p) ≡ cond (p k) (set.len (set.retain a p) + 1) (set.len (set.retain a p))
-growing_list a k p new =
+len-retain-insert a k p new =
     let fresh : set.contains (set.retain a p) k ≡ false = contains-kept a p k ∙ ap (λ b. b && p k) new in
     ap set.len (retain-insert a k p)
     ∙ elim (p k) as (λ b.
@@ -93,7 +93,7 @@ split_list p (k ∷ ks) =
           ∙ before
           ∙ ap set.len (sym (insert-old a k has))
       | inr new ↦
-          (λ i. growing_list a k p new i + growing_list a k (λ k. not (p k)) new i)
+          (λ i. len-retain-insert a k p new i + len-retain-insert a k (λ k. not (p k)) new i)
           ∙ one_side (p k) _ _ _ before
           ∙ sym (set.len-insert nat_cmp_total a k ∙ ap (λ b. cond b (set.len a) (set.len a + 1)) new)
     ]

@@ -4,10 +4,12 @@ use Rattle.std.specs.Prelude.{get_or, slice_set, take, drop, Result, MatchOption
 use Rattle.std.specs.List.{insert}
 use Rattle.moc_blocks.specs.RangeList.{IsNormal}
 use Rattle.moc_blocks.specs.Lemmas.Members.{in_range, in_ranges}
-use Rattle.moc_blocks.specs.Blocks.{concat, ObeysFillRule, AreBlocks}
+use Rattle.moc_blocks.specs.Blocks.{concat, ObeysFillRule, AreBlocks, max_block_ranges}
 use Rattle.moc_blocks.specs.Private.Blocks.{next_of, width_of, IsStored}
 use Rattle.moc_blocks.specs.Private.Built.{first_length, last_length, EndsBelow}
 use Rattle.moc_blocks.specs.Private.Walks.{all_ranges}
+use Rattle.moc_blocks.specs.declared.insertion.rebuild.Edit.{Edit}
+use Rattle.moc_blocks.specs.declared.insertion.rebuild.Edit.TheVariants.{Block, Node}
 
 -- a run of a list, with the runs before it, which all end below a number, and the runs after it
 pub record IsSplitAtRun {T : Type 0} (ranges : T → List (ℕ × ℕ)) (from : ℕ) (whole before : List T) (run : T)
@@ -23,7 +25,7 @@ pub record IsMergedRange (start to : ℕ) (ranges : List (ℕ × ℕ)) (end : �
   pub same : (q : ℕ) → in_ranges ((start, end) ∷ rest) q ≡ (in_range (start, to) q || in_ranges ranges q)
 
 -- a list with one range inserted; it begins and ends no further out than the old list and the range
-pub record IsInserted (from to : ℕ) (old new : List (ℕ × ℕ)) : Type 0 where
+pub record HasRangeInserted (from to : ℕ) (old new : List (ℕ × ℕ)) : Type 0 where
   pub normal : IsNormal new
   pub some : 0 < length new
   pub fewer : length new ≤ length old + 1
@@ -37,14 +39,14 @@ pieces xs [] = xs ∷ []
 pieces xs (y ∷ ys) = xs ∷ ((y ∷ ys) ∷ [])
 
 -- a list was split into one or two lists, which keep the fill rule between lists of the given lengths
-pub record IsCut {X : Type 0} (most before after : ℕ) (items first second : List X) : Type 0 where
+pub record IsSplit {X : Type 0} (most before after : ℕ) (items first second : List X) : Type 0 where
   pub parts : first ++ second ≡ items
   pub filled : ObeysFillRule most (pieces first second)
   pub front : 0 < before → most < before + first_length (pieces first second)
   pub back : 0 < after → most < last_length (pieces first second) + after
 
 -- a list has the pixels of an old list and of one more range; `added` of them are new
-pub record IsInsertion (from to : ℕ) (old new : List (ℕ × ℕ)) (added : ℕ) : Type 0 where
+pub record AddsRange (from to : ℕ) (old new : List (ℕ × ℕ)) (added : ℕ) : Type 0 where
   pub same : (q : ℕ) → in_ranges new q ≡ (in_ranges old q || in_range (from, to) q)
   pub more : width_of new ≡ width_of old + added
 
@@ -52,15 +54,15 @@ pub record IsInsertion (from to : ℕ) (old new : List (ℕ × ℕ)) (added : �
 -- unchanged
 abbrev pub Inserts : {E : Type 0} → ℕ → ℕ → List (ℕ × ℕ) → List (ℕ × ℕ) → Result (Option ℕ) E → Type 0
 Inserts from to old new result =
-    MatchResult result (λ added. MatchOption added (new ≡ old) (IsInsertion from to old new)) (λ _. new ≡ old)
+    MatchResult result (λ added. MatchOption added (new ≡ old) (AddsRange from to old new)) (λ _. new ≡ old)
 
 -- the new blocks of a node after an insertion, between the blocks before and after the node
 pub record IsNodeBlocks (from to : ℕ) (before after node blocks : List (List (ℕ × ℕ))) (added : ℕ) : Type 0 where
   pub some : 0 < length blocks
   pub sized : AreBlocks (before ++ (blocks ++ after))
   pub normal : IsNormal (concat (before ++ (blocks ++ after)))
-  pub growing_list :
-      IsInsertion from to (concat (before ++ (node ++ after))) (concat (before ++ (blocks ++ after))) added
+  pub is_insertion :
+      AddsRange from to (concat (before ++ (node ++ after))) (concat (before ++ (blocks ++ after))) added
 
 -- a range was inserted into a block of a node, which is now one block or two; `left` and `right` are the blocks around
 -- it in this node
@@ -83,7 +85,7 @@ pub record IsBlockEdit (from to : ℕ) (nodes : List (List (List (ℕ × ℕ))))
   pub run : List (ℕ × ℕ)
   pub right : List (List (ℕ × ℕ))
   pub place : block ≡ length left
-  pub growing_list : IsGrownBlock from to (concat before) (concat after) old left run right ranges [] added
+  pub grown_block : IsGrownBlock from to (concat before) (concat after) old left run right ranges [] added
 
 -- a range fits into a gap of a block that is not full, at these positions: of the block's node, of the block in it, and
 -- of the gap in the block
@@ -91,7 +93,7 @@ pub record IsGap (from to : ℕ) (nodes : List (List (List (ℕ × ℕ)))) (node
   pub ranges : List (ℕ × ℕ)
   pub block_edit : IsBlockEdit from to nodes node block ranges (to - from)
   pub inside : place ≤ length block_edit.run
-  pub room : length block_edit.run < 128
+  pub capacity : length block_edit.run < max_block_ranges
   pub made : ranges ≡ insert block_edit.run place (from, to)
 
 -- the blocks of a node, with a range inserted into one of them
@@ -102,7 +104,7 @@ with_range_inserted blocks block place range = slice_set blocks block (insert (g
 pub record HasGap (node : List (List (ℕ × ℕ))) (block place : ℕ) (range : ℕ × ℕ) : Type 0 where
   pub there : block < length node
   pub inside : place ≤ length (get_or node block [])
-  pub room : length (get_or node block []) < 128
+  pub capacity : length (get_or node block []) < max_block_ranges
   pub normal : IsNormal (concat (with_range_inserted node block place range))
   pub sized : AreBlocks (with_range_inserted node block place range)
 
@@ -120,8 +122,13 @@ pub record IsNodeEdit (from to : ℕ) (nodes : List (List (List (ℕ × ℕ)))) 
   pub parts : nodes ≡ before ++ node ∷ after
   pub at : place ≡ length before
   pub stored : IsStored [] (before ++ (one_or_two first second ++ after))
-  pub growing_list : IsInsertion from to (concat (concat nodes))
+  pub is_insertion : AddsRange from to (concat (concat nodes))
       (concat (concat (before ++ (one_or_two first second ++ after)))) added
+
+-- a block or a node is replaced because of an insertion
+abbrev pub IsEdit : ℕ → ℕ → List (List (List (ℕ × ℕ))) → Edit → Type 0
+IsEdit from to nodes (Block e) = IsBlockEdit from to nodes e.node e.block e.ranges.items e.added
+IsEdit from to nodes (Node e) = IsNodeEdit from to nodes e.place e.first e.second e.added
 
 -- a list with other elements in place of the one at a position
 abbrev pub replacing : {X : Type 0} → List X → ℕ → List X → List X

@@ -1,7 +1,7 @@
 -- Lists of ranges in blocks, and of blocks in nodes.
 use Rattle.std.specs.Prelude.{◌≡◌, ℕ, ◌+◌, ◌-◌, ◌<◌, ◌≤◌, List, [], ◌∷◌, ◌++◌, length, take, map, sum_by}
 use Rattle.moc_blocks.specs.RangeList.{IsNormal}
-use Rattle.moc_blocks.specs.Blocks.{concat, ObeysFillRule, AreBlocks}
+use Rattle.moc_blocks.specs.Blocks.{concat, ObeysFillRule, AreBlocks, max_block_ranges, max_node_blocks}
 
 -- the sum of the widths of the ranges
 abbrev pub width_of : List (ℕ × ℕ) → ℕ
@@ -28,31 +28,35 @@ pub record IsSummary (from to size : ℕ) (ranges : List (ℕ × ℕ)) : Type 0 
 -- the cached bounds and total width of a block, which has at most 128 ranges
 pub record IsBlock (from to size : ℕ) (ranges : List (ℕ × ℕ)) : Type 0 where
   pub summary : IsSummary from to size ranges
-  pub fits : length ranges ≤ 128
+  pub fits : length ranges ≤ max_block_ranges
 
 -- the cached bounds, total width and range count of a node, which has at most 16 blocks
 pub record IsNode (from to size count : ℕ) (blocks : List (List (ℕ × ℕ))) : Type 0 where
   pub summary : IsSummary from to size (concat blocks)
   pub counted : count ≡ length (concat blocks)
   pub sized : AreBlocks blocks
-  pub fits : length blocks ≤ 16
+  pub fits : length blocks ≤ max_node_blocks
 
 -- the remaining ranges of a traversal: of the current block, of the current node, and of the nodes after it
 abbrev pub rest_of : List (ℕ × ℕ) → List (List (ℕ × ℕ)) → List (List (List (ℕ × ℕ))) → List (ℕ × ℕ)
 rest_of ranges blocks nodes = ranges ++ (concat blocks ++ concat (concat nodes))
 
+-- the largest u64
+abbrev pub largest_u64 : ℕ
+largest_u64 = 18446744073709551615
+
 -- the start of the first range, or the largest u64 if the list is empty
 abbrev pub next_of : List (ℕ × ℕ) → ℕ
-next_of [] = 18446744073709551615
+next_of [] = largest_u64
 next_of (range ∷ ranges) = range.0
 
 -- the storage of a set: at most 128 ranges without blocks, or nodes of 1 to 16 blocks by the fill rule; all ranges
 -- together are a normal range list
 pub record IsStored (few : List (ℕ × ℕ)) (nodes : List (List (List (ℕ × ℕ)))) : Type 0 where
   pub alone : 0 < length few → nodes ≡ []
-  pub fits : length few ≤ 128
+  pub fits : length few ≤ max_block_ranges
   pub sized : AreBlocks (concat nodes)
-  pub wide : ObeysFillRule 16 nodes
+  pub wide : ObeysFillRule max_node_blocks nodes
   pub normal : IsNormal (rest_of few [] nodes)
 
 -- blocks whose concatenated ranges are a normal range list

@@ -1,7 +1,7 @@
 -- A list of ranges in blocks that grows at its end.
 use Rattle.std.specs.Prelude.{◌≡◌, ℕ, ◌<◌, ◌≤◌, List, [], ◌∷◌, ◌++◌, length, ⊤}
 use Rattle.moc_blocks.specs.RangeList.{IsNormal}
-use Rattle.moc_blocks.specs.Blocks.{concat, ObeysFillRule, AreBlocks}
+use Rattle.moc_blocks.specs.Blocks.{concat, ObeysFillRule, AreBlocks, max_block_ranges, max_node_blocks}
 use Rattle.moc_blocks.specs.Private.Blocks.{next_of}
 
 -- all ranges: of the finished nodes, of the blocks that are not in a node yet, and those that are not in a block yet
@@ -16,8 +16,8 @@ last_length (list ∷ (next ∷ lists)) = last_length (next ∷ lists)
 
 -- nodes by the fill rule, and at most 16 blocks that are not in a node yet
 pub record AreGrouped (nodes : List (List (List (ℕ × ℕ)))) (blocks : List (List (ℕ × ℕ))) : Type 0 where
-  pub sized : ObeysFillRule 16 nodes
-  pub fits : length blocks ≤ 16
+  pub sized : ObeysFillRule max_node_blocks nodes
+  pub fits : length blocks ≤ max_node_blocks
 
 -- the state of a builder: blocks and nodes by the fill rule, and at most 128 ranges after them; all together are a
 -- normal range list
@@ -25,7 +25,7 @@ pub record IsBuilderState (nodes : List (List (List (ℕ × ℕ)))) (blocks : Li
     Type 0 where
   pub sized : AreBlocks (concat nodes ++ blocks)
   pub wide : AreGrouped nodes blocks
-  pub fits : length ranges ≤ 128
+  pub fits : length ranges ≤ max_block_ranges
   pub normal : IsNormal (builder_ranges nodes blocks ranges)
 
 -- the number of ranges of the first block, or 0 if the list is empty

@@ -2,7 +2,7 @@
 ghost use Rattle.std.specs.Prelude.{◌≡◌, ◌+◌, ◌<◌, ◌≤◌, [], min, IfOk};
 ghost use Rattle.moc_blocks.specs.RangeList.{pixel_count, IsNormal};
 ghost use Rattle.moc_blocks.specs.Private.Blocks.{next_of};
-ghost use Rattle.moc_blocks.specs.Private.Added.{IsMergedRange, IsInserted};
+ghost use Rattle.moc_blocks.specs.Private.Added.{IsMergedRange, HasRangeInserted};
 
 use crate::runs::count_ended;
 use std::alloc::{AllocError, Global};
@@ -55,7 +55,7 @@ pub(crate) fn with_range(
     requires normal { IsNormal ranges.now }
     requires filled { from < to }
     requires within { to ≤ pixel_count }
-    ensures { IfOk result (λ v. IsInserted from to ranges.now v.items) }
+    ensures { IfOk result (λ v. HasRangeInserted from to ranges.now v.items) }
 {
     let ended = count_ended(ranges, from.saturating_sub(1));
     let first = &ranges[..ended];

@@ -4,31 +4,31 @@ ghost use Rattle.moc_blocks.specs.RangeList.{pixel_count, IsNormal};
 ghost use Rattle.moc_blocks.specs.Blocks.{concat, AreBlocks};
 ghost use Rattle.moc_blocks.specs.Private.Blocks.{IsStored};
 ghost use Rattle.moc_blocks.specs.Private.Built.{first_length, EndsBelow};
-ghost use Rattle.moc_blocks.specs.Private.Added.{pieces, IsGrownBlock, IsNodeBlocks, IsNodeEdit, IsBlockEdit};
+ghost use Rattle.moc_blocks.specs.Private.Added.{pieces, IsGrownBlock, IsEdit};
 
 use crate::block::{Block, MAX_BLOCK_RANGES, width_of_ranges};
 use crate::cursor::{Cursor, start_of_next};
-use crate::insertion::cutting::{SplitList, cut_list};
 use crate::insertion::place::{SplitAtRun, find_run};
 use crate::insertion::reach::with_range;
-use crate::lengths::{length_of_first, length_of_last, width_of_last};
+use crate::insertion::splitting::{SplitList, split_list};
+use crate::lengths::{blocks_in_last, ranges_in_first, ranges_in_last};
 use crate::node::{MAX_NODE_BLOCKS, Node};
 use std::alloc::{AllocError, Global};
 
 /// Returns the number of ranges of the next block, or 0 if the list is empty.
-fn length_of_next(blocks: &[Block], nodes: &[Node]) -> usize
+fn ranges_in_next(blocks: &[Block], nodes: &[Node]) -> usize
     ensures { result ≡ first_length (blocks.now ++ concat nodes.now) }
 {
     if blocks.is_empty() {
         if let [node, ..] = nodes {
-            return length_of_first(node.blocks());
+            return ranges_in_first(node.blocks());
         }
     }
-    length_of_first(blocks)
+    ranges_in_first(blocks)
 }
 
 /// Returns the number of blocks of the first node, or 0 if the list is empty.
-fn width_of_first(nodes: &[Node]) -> usize
+fn blocks_in_first(nodes: &[Node]) -> usize
     ensures { result ≡ first_length nodes.now }
 {
     match nodes {
@@ -63,13 +63,6 @@ fn push_shared(blocks: &mut Vec<Block>, more: &[Block]) -> Result<(), AllocError
         blocks.push(block.share()?)?;
     }
     Ok(())
-}
-
-/// The blocks of a node after an insertion, and the number of new pixels.
-#[derive(Drop)]
-struct NodeBlocks {
-    blocks: Vec<Block>,
-    added: u64,
 }
 
 /// Returns the blocks around `place`, with the blocks of a list of ranges that was split in place of the block there.
@@ -130,38 +123,12 @@ fn grow_block<'a>(
     }
     let ranges = with_range(alloc, place.run.ranges(), from, to)?;
     let added = width_of_ranges(&ranges) - place.run.size();
-    let front = length_of_last(around.before, place.before);
-    let back = length_of_next(place.after, around.after);
-    let Some(cut) = cut_list(alloc, ranges, MAX_BLOCK_RANGES, front, back)? else {
+    let front = ranges_in_last(around.before, place.before);
+    let back = ranges_in_next(place.after, around.after);
+    let Some(cut) = split_list(alloc, ranges, MAX_BLOCK_RANGES, front, back)? else {
         return Ok(None);
     };
     Ok(Some(GrownBlock { place, cut, added }))
-}
-
-/// Returns the blocks of a node between other nodes, with a range inserted. Returns `None` if the range touches another
-/// block, or if the fill rule would be broken.
-fn edit_node_blocks(
-    alloc: Global,
-    around: &SplitAtRun<'_, Node>,
-    from: u64,
-    to: u64,
-) -> Result<Option<NodeBlocks>, AllocError>
-    requires sized { AreBlocks (concat around.now.before.now
-        ++ (around.now.run.now ++ concat around.now.after.now)) }
-    requires normal { IsNormal (concat (concat around.now.before.now
-        ++ (around.now.run.now ++ concat around.now.after.now))) }
-    requires filled { from < to }
-    requires within { to ≤ pixel_count }
-    requires below { EndsBelow from (concat (concat around.now.before.now)) }
-    ensures { IfOk result (λ r. IfSome r (λ r.
-        IsNodeBlocks from to (concat around.now.before.now) (concat around.now.after.now)
-        around.now.run.now r.blocks.items r.added)) }
-{
-    let Some(GrownBlock { place, cut, added }) = grow_block(alloc, around, from, to)? else {
-        return Ok(None);
-    };
-    let blocks = with_block_replaced(alloc, place, cut)?;
-    Ok(Some(NodeBlocks { blocks, added }))
 }
 
 /// A node that is replaced by one or two nodes because of an insertion: its position, the new nodes, and the number of
@@ -189,46 +156,6 @@ fn node_of(alloc: Global, blocks: Vec<Block>) -> Result<Option<Node>, AllocError
     Ok(Some(node))
 }
 
-/// Inserts a range and rebuilds the node that it belongs to. Returns `None` if the range touches more than one block,
-/// or if the fill rule would be broken.
-///
-/// # Errors
-///
-/// Fails if an allocation fails.
-pub fn edit_node(
-    alloc: Global,
-    nodes: &[Node],
-    from: u64,
-    to: u64,
-) -> Result<Option<NodeEdit>, AllocError>
-    requires stored { IsStored [] nodes.now }
-    requires filled { from < to }
-    requires within { to ≤ pixel_count }
-    ensures { IfOk result (λ r. IfSome r (λ r.
-        IsNodeEdit from to nodes.entry.now r.place r.first r.second r.added)) }
-{
-    let Some(place) = find_run(nodes, from) else {
-        return Ok(None);
-    };
-    let Some(NodeBlocks { blocks, added }) = edit_node_blocks(alloc, &place, from, to)? else {
-        return Ok(None);
-    };
-    let front = width_of_last(place.before);
-    let back = width_of_first(place.after);
-    let Some(SplitList { first, second }) = cut_list(alloc, blocks, MAX_NODE_BLOCKS, front, back)?
-    else {
-        return Ok(None);
-    };
-    let first = Node::new(alloc, first)?;
-    let second = node_of(alloc, second)?;
-    Ok(Some(NodeEdit {
-        place: place.before.len(),
-        first,
-        second,
-        added,
-    }))
-}
-
 /// A block that is replaced because of an insertion and stays one block: the position of its node, its position in this
 /// node, its new ranges, and the number of new pixels.
 #[derive(Drop)]
@@ -239,22 +166,32 @@ pub struct BlockEdit {
     pub added: u64,
 }
 
-/// Inserts a range and rebuilds the block that it belongs to. Returns `None` if the range touches another block, if the
-/// block has to be split, or if the fill rule would be broken.
+/// What an insertion replaces: a block of a node that is not shared, or a node.
+#[derive(Drop)]
+pub enum Edit {
+    /// A block of a node that is not shared.
+    Block(BlockEdit),
+    /// A node.
+    Node(NodeEdit),
+}
+
+/// Inserts a range and rebuilds the block that it belongs to. The node of this block is rebuilt as well if it is
+/// shared, or if the block is split. Returns `None` if the range touches more than one block, or if the fill rule would
+/// be broken.
 ///
 /// # Errors
 ///
 /// Fails if an allocation fails.
-pub fn edit_block(
+pub fn edit_nodes(
     alloc: Global,
     nodes: &[Node],
     from: u64,
     to: u64,
-) -> Result<Option<BlockEdit>, AllocError>
+) -> Result<Option<Edit>, AllocError>
     requires stored { IsStored [] nodes.now }
     requires filled { from < to }
     requires within { to ≤ pixel_count }
-    ensures { IfOk result (λ s. IfSome s (λ s. IsBlockEdit from to nodes.now s.node s.block s.ranges.items s.added)) }
+    ensures { IfOk result (λ r. IfSome r (IsEdit from to nodes.entry.now)) }
 {
     let Some(place) = find_run(nodes, from) else {
         return Ok(None);
@@ -269,14 +206,27 @@ pub fn edit_block(
     else {
         return Ok(None);
     };
-    let SplitList { first, second } = cut;
-    if !second.is_empty() {
-        return Ok(None);
+    if cut.second.is_empty() && !place.run.is_shared() {
+        return Ok(Some(Edit::Block(BlockEdit {
+            node: place.before.len(),
+            block: own.before.len(),
+            ranges: cut.first,
+            added,
+        })));
     }
-    Ok(Some(BlockEdit {
-        node: place.before.len(),
-        block: own.before.len(),
-        ranges: first,
+    let blocks = with_block_replaced(alloc, own, cut)?;
+    let front = blocks_in_last(place.before);
+    let back = blocks_in_first(place.after);
+    let Some(SplitList { first, second }) = split_list(alloc, blocks, MAX_NODE_BLOCKS, front, back)?
+    else {
+        return Ok(None);
+    };
+    let first = Node::new(alloc, first)?;
+    let second = node_of(alloc, second)?;
+    Ok(Some(Edit::Node(NodeEdit {
+        place: place.before.len(),
+        first,
+        second,
         added,
-    }))
+    })))
 }

@@ -1,18 +1,19 @@
 -- The texts of an input, processed piece by piece.
-use Rattle.std.specs.Prelude.{◌≡◌, ◌⊎◌, ℕ, ◌+◌, ◌<◌, ◌≤◌, List, [], ◌∷◌, ◌++◌, length, Option, None, Some}
+use Rattle.std.specs.Prelude.{◌≡◌, ◌⊎◌, ℕ, ◌+◌, ◌<◌, ◌≤◌, List, [], ◌++◌, length, Option, None, Some}
 use Rattle.std.specs.Prelude.{slice_index_or}
-use Rattle.moc_devices.specs.Devices.{Reading, Delivers}
+use Rattle.moc_devices.specs.Devices.{SourceState, Delivers}
 use Rattle.std.specs.List.{AllByRecursion}
 use Rattle.moc_forms.specs.Combining.{CombinesTexts, TextRepresents, combine_next, texts_of, without_blank_end}
 use Rattle.moc_forms.specs.declared.combining.ParsedCoverage.{ParsedCoverage}
 use Rattle.moc_text.specs.Lines.{pieces_of}
 use Rattle.moc_forms.specs.declared.combining.Operation.{Operation}
 use Rattle.moc_forms.specs.declared.finding.FormatChoice.{FormatChoice}
-use Rattle.moc_conversion.specs.Combining.{ReportsLongText, ReportsFirstError, count_limit}
-use Rattle.moc_conversion.specs.Conversion.{IsOutOfMemory, input_limit}
+use Rattle.moc_conversion.specs.Combining.{ReportsFirstError, count_limit}
+use Rattle.moc_conversion.specs.Conversion.{input_limit}
 use Rattle.moc_conversion.specs.Private.Pieces.{HasNoSemicolon}
 use Rattle.moc_conversion.specs.declared.combination.Combination.{Combination}
-use Rattle.moc_conversion.specs.declared.diagnostic.InputDiagnostic.{InputDiagnostic}
+use Rattle.moc_conversion.specs.declared.error.InputError.{InputError}
+use Rattle.moc_conversion.specs.declared.error.InputError.TheVariants.{Memory, TooLong}
 
 -- the unfinished text has no semicolon, and is no longer than an input may be
 pub record IsOpen (c : Combination) : Type 0 where
@@ -20,14 +21,14 @@ pub record IsOpen (c : Combination) : Type 0 where
   pub within : length c.text.items ≤ input_limit
 
 -- a combination that has no text yet
-pub record BeginsCombination (op : Operation) (ch : FormatChoice) (c : Combination) : Type 0 where
-  pub operation : c.operation ≡ op
-  pub choice : c.choice ≡ ch
+pub record BeginsCombination (operation : Operation) (choice : FormatChoice) (c : Combination) : Type 0 where
+  pub operates : c.operation ≡ operation
+  pub chooses : c.choice ≡ choice
   pub number : c.number ≡ 1
   pub text : c.text.items ≡ []
   pub before : c.before ≡ None
 
--- the combination after the text of a combination too, given the combination before it
+-- the combination of the unfinished text with the texts before it
 abbrev pub CombinesNext : Combination → Option ParsedCoverage → ParsedCoverage → Type 0
 CombinesNext c before after =
     (parsed : ParsedCoverage) × TextRepresents c.choice c.text.items parsed
@@ -49,14 +50,14 @@ pub record TextsCombine (operation : Operation) (choice : FormatChoice) (before 
 abbrev pub EndsCombination : Combination → List ℕ → Option ParsedCoverage → Type 0
 EndsCombination c rest after = TextsCombine c.operation c.choice c.before (c.text.items ++ rest) after
 
--- a diagnostic reports the first invalid text, with these bytes after the text of a combination
-abbrev pub FailsCombination : Combination → List ℕ → InputDiagnostic → Type 0
-FailsCombination c rest diagnostic =
-    ReportsFirstError c.number c.choice (texts_after c.before (c.text.items ++ rest)) diagnostic
+-- an error is that of the first invalid text, with these bytes after the text of a combination
+abbrev pub FailsCombination : Combination → List ℕ → InputError → Type 0
+FailsCombination c rest error =
+    ReportsFirstError c.number c.choice (texts_after c.before (c.text.items ++ rest)) error
 
--- a diagnostic reports the first invalid text, with these bytes and any others after the text of a combination
-abbrev pub FailsWithin : Combination → List ℕ → InputDiagnostic → Type 0
-FailsWithin c bytes diagnostic = (rest : List ℕ) → FailsCombination c (bytes ++ rest) diagnostic
+-- an error is that of the first invalid text, with these bytes and any others after the text of a combination
+abbrev pub FailsWithin : Combination → List ℕ → InputError → Type 0
+FailsWithin c bytes error = (rest : List ℕ) → FailsCombination c (bytes ++ rest) error
 
 -- with these bytes after the text of a combination, the piece with this number is longer than a text may be, or there
 -- are enough bytes that the numbers of the pieces may not fit into 64 bits
@@ -67,10 +68,10 @@ IsLong c bytes number =
     ⊎ (count_limit < c.number + length bytes)
 
 -- bytes were rejected: an allocation failed, or the text that is reported is too long, whatever follows the bytes
-abbrev pub AreRejected : Combination → List ℕ → InputDiagnostic → Type 0
-AreRejected c bytes diagnostic =
-    IsOutOfMemory diagnostic
-    ⊎ ((number : ℕ) × ReportsLongText number diagnostic × ((rest : List ℕ) → IsLong c (bytes ++ rest) number))
+abbrev pub AreRejected : Combination → List ℕ → InputError → Type 0
+AreRejected c bytes error =
+    (error ≡ Memory)
+    ⊎ ((number : ℕ) × (error ≡ TooLong (Some number)) × ((rest : List ℕ) → IsLong c (bytes ++ rest) number))
 
 -- a combination that processes these bytes becomes another
 pub record Processes (c : Combination) (bytes : List ℕ) (d : Combination) : Type 0 where
@@ -78,14 +79,10 @@ pub record Processes (c : Combination) (bytes : List ℕ) (d : Combination) : Ty
   pub choice : d.choice ≡ c.choice
   pub ends : (rest : List ℕ) (after : Option ParsedCoverage) → EndsCombination d rest after
       → EndsCombination c (bytes ++ rest) after
-  pub fails : (rest : List ℕ) (diagnostic : InputDiagnostic) → FailsCombination d rest diagnostic
-      → FailsCombination c (bytes ++ rest) diagnostic
+  pub fails : (rest : List ℕ) (error : InputError) → FailsCombination d rest error
+      → FailsCombination c (bytes ++ rest) error
   pub longer : (rest : List ℕ) (number : ℕ) → IsLong d rest number → IsLong c (bytes ++ rest) number
 
 -- the bytes that were read between two states of the input turn one combination into another
-abbrev pub RunsTo : Reading → Reading → Combination → Combination → Type 0
-RunsTo left left' c d = (taken : List ℕ) × (Delivers left left' taken × Processes c taken d)
-
--- the byte that ends a text
-abbrev pub semicolon : List ℕ
-semicolon = 59 ∷ []
+abbrev pub RunsTo : SourceState → SourceState → Combination → Combination → Type 0
+RunsTo source source' c d = (bytes : List ℕ) × (Delivers source source' bytes × Processes c bytes d)

@@ -1,25 +1,26 @@
 -- The state after the last line is answered or an error occurs, before the pending answers are written.
 use Rattle.std.specs.Prelude.{◌≡◌, ℕ, ◌⊎◌, List, [], ◌++◌, Result, Ok, Err}
-use Rattle.moc_devices.specs.Devices.{Reading, Delivers, IsEnded, Writing, Accepts}
+use Rattle.moc_devices.specs.Devices.{SourceState, Delivers, IsEnded, SinkState, Accepts}
 use Rattle.moc_text.specs.Lines.{lines_of}
 use Rattle.moc_lines.specs.Runs.{Rules, answers_to, closing_after, AreShort, IsTooLong, whole_lines_of, lines_before}
 use Rattle.moc_lines.specs.Runs.{IsUnfinishedLine, IsUnclosed}
 use Rattle.moc_lines.specs.declared.run_error.RunError.{RunError}
-use Rattle.moc_lines.specs.declared.run_error.RunError.TheVariants.{Read, Write, LineTooLong, Memory}
+use Rattle.moc_lines.specs.declared.run_error.RunError.TheVariants.{Read, Write, LineTooLong, Memory, Spawn}
 
 module _ {S : Type 0} (limit : ℕ) (rules : Rules S) (s : S) where
   -- the lines that were answered before a run ended with this result, given the bytes that were read; unspecified after
   -- a failed write
-  abbrev pub EndsAt : List (List ℕ) → List ℕ → Reading → Result (Unit {0}) RunError → Type 0
-  EndsAt lines given left (Ok _) = IsEnded left × (lines ≡ lines_of given)
-  EndsAt lines given left (Err Write) = Unit {0}
-  EndsAt lines given left (Err Read) = lines ≡ whole_lines_of given
-  EndsAt lines given left (Err (LineTooLong number)) =
+  abbrev pub EndsAt : List (List ℕ) → List ℕ → SourceState → Result (Unit {0}) RunError → Type 0
+  EndsAt lines given source (Ok _) = IsEnded source × (lines ≡ lines_of given)
+  EndsAt lines given source (Err Write) = Unit {0}
+  EndsAt lines given source (Err Read) = lines ≡ whole_lines_of given
+  EndsAt lines given source (Err (LineTooLong number)) =
       IsTooLong limit (lines_of given) number × (lines ≡ lines_before number given)
-  EndsAt lines given left (Err (Memory number)) =
+  EndsAt lines given source (Err (Memory number)) =
       (IsUnfinishedLine number given
-      ⊎ (IsEnded left × IsUnclosed number given (closing_after rules s (lines_of given))))
+      ⊎ (IsEnded source × IsUnclosed number given (closing_after rules s (lines_of given))))
       × (lines ≡ lines_before number given)
+  EndsAt lines given source (Err Spawn) = ⊥
 
 -- the output of a run that ends so: the answers to the lines, then the closing text if all lines are answered
 abbrev pub text_at : {S : Type 0} → Rules S → S → List (List ℕ) → Result (Unit {0}) RunError → List ℕ
@@ -33,15 +34,15 @@ IsSent text sent pending _ = text ≡ sent ++ pending
 
 module _ {S : Type 0} (limit : ℕ) (rules : Rules S) (s : S) where
   -- the state after the last line is answered or an error occurs
-  pub record Ended (left left' : Reading) (written written' : Writing) (pending : List ℕ)
+  pub record Ended (source source' : SourceState) (sink sink' : SinkState) (pending : List ℕ)
       (result : Result (Unit {0}) RunError) : Type 0 where
     pub lines : List (List ℕ)
     pub given : List ℕ
     pub sent : List ℕ
-    pub consumed : Delivers left left' given
-    pub appended : Accepts written written' sent
+    pub consumed : Delivers source source' given
+    pub appended : Accepts sink sink' sent
     pub within : AreShort limit lines
-    pub front : (more : List ℕ) → (IsEnded left' → more ≡ [])
+    pub front : (more : List ℕ) → (IsEnded source' → more ≡ [])
         → (rest : List (List ℕ)) × (lines_of (given ++ more) ≡ lines ++ rest)
-    pub ends : EndsAt limit rules s lines given left' result
+    pub ends : EndsAt limit rules s lines given source' result
     pub text : IsSent (text_at rules s lines result) sent pending result

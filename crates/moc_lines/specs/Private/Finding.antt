@@ -8,4 +8,4 @@ use Rattle.moc_lines.specs.declared.numbering.Numbering.{Numbering}
 -- the cell of order k that has the number n is returned, or the error of the number
 abbrev pub FindsCell : Numbering → ℕ → ℕ → Result CellNumber NumberError → Type 0
 FindsCell numbering k n (Ok cell) = (cell.order ≡ k) × (cell_or_error numbering k n ≡ Ok cell.index)
-FindsCell numbering k n (Err fault) = cell_or_error numbering k n ≡ Err fault
+FindsCell numbering k n (Err error) = cell_or_error numbering k n ≡ Err error

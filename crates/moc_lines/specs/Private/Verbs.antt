@@ -6,8 +6,8 @@ use Rattle.moc_lines.specs.Language.{decimal_value, ◌>>=◌}
 use Rattle.moc_parts.specs.declared.command.Operand.{Operand}
 use Rattle.moc_parts.specs.declared.command.Command.{Command}
 use Rattle.moc_parts.specs.declared.command.Command.TheVariants as command
-use Rattle.moc_lines.specs.declared.fault.LineError.{LineError}
-use Rattle.moc_lines.specs.declared.fault.LineError.TheVariants.{UnknownWord, BadNumber, OrderTooLarge, CellTooLarge}
+use Rattle.moc_lines.specs.declared.error.LineError.{LineError}
+use Rattle.moc_lines.specs.declared.error.LineError.TheVariants.{UnknownWord, BadNumber, OrderTooLarge, CellTooLarge}
 use Rattle.moc_lines.specs.declared.command.Verb.{Verb}
 use Rattle.moc_lines.specs.declared.command.Verb.TheVariants.{Add, Remove, Keep, Claim, Count, Read}
 

@@ -2,7 +2,7 @@
 use Rattle.std.specs.Prelude.{◌≡◌, ℕ, ◌≤◌, Bool, true, false, ◌||◌, ◌&&◌, max, List, [], ◌∷◌, ◌++◌, ⊤}
 use Rattle.moc_blocks.specs.RangeList.{IsNormal, BeginsAfter}
 use Rattle.moc_blocks.specs.Lemmas.Members.{in_ranges}
-use Rattle.moc_blocks.specs.Private.Blocks.{next_of}
+use Rattle.moc_blocks.specs.Private.Blocks.{largest_u64, next_of}
 use Rattle.moc_blocks.specs.Private.Built.{EndsBelow}
 
 -- each range of a list ends before the next begins; ranges may be empty
@@ -42,7 +42,7 @@ gaps_before low (range ∷ ranges) = (low, range.0) ∷ gaps_before range.1 rang
 
 -- the gaps before the ranges of a list, and the gap after them, up to the largest u64
 abbrev pub gaps_of : ℕ → List (ℕ × ℕ) → List (ℕ × ℕ)
-gaps_of low [] = (low, 18446744073709551615) ∷ []
+gaps_of low [] = (low, largest_u64) ∷ []
 gaps_of low (range ∷ ranges) = (low, range.0) ∷ gaps_of range.1 ranges
 
 -- the end of the last range, or `low` if the list is empty

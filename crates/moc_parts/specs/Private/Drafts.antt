@@ -21,19 +21,19 @@ AreParts sets = sets ≡ parts_below (union_of sets) 12
 -- the current list of each part: the replacement if there is one, otherwise the original
 abbrev pub current_lists : List NumberSet → List (Option NumberSet) → List NumberSet
 current_lists [] new_lists = []
-current_lists (part ∷ previous) [] = part ∷ current_lists previous []
-current_lists (part ∷ previous) (new ∷ new_lists) = unwrap_or new part ∷ current_lists previous new_lists
+current_lists (part ∷ before) [] = part ∷ current_lists before []
+current_lists (part ∷ before) (new ∷ new_lists) = unwrap_or new part ∷ current_lists before new_lists
 
 -- the value of a draft: the original parts and the current set
 pub record DraftState : Type 0 where
-  pub previous : List NumberSet
+  pub before : List NumberSet
   pub set : NumberSet
 
 -- a draft is encoded as the pair of its fields
 abbrev pub draft_state_code : Coded DraftState
 draft_state_code =
     code_by (List NumberSet × NumberSet) (coded× (coded_list (set.code coded_ℕ)) (set.code coded_ℕ))
-    (λ d. (d.previous, d.set)) (λ p. record { previous = p.0; set = p.1 }) (λ _. refl)
+    (λ d. (d.before, d.set)) (λ p. record { before = p.0; set = p.1 }) (λ _. refl)
 
 -- a set whose part b is replaced
 unfoldable pub with_part : NumberSet → ℕ → NumberSet → NumberSet

@@ -6,6 +6,9 @@ ghost use Rattle.moc_ranges.specs.Operations.{complement, meets};
 ghost use Rattle.moc_lists.specs.RangeList.{pixel_count};
 ghost use Rattle.moc_parts.specs.Batches.{replies_on, set_after_all, AreCommands};
 ghost use Rattle.moc_parts.specs.Commands.{operand_set, reply_on, set_after, surroundings, IsCommand, IsOperand};
+ghost use Rattle.moc_parts.specs.Parts.{union_of};
+ghost use Rattle.moc_parts.specs.Prepared.{given_sets};
+ghost use Rattle.moc_parts.specs.Private.Drafts.{AreParts};
 ghost use Rattle.moc_parts.specs.declared.reply.Reply.TheVariants as reply;
 
 use crate::change::Change;
@@ -13,7 +16,7 @@ use crate::command::{Command, Operand};
 use crate::draft::Draft;
 use crate::reply::{Replies, Reply};
 use crate::surroundings::surroundings_of;
-use moc_ranges::{Memory, PIXEL_COUNT};
+use moc_ranges::{Coverage, Memory, PIXEL_COUNT};
 use moc_sphere::{Cell, Order};
 use std::alloc::Global;
 
@@ -24,7 +27,7 @@ impl<'a> Draft<'a> {
         ensures set { OnOk result (self.new.set ≡ set.union self.old.set (operand_set operand.now)) }
         ensures reply { IfOk result (λ r.
             r ≡ reply.Changed (set.len (set.difference (operand_set operand.now) self.old.set))) }
-        ensures previous { self.new.previous ≡ self.old.previous }
+        ensures before { self.new.before ≡ self.old.before }
     {
         let effective_set = operand.effective_set(alloc)?;
         let added = self.change(alloc, &Change::Union(effective_set.set()))?;
@@ -37,7 +40,7 @@ impl<'a> Draft<'a> {
         ensures set { OnOk result (self.new.set ≡ set.difference self.old.set (operand_set operand.now)) }
         ensures reply { IfOk result (λ r.
             r ≡ reply.Changed (set.len (set.intersection self.old.set (operand_set operand.now)))) }
-        ensures previous { self.new.previous ≡ self.old.previous }
+        ensures before { self.new.before ≡ self.old.before }
     {
         let effective_set = operand.effective_set(alloc)?;
         let removed = self.change(alloc, &Change::Subtract(effective_set.set()))?;
@@ -50,7 +53,7 @@ impl<'a> Draft<'a> {
         ensures set { OnOk result (self.new.set ≡ set.intersection self.old.set (operand_set operand.now)) }
         ensures reply { IfOk result (λ r.
             r ≡ reply.Changed (set.len (set.difference self.old.set (operand_set operand.now)))) }
-        ensures previous { self.new.previous ≡ self.old.previous }
+        ensures before { self.new.before ≡ self.old.before }
     {
         let effective_set = operand.effective_set(alloc)?;
         let removed = self.change(alloc, &Change::Intersect(effective_set.set()))?;
@@ -67,7 +70,7 @@ impl<'a> Draft<'a> {
         ensures reply { IfOk result (λ r. r ≡ (if meets self.old.set (operand_set operand.now)
             then reply.Taken (set.len (set.intersection self.old.set (operand_set operand.now)))
             else reply.Claimed)) }
-        ensures previous { self.new.previous ≡ self.old.previous }
+        ensures before { self.new.before ≡ self.old.before }
     {
         let effective_set = operand.effective_set(alloc)?;
         let other = effective_set.set();
@@ -83,7 +86,7 @@ impl<'a> Draft<'a> {
     fn invert(&mut self, alloc: Global) -> Result<Reply, Memory>
         ensures set { OnOk result (self.new.set ≡ complement self.old.set) }
         ensures reply { IfOk result (λ r. r ≡ reply.Changed pixel_count) }
-        ensures previous { self.new.previous ≡ self.old.previous }
+        ensures before { self.new.before ≡ self.old.before }
     {
         self.change(alloc, &Change::Invert)?;
         Ok(Reply::Changed(PIXEL_COUNT))
@@ -95,7 +98,7 @@ impl<'a> Draft<'a> {
         ensures set { OnOk result (self.new.set ≡ degrade self.old.set order) }
         ensures reply { IfOk result (λ r.
             r ≡ reply.Changed (set.len (set.difference (degrade self.old.set order) self.old.set))) }
-        ensures previous { self.new.previous ≡ self.old.previous }
+        ensures before { self.new.before ≡ self.old.before }
     {
         let added = self.change(alloc, &Change::Degrade(order))?;
         Ok(Reply::Changed(added))
@@ -131,7 +134,7 @@ impl<'a> Draft<'a> {
         requires { IsCommand command.now }
         ensures set { OnOk result (self.new.set ≡ set_after self.old.set command.now) }
         ensures reply { IfOk result (λ r. r ≡ reply_on self.old.set command.now) }
-        ensures previous { self.new.previous ≡ self.old.previous }
+        ensures before { self.new.before ≡ self.old.before }
     {
         match command {
             Command::Add(x) => self.add(alloc, x),
@@ -147,20 +150,37 @@ impl<'a> Draft<'a> {
     }
 
     /// Executes commands in order.
-    pub(crate) fn answer_all(
-        &mut self,
-        alloc: Global,
-        commands: &[Command],
-    ) -> Result<Replies, Memory>
+    fn answer_all(&mut self, alloc: Global, commands: &[Command]) -> Result<Replies, Memory>
         requires { AreCommands commands.now }
         ensures set { OnOk result (self.new.set ≡ set_after_all self.old.set commands.now) }
         ensures replies { IfOk result (λ r. r ≡ replies_on self.old.set commands.now) }
-        ensures previous { self.new.previous ≡ self.old.previous }
+        ensures before { self.new.before ≡ self.old.before }
     {
         let mut replies = Replies::new(alloc);
         for command in commands {
             replies.push(self.answer(alloc, command)?)?;
         }
         Ok(replies)
+    }
+
+    /// Executes commands in order on a draft of the given lists. Returns the draft and the replies.
+    pub(crate) fn run(
+        alloc: Global,
+        lists: &'a [Option<&'a Coverage>; 12],
+        no_pixels: &'a Coverage,
+        commands: &[Command],
+    ) -> Result<(Draft<'a>, Replies), Memory>
+        requires parts { AreParts (given_sets lists.now) }
+        requires no_pixels { no_pixels.now ≡ set.empty }
+        requires valid { AreCommands commands.now }
+        ensures draft { IfOk result (λ r. r.0 ≡ record {
+          before = given_sets lists.now;
+          set = set_after_all (union_of (given_sets lists.now)) commands.now;
+        }) }
+        ensures replies { IfOk result (λ r. r.1 ≡ replies_on (union_of (given_sets lists.now)) commands.now) }
+    {
+        let mut draft = Draft::from_lists(alloc, lists, no_pixels);
+        let replies = draft.answer_all(alloc, commands)?;
+        Ok((draft, replies))
     }
 }

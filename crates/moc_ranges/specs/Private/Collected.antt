@@ -1,7 +1,7 @@
 -- The state of a coverage builder.
 use Rattle.std.specs.Prelude.{◌≡◌, ℕ, List, None}
 use Rattle.std.specs.FinSet as set
-use Rattle.moc_ranges.specs.Faults.{first_error}
+use Rattle.moc_ranges.specs.Errors.{first_error}
 use Rattle.moc_blocks.specs.RangeList.{NumberSet, IsNormal, set_of}
 
 -- the ranges that came in order are a normal list, and those that wait are valid

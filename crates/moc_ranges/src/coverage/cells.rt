@@ -1,11 +1,13 @@
 //! Coverages by cell.
-ghost use Rattle.std.specs.Prelude.{◌≡◌, ℕ, ◌<◌, ◌≤◌, ◌==◌, IfOk};
+ghost use Rattle.std.specs.Prelude.{◌≡◌, ℕ, ◌<◌, ◌≤◌, ◌==◌, IfOk, length, sum};
 ghost use Rattle.std.specs.List.{filter};
 ghost use Rattle.std.specs.FinSet as set;
 ghost use Rattle.moc_blocks.specs.RangeList.{IsNormal};
 ghost use Rattle.moc_ranges.specs.Operations.{meets, IsWithin, pixels};
+ghost use Rattle.moc_ranges.specs.CellCounts.{counts_by_order, uniq_end};
 ghost use Rattle.moc_ranges.specs.Cells.{HaveOrders, cells_in, cells_of, degrade, span};
 
+use crate::cell_counts::{ORDER_COUNT, add_cells};
 use crate::cell_ranges::CellRanges;
 use crate::cells::{deepest_order, orders_with_cells, push_runs};
 use crate::coverage::Coverage;
@@ -109,6 +111,24 @@ impl Coverage {
         ensures within { IsWithin self.now pixels }
     {
         orders_with_cells(self.ranges())
+    }
+
+    /// Returns the number of cells of the set of each order, from order 0 to order 29. One pass over the ranges, with
+    /// at most one step for each order of a range: O(n). Does not allocate.
+    ///
+    /// # Source
+    ///
+    /// MOC 2.0, the normal form.
+    pub fn cell_count_by_order(&self) -> [u64; 30]
+        ensures counts { result ≡ counts_by_order (cells_of self.now) }
+        ensures total { sum result ≡ length (cells_of self.now) }
+        ensures bounded { sum result < uniq_end }
+    {
+        let mut counts = [0; ORDER_COUNT];
+        for (from, to) in self.ranges() {
+            add_cells(&mut counts, from, to);
+        }
+        counts
     }
 
     /// Returns an iterator over the cells of the set that are of this order, as half-open ranges (first, end) of their

@@ -13,14 +13,11 @@ use Rattle.moc_script.specs.Private.Input.{lane_lines}
 use Rattle.moc_script.specs.Private.LaneWork.{Performs}
 use Rattle.moc_script.specs.Private.LaneEnds.{Precedes, IsLaneEnd, failure_line}
 use Rattle.moc_text.specs.Lines.{lines_of}
-use Rattle.moc_script.specs.Crews.{IsNonblankLine}
-use Rattle.moc_lines.specs.declared.run_error.RunError.TheVariants as run
-use Rattle.moc_script.specs.declared.crew_error.CrewError.{CrewError}
-use Rattle.moc_script.specs.declared.crew_error.CrewError.TheVariants as crew
+use Rattle.moc_script.specs.Crews.{IsFailedLine}
+use Rattle.moc_lines.specs.declared.run_error.RunError.{RunError}
+use Rattle.moc_lines.specs.declared.run_error.RunError.TheVariants.{Memory, Spawn}
 use Rattle.moc_script.specs.declared.crews.lane.LaneOutput.{LaneOutput}
 use Rattle.moc_script.specs.declared.crews.lane.LaneFailure.{LaneFailure}
-use Rattle.moc_script.specs.declared.crews.threads.LanesError.{LanesError}
-use Rattle.moc_script.specs.declared.crews.threads.LanesError.TheVariants.{Spawn, Memory, MemoryAfterLast}
 
 -- the failure that takes precedence over all others, or that there is none
 abbrev pub IsFirstFailure : List (Result LaneOutput LaneFailure) → Option LaneFailure → Type 0
@@ -28,24 +25,19 @@ IsFirstFailure ends None = (e : LaneFailure) → ¬ Contains ends (Err e)
 IsFirstFailure ends (Some first) =
     Contains ends (Err first) × ((e : LaneFailure) → Contains ends (Err e) → Precedes first e)
 
--- The error names the least line at which an allocation of a lane failed; if none did, the least at which one stopped;
--- or all lanes have answered their lines.
-abbrev pub NamesFirst : List (Result LaneOutput LaneFailure) → LanesError → Type 0
-NamesFirst ends (Memory line) = (first : LaneFailure) × IsFirstFailure ends (Some first) × (line ≡ failure_line first)
-NamesFirst ends MemoryAfterLast = IsFirstFailure ends None
-NamesFirst ends Spawn = ⊥
+-- The error of lanes with these results names the least line at which an allocation of a lane failed; if none did, the
+-- least at which one stopped; or, if all lanes have answered their lines, the line after the last.
+abbrev pub NamesFirst : List ℕ → List (Result LaneOutput LaneFailure) → RunError → Type 0
+NamesFirst input ends (Memory line) =
+    ((first : LaneFailure) × IsFirstFailure ends (Some first) × (line ≡ failure_line first))
+    ⊎ (IsFirstFailure ends None × (line ≡ length (lines_of input) + 1))
+NamesFirst input ends _ = ⊥
 
--- if the error names a line, it is 0, or one of the script that is not blank
-abbrev pub NamesLine : List ℕ → LanesError → Type 0
-NamesLine input (Memory line) = (line ≡ 0) ⊎ IsNonblankLine line (lines_of input)
-NamesLine input MemoryAfterLast = Unit {0}
-NamesLine input Spawn = Unit {0}
-
--- the error of a crew which has read this input, from the error of its lanes
-abbrev pub error_of_lanes : List ℕ → LanesError → CrewError
-error_of_lanes input (Memory line) = crew.Run (run.Memory line)
-error_of_lanes input MemoryAfterLast = crew.Run (run.Memory (length (lines_of input) + 1))
-error_of_lanes input Spawn = crew.Spawn
+-- an error that a crew may have after it has read this input, and before it writes
+abbrev pub IsLanesError : List ℕ → RunError → Type 0
+IsLanesError input (Memory line) = IsFailedLine line (lines_of input)
+IsLanesError input Spawn = Unit {0}
+IsLanesError input _ = ⊥
 
 -- each of the lanes has answered its lines of a script
 abbrev pub AreLaneOutputs : SharedMap → ℕ → List ℕ → List LaneOutput → Type 0

@@ -2,12 +2,12 @@
 use Rattle.std.specs.Prelude.{◌≡◌, ◌<◌, ◌≤◌, ℕ, List, [], ◌∷◌, ◌++◌, length, slice_index_or, Result, Ok, Err}
 use Rattle.moc_parts.specs.declared.command.Command.{Command}
 use Rattle.moc_parts.specs.declared.reply.Reply.{Reply}
+use Rattle.moc_shared.specs.declared.client.Client.{Client}
 use Rattle.moc_shared.specs.declared.map.SharedMap.{SharedMap}
 use Rattle.moc_shared.specs.Batches.{BatchCall, BatchRecord, batch_answer as object}
 use Rattle.moc_shared.specs.Clients.{number_of, record_of, IsClientOf}
 use Rattle.moc_shared.specs.History.{call_by}
 use Rattle.moc_text.specs.Lines.{lines_of}
-use Rattle.moc_lines.specs.Language.{replies_text}
 use Rattle.moc_script.specs.Crews.{IsNonblankLine}
 use Rattle.moc_lines.specs.Runs.{script_rules}
 use Rattle.moc_script.specs.Private.Input.{lane_lines}
@@ -26,17 +26,11 @@ IsLineAnswer client line old new text =
     (calls : List BatchCall) × MadeByLine object script_rules line calls text
     × ((made : List BatchCall) → HasMade client made old → HasMade client (made ++ calls) new)
 
--- the line made its calls, and its answer is appended to others
-abbrev pub AppendsAnswer : ℕ → List ℕ → BatchRecord → BatchRecord → List ℕ → List ℕ → Type 0
-AppendsAnswer client line old new before after =
-    (text : List ℕ) × (after ≡ before ++ text) × IsLineAnswer client line old new text
-
--- the commands made one call of the client, after the former ones, and its answer is appended to others
-abbrev pub AppendsReplies : ℕ → List Command → BatchRecord → BatchRecord → List ℕ → List ℕ → Type 0
-AppendsReplies client commands old new before after =
-    (replies : List Reply) × (after ≡ before ++ (replies_text replies ++ 10 ∷ []))
-    × ((made : List BatchCall) → HasMade client made old
-    → HasMade client (made ++ call_by client commands replies ∷ []) new)
+-- the client, which keeps its number, made one call with these commands and replies, after the former calls
+pub record MakesCall (commands : List Command) (replies : List Reply) (old new : Client) : Type 0 where
+  pub number : number_of new ≡ number_of old
+  pub made : (made : List BatchCall) → HasMade (number_of old) made (record_of old)
+      → HasMade (number_of old) (made ++ call_by (number_of old) commands replies ∷ []) (record_of new)
 
 -- the line at which an allocation of a lane failed, or the lane stopped
 abbrev pub failure_line : LaneFailure → ℕ

@@ -7,7 +7,7 @@ ghost use Rattle.moc_script.specs.Private.Gathering.{AreLaneOutputs, HasBoth, Ha
 
 use crate::crews::lane::{Job, LaneFailure, LaneOutput, LaneResult};
 use crate::crews::texts::Texts;
-use crate::crews::threads::LanesError;
+use moc_lines::{RunError, line_after_last};
 use moc_ranges::Memory;
 use moc_shared::{Client, SharedMap};
 use std::alloc::Global;
@@ -36,26 +36,29 @@ fn first_failure(ends: &[LaneResult]) -> Option<LaneFailure>
     first
 }
 
-/// Returns the results of all lanes. If a lane failed, fails with the least line at which an allocation failed, or else
+/// Returns the outputs of all lanes. If a lane failed, fails with the least line at which an allocation failed, or else
 /// the least at which a lane stopped.
 pub(crate) fn all_outputs(
     alloc: Global,
+    input: &[u8],
     ends: Vec<LaneResult>,
-) -> Result<Vec<LaneOutput>, LanesError>
-    ensures done { IfOk result (λ done. (map : SharedMap) (lanes : ℕ) (input : List ℕ)
-        → AreLaneEnds map lanes input ends.items → AreLaneOutputs map lanes input done.items) }
-    ensures first { IfErr result (λ e. NamesFirst ends.items e) }
+) -> Result<Vec<LaneOutput>, RunError>
+    ensures done { IfOk result (λ done. (map : SharedMap) (lanes : ℕ) (script : List ℕ)
+        → AreLaneEnds map lanes script ends.items → AreLaneOutputs map lanes script done.items) }
+    ensures first { IfErr result (λ e. NamesFirst input.now ends.items e) }
 {
     if let Some(unfinished) = first_failure(&ends) {
         let line = unfinished.line();
-        return Err(LanesError::Memory { line });
+        return Err(RunError::Memory { line });
     }
     let mut done = Vec::new(alloc);
     for end in ends {
         // No lane failed.
         let Ok(end) = end else { unreachable!() };
         let Ok(()) = done.push(end) else {
-            return Err(LanesError::MemoryAfterLast);
+            return Err(RunError::Memory {
+                line: line_after_last(input),
+            });
         };
     }
     Ok(done)

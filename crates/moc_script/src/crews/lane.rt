@@ -1,19 +1,17 @@
 //! One lane of a crew: a thread with its own client.
-ghost use Rattle.std.specs.Prelude.{◌≡◌, ◌<◌, ◌∷◌, [], false, true, OnOk};
+ghost use Rattle.std.specs.Prelude.{◌≡◌, ◌<◌, [], false, true};
 ghost use Rattle.moc_shared.specs.Clients.{IsClientOf, number_of, record_of};
-ghost use Rattle.moc_lines.specs.Language.{is_blank_text};
-ghost use Rattle.moc_script.specs.Private.LaneEnds.{HasMade, AppendsAnswer, AppendsReplies};
+ghost use Rattle.moc_script.specs.Private.LaneEnds.{HasMade, MakesCall};
 ghost use Rattle.moc_script.specs.Private.LaneEnds.{Precedes, IsLaneEnd, failure_line};
 
 use crate::crews::gate::Gate;
 use crate::crews::lines::LaneLines;
 use crate::crews::texts::Texts;
-use moc_lines::{Commands, ReadError, push_error, push_reply_line, read_commands};
-use moc_parts::{Batch, Command};
+use moc_lines::{Executor, answer_commands};
+use moc_parts::{Batch, Command, Replies, Reply};
 use moc_ranges::Memory;
 use moc_shared::{Client, SharedMap};
 use std::alloc::Global;
-use std::slice;
 use std::sync::Wait;
 use std::sync::atomic::{AtomicBool, Ordering};
 
@@ -69,69 +67,27 @@ impl LaneFailure {
     }
 }
 
-/// Processes a line that is not blank, and appends its answer.
-fn answer_line<R: Wait>(
-    rt: &R,
-    alloc: Global,
-    map: &SharedMap,
-    client: &mut Client,
-    line: &[u8],
-    answers: &mut Vec<u8>,
-) -> Result<(), Memory>
-    requires map { IsClientOf map.now client.old }
-    requires nonblank { is_blank_text line.now ≡ false }
-    ensures map { IsClientOf map.now client.new }
-    ensures number { number_of client.new ≡ number_of client.old }
-    ensures answers { OnOk result
-        (AppendsAnswer (number_of client.old) line.now (record_of client.old) (record_of client.new)
-        answers.old.items answers.new.items) }
-{
-    match read_commands(alloc, line) {
-        Ok(Commands::One(command)) => answer_command(rt, alloc, map, client, command, answers),
-        Ok(Commands::Several(batch)) => answer_batch(rt, alloc, map, client, &batch, answers),
-        Err(ReadError::Fault(fault)) => push_error(fault.name(), answers),
-        Err(ReadError::Memory) => Err(Memory),
+/// A client of the map of a crew.
+#[derive(Drop)]
+struct LaneClient<'a, R> {
+    rt: &'a R,
+    map: &'a SharedMap,
+    client: Client,
+}
+
+impl<'a, R: Wait> Executor for LaneClient<'a, R> {
+    ghost ready = { λ c. IsClientOf c.map.now c.client };
+
+    ghost executes = { λ old commands replies new. (new.map.now ≡ old.map.now)
+        × MakesCall commands replies old.client new.client };
+
+    fn execute(&mut self, _alloc: Global, command: Command) -> Result<Reply, Memory> {
+        self.map.answer(self.rt, &mut self.client, command)
     }
-}
 
-/// Applies a batch, and appends its answer.
-fn answer_batch<R: Wait>(
-    rt: &R,
-    alloc: Global,
-    map: &SharedMap,
-    client: &mut Client,
-    batch: &Batch,
-    answers: &mut Vec<u8>,
-) -> Result<(), Memory>
-    requires map { IsClientOf map.now client.old }
-    ensures map { IsClientOf map.now client.new }
-    ensures number { number_of client.new ≡ number_of client.old }
-    ensures answers { OnOk result
-        (AppendsReplies (number_of client.old) batch.now (record_of client.old) (record_of client.new)
-        answers.old.items answers.new.items) }
-{
-    let replies = map.apply(rt, client, batch)?;
-    push_reply_line(alloc, replies.as_slice(), answers)
-}
-
-/// Applies one command, and appends its answer. Equivalent to a batch of one command, without allocating a list.
-fn answer_command<R: Wait>(
-    rt: &R,
-    alloc: Global,
-    map: &SharedMap,
-    client: &mut Client,
-    command: Command,
-    answers: &mut Vec<u8>,
-) -> Result<(), Memory>
-    requires map { IsClientOf map.now client.old }
-    ensures map { IsClientOf map.now client.new }
-    ensures number { number_of client.new ≡ number_of client.old }
-    ensures answers { OnOk result
-        (AppendsReplies (number_of client.old) (command ∷ []) (record_of client.old) (record_of client.new)
-        answers.old.items answers.new.items) }
-{
-    let reply = map.answer(rt, client, command)?;
-    push_reply_line(alloc, slice::from_ref(&reply), answers)
+    fn execute_batch(&mut self, _alloc: Global, batch: &Batch) -> Result<Replies, Memory> {
+        self.map.apply(self.rt, &mut self.client, batch)
+    }
 }
 
 /// Signals the other lanes to stop, and returns the failure of a lane whose allocation failed at this line.
@@ -156,8 +112,12 @@ pub(crate) fn answer_lines<R: Wait, G: Gate>(
     requires fresh { HasMade (number_of client) [] (record_of client) }
     ensures { IsLaneEnd job.entry.map.now job.entry.lanes job.entry.input.now (number_of client) result }
 {
-    let mut client = client;
     let lane = client.number();
+    let mut lane_client = LaneClient {
+        rt,
+        map: job.map,
+        client,
+    };
     let mut left = LaneLines::new(job.input, job.lanes, lane);
     let mut lens = Vec::new(alloc);
     let mut bytes = Vec::new(alloc);
@@ -167,7 +127,7 @@ pub(crate) fn answer_lines<R: Wait, G: Gate>(
         }
         gate.pass(lane, number);
         let before = bytes.len();
-        let Ok(()) = answer_line(rt, alloc, job.map, &mut client, line, &mut bytes) else {
+        let Ok(()) = answer_commands(&mut lane_client, alloc, line, &mut bytes) else {
             return Err(fail_lane(stop, number));
         };
         let Ok(()) = lens.push(bytes.len() - before) else {
@@ -176,5 +136,6 @@ pub(crate) fn answer_lines<R: Wait, G: Gate>(
         gate.done(lane, number);
     }
     let answers = Texts::new(lens, bytes);
+    let client = lane_client.client;
     Ok(LaneOutput { client, answers })
 }

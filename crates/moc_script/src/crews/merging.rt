@@ -1,43 +1,14 @@
 //! Writes the answers of the lanes in the order of the lines.
-ghost use Rattle.std.specs.Prelude.{◌≡◌, ◌≢◌, ◌<◌, ◌≤◌, ◌+◌, ◌++◌, ◌↔◌, [], Err, false, is_err, length, IfOk, IsErrOf};
+ghost use Rattle.std.specs.Prelude.{◌≡◌, ◌<◌, ◌≤◌, ◌+◌, ◌++◌, ◌↔◌, [], false, is_err, length, IfOk, IsErrOf};
 ghost use Rattle.std.specs.Prelude.{IsTrue, vec_len, vec_capacity};
-ghost use Rattle.moc_devices.specs.Devices.{AcceptsNone};
 ghost use Rattle.moc_devices.specs.Devices.{FlushesNothing, OnlyWrites, Sends};
-ghost use Rattle.moc_script.specs.Private.Joining.{MergesTo, SendsTurns};
-ghost use Rattle.moc_script.specs.declared.crews.merging.MergeError.TheVariants as join;
+ghost use Rattle.moc_script.specs.Private.Joining.{EndsMerging, MergesTo, SendsTurns};
 
 use crate::crews::texts::{Texts, Walk};
-use moc_devices::{DeviceFault, Sink, write_all};
+use moc_devices::{BUFFER_SIZE, DeviceFault, Sink, write_all, write_pending};
+use moc_lines::{RunError, line_after_last};
 use moc_ranges::Memory;
 use std::alloc::Global;
-
-/// Why the answers were not all written.
-#[derive(Clone, Copy)]
-pub(crate) enum MergeError {
-    /// An allocation failed, and nothing is written.
-    Memory,
-    /// Writing failed.
-    Write,
-}
-
-impl From<Memory> for MergeError {
-    ghost from_gives = { λ _ e. e ≡ join.Memory };
-
-    fn from(_memory: Memory) -> MergeError {
-        MergeError::Memory
-    }
-}
-
-impl From<DeviceFault> for MergeError {
-    ghost from_gives = { λ _ e. e ≡ join.Write };
-
-    fn from(_fault: DeviceFault) -> MergeError {
-        MergeError::Write
-    }
-}
-
-/// The number of bytes of answers that are buffered before they are written.
-const BUFFER_SIZE: usize = 65_536;
 
 /// The answers of the lanes that are still to come, and those that are merged and not written yet.
 #[derive(Drop)]
@@ -106,8 +77,7 @@ fn send<W: Sink>(text: &[u8], pending: &mut Vec<u8>, writer: &mut W) -> Result<(
         append_pending(text, pending);
         return Ok(());
     }
-    write_all(pending, writer)?;
-    pending.clear();
+    write_pending(pending, writer)?;
     if text.len() > pending.capacity() {
         return write_all(text, writer);
     }
@@ -127,26 +97,37 @@ fn append_pending(text: &[u8], pending: &mut Vec<u8>)
 }
 
 /// Writes the answers in the order of the lines, one of each lane in turn, and the text after them. The answers of a
-/// single lane are already in this order. All allocations happen before the first byte is written.
+/// single lane are already in this order. All allocations happen before the first byte is written; if one fails, it
+/// failed after the last line of the input.
 pub(crate) fn write_merged<W: Sink>(
     alloc: Global,
+    input: &[u8],
     answers: &[Texts],
     following: &[u8],
     writer: &mut W,
-) -> Result<(), MergeError>
+) -> Result<(), RunError>
     requires some { 0 < length answers.now }
     requires writer { W.mark writer.old ≡ false }
-    ensures sends { result ≢ Err MergeError.Memory
-        → MergesTo answers.now following.now (W.writing writer.old) (W.writing writer.new) result }
-    ensures no_output { result ≡ Err MergeError.Memory → AcceptsNone (W.writing writer.old) (W.writing writer.new) }
-    ensures write { IsErrOf result MergeError.Write ↔ IsTrue (W.mark writer.new) }
+    ensures merges { EndsMerging input.now answers.now following.now
+        (W.writing writer.old) (W.writing writer.new) result }
+    ensures write { IsErrOf result RunError.Write ↔ IsTrue (W.mark writer.new) }
     ensures unflushed { FlushesNothing W.flushed W.flushes writer.old writer.new }
 {
     if answers.len() == 1 {
-        return Ok(write_both(answers[0].as_bytes(), following, writer)?);
+        return match write_both(answers[0].as_bytes(), following, writer) {
+            Ok(()) => Ok(()),
+            Err(DeviceFault) => Err(RunError::Write),
+        };
     }
-    let joiner = AnswerMerger::new(alloc, answers)?;
-    Ok(joiner.write(following, writer)?)
+    let Ok(merger) = AnswerMerger::new(alloc, answers) else {
+        return Err(RunError::Memory {
+            line: line_after_last(input),
+        });
+    };
+    match merger.write(following, writer) {
+        Ok(()) => Ok(()),
+        Err(DeviceFault) => Err(RunError::Write),
+    }
 }
 
 /// Writes two texts, one after the other.

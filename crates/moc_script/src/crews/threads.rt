@@ -1,16 +1,13 @@
 //! The threads of the lanes.
 ghost use Rattle.std.specs.Prelude.{◌≡◌, IfErr, IfOk};
 ghost use Rattle.moc_shared.specs.Clients.{AreNewClients};
-ghost use Rattle.moc_script.specs.Private.Gathering.{NamesLine, error_of_lanes};
+ghost use Rattle.moc_script.specs.Private.Gathering.{IsLanesError};
 ghost use Rattle.moc_script.specs.Private.LaneEnds.{IsLaneEnd, AreLaneEnds};
 ghost use Rattle.moc_script.specs.Private.Promises.{ArePromised};
-ghost use Rattle.moc_script.specs.declared.crews.threads.LanesError.TheVariants as lanes;
 
-use crate::crew_error::CrewError;
 use crate::crews::gate::Gate;
 use crate::crews::lane::{Job, LaneResult, answer_lines};
-use moc_lines::{RunError, line_after_last};
-use moc_ranges::Memory;
+use moc_lines::RunError;
 use moc_shared::Client;
 use std::alloc::Global;
 use std::marker::{Send, Sync};
@@ -18,41 +15,6 @@ use std::sync::Wait;
 use std::sync::atomic::{AtomicBool, Ordering};
 use std::thread;
 use std::thread::{Promise, PromisedHandle, Scope, Threads};
-
-/// Why the lanes have no answers.
-#[derive(Clone, Copy)]
-pub(crate) enum LanesError {
-    /// A thread could not be started.
-    Spawn,
-    /// An allocation failed at this line.
-    Memory { line: u64 },
-    /// An allocation failed after the last line.
-    MemoryAfterLast,
-}
-
-impl From<Memory> for LanesError {
-    ghost from_gives = { λ _ e. e ≡ lanes.MemoryAfterLast };
-
-    fn from(_memory: Memory) -> LanesError {
-        LanesError::MemoryAfterLast
-    }
-}
-
-impl LanesError {
-    /// Converts the error of the lanes into that of a crew which has read this input.
-    pub(crate) fn into_crew_error(self, input: &[u8]) -> CrewError
-        ensures { result ≡ error_of_lanes input.now self }
-    {
-        match self {
-            LanesError::Spawn => CrewError::Spawn,
-            LanesError::Memory { line } => RunError::Memory { line }.into(),
-            LanesError::MemoryAfterLast => {
-                let line = line_after_last(input);
-                RunError::Memory { line }.into()
-            }
-        }
-    }
-}
 
 /// The work of one lane: its lines of the job.
 #[derive(Clone, Copy)]
@@ -75,16 +37,16 @@ fn start<'s, E, R: Wait + Sync, G: Gate + Sync>(
     job: Job<'s>,
     clients: Vec<Client>,
     stop: &'s AtomicBool,
-) -> Result<Vec<PromisedHandle<LaneResult, Work<'s>>>, LanesError>
+) -> Result<Vec<PromisedHandle<LaneResult, Work<'s>>>, RunError>
     requires clients { AreNewClients job.map.now clients.items job.lanes }
     ensures promised { IfOk result (λ handles.
         ArePromised job.entry.map.now job.entry.lanes job.entry.input.now handles.items) }
-    ensures line { IfErr result (λ e. NamesLine job.entry.input.now e) }
+    ensures line { IfErr result (λ e. IsLanesError job.entry.input.now e) }
 {
     // The closures of the threads capture the fields of the job: closures that captured the job itself were not proved.
     let Job { map, input, lanes } = job;
     let Ok(mut handles) = Vec::with_capacity(alloc, usize::from(lanes)) else {
-        return Err(LanesError::Memory { line: 0 });
+        return Err(RunError::Memory { line: 0 });
     };
     for client in clients {
         let lane = client.number();
@@ -94,7 +56,7 @@ fn start<'s, E, R: Wait + Sync, G: Gate + Sync>(
             answer_lines(rt, alloc, gate, job, client, stop)
         }) else {
             stop.store(true, Ordering::SeqCst);
-            return Err(LanesError::Spawn);
+            return Err(RunError::Spawn);
         };
         handles.push_reserved(handle);
     }
@@ -108,14 +70,14 @@ fn run_single_lane<R: Wait, G: Gate>(
     gate: &G,
     job: Job<'_>,
     clients: Vec<Client>,
-) -> Result<Vec<LaneResult>, LanesError>
+) -> Result<Vec<LaneResult>, RunError>
     requires alone { job.lanes ≡ 1 }
     requires clients { AreNewClients job.map.now clients.items job.lanes }
     ensures ends { IfOk result (λ ends. AreLaneEnds job.entry.map.now job.entry.lanes job.entry.input.now ends.items) }
-    ensures line { IfErr result (λ e. NamesLine job.entry.input.now e) }
+    ensures line { IfErr result (λ e. IsLanesError job.entry.input.now e) }
 {
     let Ok(mut ends) = Vec::with_capacity(alloc, 1) else {
-        return Err(LanesError::Memory { line: 0 });
+        return Err(RunError::Memory { line: 0 });
     };
     let mut clients = clients;
     // One lane has one client.
@@ -135,10 +97,10 @@ pub(crate) fn run_lanes<R: Threads + Wait + Sync, G: Gate + Sync>(
     gate: &G,
     job: Job<'_>,
     clients: Vec<Client>,
-) -> Result<Vec<LaneResult>, LanesError>
+) -> Result<Vec<LaneResult>, RunError>
     requires clients { AreNewClients job.map.now clients.items job.lanes }
     ensures ends { IfOk result (λ ends. AreLaneEnds job.entry.map.now job.entry.lanes job.entry.input.now ends.items) }
-    ensures line { IfErr result (λ e. NamesLine job.entry.input.now e) }
+    ensures line { IfErr result (λ e. IsLanesError job.entry.input.now e) }
 {
     if job.lanes == 1 {
         return run_single_lane(rt, alloc, gate, job, clients);
@@ -148,10 +110,10 @@ pub(crate) fn run_lanes<R: Threads + Wait + Sync, G: Gate + Sync>(
     thread::scope(
         thread::scope_env(),
         rt,
-        |scope| -> Result<Vec<LaneResult>, LanesError>
+        |scope| -> Result<Vec<LaneResult>, RunError>
             requires { AreNewClients map.now clients.items lanes }
             ensures ends { IfOk result (λ ends. AreLaneEnds map.entry.now lanes input.entry.now ends.items) }
-            ensures line { IfErr result (λ e. NamesLine input.entry.now e) }
+            ensures line { IfErr result (λ e. IsLanesError input.entry.now e) }
         {
             let job = Job { map, input, lanes };
             let handles = start(rt, alloc, gate, scope, job, clients, &stop)?;
@@ -159,7 +121,7 @@ pub(crate) fn run_lanes<R: Threads + Wait + Sync, G: Gate + Sync>(
                 Ok(ends) => Ok(ends),
                 Err(_) => {
                     stop.store(true, Ordering::SeqCst);
-                    Err(LanesError::Memory { line: 0 })
+                    Err(RunError::Memory { line: 0 })
                 }
             }
         },

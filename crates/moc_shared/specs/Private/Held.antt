@@ -1,11 +1,9 @@
 -- The state of a client that holds parts while it executes a batch or a command.
-use Rattle.std.specs.Prelude.{◌≡◌, ℕ, nat_eq, List, [], ◌∷◌, Option, Some, Result, IfOk, OnErr}
+use Rattle.std.specs.Prelude.{◌≡◌, ℕ, List, [], ◌∷◌, Option, Some, Result, IfOk, OnErr}
 use Rattle.atomic_table.specs.Table.{Me}
 use Rattle.moc_lists.specs.RangeList.{NumberSet}
 use Rattle.moc_ranges.specs.declared.errors.Memory.{Memory}
-use Rattle.moc_parts.specs.Commands.{footprint, operand_set, IsCommand}
 use Rattle.moc_parts.specs.declared.command.Command.{Command}
-use Rattle.moc_parts.specs.declared.command.Command.TheVariants.{Add, Count}
 use Rattle.moc_parts.specs.declared.reply.Reply.{Reply}
 use Rattle.moc_shared.specs.Seats.{note, Pointer, ClientView}
 use Rattle.moc_shared.specs.Private.Invariant.{IsSingleClient}
@@ -34,18 +32,6 @@ pub record IsExecuted (cs : List Command) (failed : ClientView → ClientView �
   pub idle : new.1 ≡ []
   pub ok : IfOk result (λ r. BatchTakesEffect cs r [] old.0 new.0)
   pub err : OnErr result (failed old.0 new.0)
-
--- an `Add` or a `Count` of a set that is not degraded
-abbrev pub IsPlain : Command → Type 0
-IsPlain (Add x) = operand_set x ≡ x.set
-IsPlain (Count x) = operand_set x ≡ x.set
-IsPlain _ = ⊥
-
--- a valid `Add` or `Count` of a set that is not degraded, and whose footprint is exactly this part
-pub record NeedsOnly (c : Command) (b : ℕ) : Type 0 where
-  pub met : (k : ℕ) → footprint c k ≡ nat_eq b k
-  pub plain : IsPlain c
-  pub valid : IsCommand c
 
 -- a client holds exactly this part, whose content was this set
 pub record HoldsOnly (b : ℕ) (previous : NumberSet) (me : Me (Option Pointer) ClientView) : Type 0 where

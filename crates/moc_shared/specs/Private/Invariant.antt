@@ -80,22 +80,22 @@ module _ {S X O R Y : Type 0} (n : ℕ) (content : S → Y) (part : ℕ → X �
     pub log : List (Call O R)
     pub legal : IsLegal answer start log
     -- some record has seen all of it
-    pub shown : (r : Record O R) × IsPresent s.views r × (r.seen ≡ log)
+    pub seen_by_some : (r : Record O R) × IsPresent s.views r × (r.seen ≡ log)
     -- the set after it is valid for the object
-    pub whole : valid (state_after answer start log)
-    pub named : (e : Call O R) → Contains log e → e.client < clients
-    pub wide : length s.words ≡ table_index n
-    pub deep : length s.homes ≡ table_index n
+    pub set_is_valid : valid (state_after answer start log)
+    pub clients_are_known : (e : Call O R) → Contains log e → e.client < clients
+    pub word_count : length s.words ≡ table_index n
+    pub slot_count : length s.homes ≡ table_index n
     -- the words between those of the parts are 0, so that none of them is a lock
     pub spare : (k : ℕ) → IsSpare k → slice_index s.words k ≡ 0
     pub each_part : (b : ℕ) → b < n
         → IsFree content part (state_after answer start log) s.words s.homes b ⊎ SomeHolds s.views b
     pub each_view : (i : ℕ) (v : View X O R Y) → get_elem? s.views i ≡ some v → IsConsistentView log s.words s.homes v
     -- each miss is a mark of the record that stands for the holder
-    pub missed : (r q : Record O R) → IsPresent s.views r → IsPresent s.views q
+    pub misses_are_marks : (r q : Record O R) → IsPresent s.views r → IsPresent s.views q
         → (h b : ℕ) → Contains r.misses (h, b) → StandsFor q h → Contains q.marks (h, b)
     -- different records stand for different clients
-    pub alone : (c : ℕ) → times_in_views c s.views ≤ 1
+    pub clients_are_distinct : (c : ℕ) → times_in_views c s.views ≤ 1
 
 -- the parts of these notes
 abbrev pub parts_of_notes : {Y : Type 0} → List (Note Y) → List ℕ

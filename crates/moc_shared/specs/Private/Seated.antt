@@ -22,8 +22,8 @@ pub record IsHoldingOf (map : SharedMap) (h : Holding) : Type 0 where
   pub one : IsSingleClient h.client.seat.me.0
   pub number : h.client.number ≡ h.client.seat.me.0.mine.number
   pub carried : IsCarried h.client.seat.me
-  pub held : h.client.seat.me.0.holds ≡ notes_below h.previous 12
-  pub footprint : IsFootprint h.batch h.previous
-  pub own : AreWithinOwnParts h.previous
+  pub held : h.client.seat.me.0.holds ≡ notes_below h.slots 12
+  pub footprint : IsFootprint h.batch h.slots
+  pub own : AreWithinOwnParts h.slots
   pub start : h.client.seat.me.0.start ≡ map.table.shared.key.start
   pub clients : h.client.seat.me.0.clients ≡ map.table.shared.key.clients

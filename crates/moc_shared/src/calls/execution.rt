@@ -21,25 +21,25 @@ fn update(
     alloc: Global,
     seat: &mut SeatToken,
     batch: &Batch,
-    previous: &mut Slots,
+    slots: &mut Slots,
 ) -> Result<Replies, Memory>
     requires place { IsOfTable seat.old.table_id table.now.table_id }
-    requires held { HoldsFootprint batch.now previous.old seat.old.me }
+    requires held { HoldsFootprint batch.now slots.old seat.old.me }
     ensures same { (seat.new.table_id ≡ seat.old.table_id) × (seat.new.id ≡ seat.old.id) }
     ensures executed { IsExecuted batch.now (λ v w. w ≡ with_holds v []) seat.old.me seat.new.me result }
 {
     let mut edited = no_slots();
-    match edit(alloc, batch, previous, &mut edited) {
+    match edit(alloc, batch, slots, &mut edited) {
         Ok(replies) => {
             // The two calls only make their contracts available to the proof: a batch has a command, and its footprint
             // is not empty.
             batch.commands();
             batches_are_local();
-            end_all(table, seat, batch, previous, &mut edited);
+            end_all(table, seat, batch, slots, &mut edited);
             Ok(replies)
         }
         Err(memory) => {
-            give_all(table, seat, previous);
+            give_all(table, seat, slots);
             Err(memory)
         }
     }
@@ -52,11 +52,11 @@ pub(crate) fn observe(
     table: &LockTable,
     seat: &mut SeatToken,
     batch: &Batch,
-    previous: &mut Slots,
+    slots: &mut Slots,
     copies: &mut Slots,
 ) -> Result<(), Memory>
     requires place { IsOfTable seat.old.table_id table.now.table_id }
-    requires held { HoldsFootprint batch.now previous.old seat.old.me }
+    requires held { HoldsFootprint batch.now slots.old seat.old.me }
     requires query { list_any is_update batch.now ≡ false }
     requires empty_slots { (b : ℕ) → slot_at copies.old b ≡ None }
     ensures same { (seat.new.table_id ≡ seat.old.table_id) × (seat.new.id ≡ seat.old.id) }
@@ -66,17 +66,17 @@ pub(crate) fn observe(
     ensures own { OnOk result (AreWithinOwnParts copies.new) }
     ensures err { OnErr result (seat.new.me.0 ≡ with_holds seat.old.me.0 []) }
 {
-    match copy_all(previous, copies) {
+    match copy_all(slots, copies) {
         Ok(()) => {
             // The two calls only make their contracts available to the proof: the commands are valid, and a query has
             // the same replies on all sets with these parts.
             batch.commands();
             batches_are_local();
-            end_all(table, seat, batch, copies, previous);
+            end_all(table, seat, batch, copies, slots);
             Ok(())
         }
         Err(memory) => {
-            give_all(table, seat, previous);
+            give_all(table, seat, slots);
             Err(memory)
         }
     }
@@ -88,16 +88,16 @@ fn query(
     alloc: Global,
     seat: &mut SeatToken,
     batch: &Batch,
-    previous: &mut Slots,
+    slots: &mut Slots,
 ) -> Result<Replies, Memory>
     requires place { IsOfTable seat.old.table_id table.now.table_id }
-    requires held { HoldsFootprint batch.now previous.old seat.old.me }
+    requires held { HoldsFootprint batch.now slots.old seat.old.me }
     requires query { list_any is_update batch.now ≡ false }
     ensures same { (seat.new.table_id ≡ seat.old.table_id) × (seat.new.id ≡ seat.old.id) }
     ensures executed { IsExecuted batch.now (BatchFailsOutOfMemory batch.now) seat.old.me seat.new.me result }
 {
     let mut copies = no_slots();
-    observe(table, seat, batch, previous, &mut copies)?;
+    observe(table, seat, batch, slots, &mut copies)?;
     answer(alloc, batch, &copies)
 }
 
@@ -107,16 +107,16 @@ pub(crate) fn execute_held(
     alloc: Global,
     seat: &mut SeatToken,
     batch: &Batch,
-    previous: &mut Slots,
+    slots: &mut Slots,
 ) -> Result<Replies, Memory>
     requires place { IsOfTable seat.old.table_id table.now.table_id }
-    requires held { HoldsFootprint batch.now previous.old seat.old.me }
+    requires held { HoldsFootprint batch.now slots.old seat.old.me }
     ensures same { (seat.new.table_id ≡ seat.old.table_id) × (seat.new.id ≡ seat.old.id) }
     ensures executed { IsExecuted batch.now (BatchFailsOutOfMemory batch.now) seat.old.me seat.new.me result }
 {
     if batch.is_update() {
-        update(table, alloc, seat, batch, previous)
+        update(table, alloc, seat, batch, slots)
     } else {
-        query(table, alloc, seat, batch, previous)
+        query(table, alloc, seat, batch, slots)
     }
 }

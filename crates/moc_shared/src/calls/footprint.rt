@@ -56,22 +56,22 @@ pub(crate) fn take_all(
     requires idle { (seat.old.me.0.holds ≡ []) × (seat.old.me.1 ≡ []) }
     ensures same { (seat.new.table_id ≡ seat.old.table_id) × (seat.new.id ≡ seat.old.id) }
     ensures ok { IfOk result
-        (λ previous. (seat.new.me.0 ≡ with_parts seat.old.me.0 (notes_below previous 12)) × IsCarried seat.new.me
-        × IsFootprint batch.now previous × AreWithinOwnParts previous) }
+        (λ slots. (seat.new.me.0 ≡ with_parts seat.old.me.0 (notes_below slots 12)) × IsCarried seat.new.me
+        × IsFootprint batch.now slots × AreWithinOwnParts slots) }
     ensures err { IfErr result
         (λ busy. (seat.new.me.1 ≡ []) × MissesTaking batch.now busy.part busy.holder seat.old.me.0 seat.new.me.0) }
 {
-    let mut previous = no_slots();
+    let mut slots = no_slots();
     for part in batch.footprint(alloc) {
         match take_slot(table, seat, part, mark) {
-            Ok(pointer) => put_at(&mut previous, part, pointer),
+            Ok(pointer) => put_at(&mut slots, part, pointer),
             Err(holder) => {
-                give_all(table, seat, &mut previous);
+                give_all(table, seat, &mut slots);
                 return Err(Busy { part, holder });
             }
         }
     }
-    Ok(previous)
+    Ok(slots)
 }
 
 /// Completes a batch: gives back all parts with their new contents. The replies are those to the contents that were
@@ -80,16 +80,16 @@ pub(crate) fn end_all(
     table: &LockTable,
     seat: &mut SeatToken,
     batch: &Batch,
-    previous: &Slots,
+    slots: &Slots,
     edited: &mut Slots,
 )
     requires place { IsOfTable seat.old.table_id table.now.table_id }
-    requires held { HoldsAll previous.now seat.old.me }
-    requires some { (b : ℕ) × (b < 12) × (is_some (slot_at previous.now b) ≡ true) }
-    requires edited { Edits batch.now previous.now edited.old }
+    requires held { HoldsAll slots.now seat.old.me }
+    requires some { (b : ℕ) × (b < 12) × (is_some (slot_at slots.now b) ≡ true) }
+    requires edited { Edits batch.now slots.now edited.old }
     ensures same { (seat.new.table_id ≡ seat.old.table_id) × (seat.new.id ≡ seat.old.id) }
     ensures ended { (seat.new.me.1 ≡ [])
-        × BatchTakesEffect batch.now (replies_to previous.now batch.now) [] seat.old.me.0 seat.new.me.0 }
+        × BatchTakesEffect batch.now (replies_to slots.now batch.now) [] seat.old.me.0 seat.new.me.0 }
 {
     // A footprint is not empty; therefore a highest part with a pointer exists.
     let Some(part) = highest(edited) else {
@@ -98,6 +98,6 @@ pub(crate) fn end_all(
     let Some(pointer) = take_at(edited, part) else {
         unreachable!()
     };
-    end_call::<Brand>(table, seat, part, pointer, batch, previous, edited);
+    end_call::<Brand>(table, seat, part, pointer, batch, slots, edited);
     give_below(table, seat, part.get(), edited);
 }

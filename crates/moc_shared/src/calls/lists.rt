@@ -15,11 +15,11 @@ use std::sync::Arc;
 
 /// Returns a pointer to the list. If the list has the same pixels as the old one, clones the old pointer and drops the
 /// list.
-fn share_changed(alloc: Global, previous: &Pointer, list: Coverage) -> Result<Pointer, Memory>
+fn share_changed(alloc: Global, current: &Pointer, list: Coverage) -> Result<Pointer, Memory>
     ensures { IfOk result (λ p. arc_value p ≡ list) }
 {
-    if previous.same(&list) {
-        Ok(Arc::try_clone(previous)?)
+    if current.same(&list) {
+        Ok(Arc::try_clone(current)?)
     } else {
         share(alloc, list)
     }
@@ -29,17 +29,17 @@ fn share_changed(alloc: Global, previous: &Pointer, list: Coverage) -> Result<Po
 /// unchanged.
 fn share_all(
     alloc: Global,
-    previous: &Slots,
+    slots: &Slots,
     changes: &mut Prepared,
     edited: &mut Slots,
 ) -> Result<(), Memory>
     requires { (b : ℕ) → slot_at edited.old b ≡ None }
     ensures replies { changes.new.replies ≡ changes.old.replies }
     ensures lists { OnOk result ((b : ℕ) → b < 12 → content (slot_at edited.new b)
-        ≡ changed_content (get_or changes.old.lists b None) (content (slot_at previous.now b))) }
+        ≡ changed_content (get_or changes.old.lists b None) (content (slot_at slots.now b))) }
 {
     for part in Part::ALL {
-        let Some(pointer) = pointer_at(previous, part) else {
+        let Some(pointer) = pointer_at(slots, part) else {
             continue
         };
         let new = match changes.take(part) {
@@ -55,25 +55,25 @@ fn share_all(
 pub(crate) fn edit(
     alloc: Global,
     batch: &Batch,
-    previous: &Slots,
+    slots: &Slots,
     edited: &mut Slots,
 ) -> Result<Replies, Memory>
     requires empty_slots { (b : ℕ) → slot_at edited.old b ≡ None }
-    requires footprint { IsFootprint batch.now previous.now }
-    requires own { AreWithinOwnParts previous.now }
-    ensures replies { IfOk result (λ r. r ≡ replies_to previous.now batch.now) }
-    ensures edited { OnOk result (Edits batch.now previous.now edited.new) }
+    requires footprint { IsFootprint batch.now slots.now }
+    requires own { AreWithinOwnParts slots.now }
+    ensures replies { IfOk result (λ r. r ≡ replies_to slots.now batch.now) }
+    ensures edited { OnOk result (Edits batch.now slots.now edited.new) }
 {
-    let mut changes = prepare_changes(alloc, batch, &lists(previous))?;
-    share_all(alloc, previous, &mut changes, edited)?;
+    let mut changes = prepare_changes(alloc, batch, &lists(slots))?;
+    share_all(alloc, slots, &mut changes, edited)?;
     Ok(changes.into_reply())
 }
 
 /// Returns the replies of a query, computed from the contents of the parts. Fails with `Memory` if an allocation fails.
-pub(crate) fn answer(alloc: Global, batch: &Batch, previous: &Slots) -> Result<Replies, Memory>
+pub(crate) fn answer(alloc: Global, batch: &Batch, slots: &Slots) -> Result<Replies, Memory>
     requires query { list_any is_update batch.now ≡ false }
-    requires own { AreWithinOwnParts previous.now }
-    ensures { IfOk result (λ r. r ≡ replies_to previous.now batch.now) }
+    requires own { AreWithinOwnParts slots.now }
+    ensures { IfOk result (λ r. r ≡ replies_to slots.now batch.now) }
 {
-    reply_of(alloc, batch, &lists(previous))
+    reply_of(alloc, batch, &lists(slots))
 }

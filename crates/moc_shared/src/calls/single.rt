@@ -1,10 +1,9 @@
 //! Executing one command on the single part in its footprint, without a batch.
 ghost use Rattle.std.specs.Prelude.{◌≡◌, [], ◌∷◌, IfOk, IfSome, OnOk, OnErr};
 ghost use Rattle.std.specs.Arc.{arc_value};
-ghost use Rattle.std.specs.FinSet as set;
-ghost use Rattle.moc_parts.specs.Commands.{reply_on, set_after};
+ghost use Rattle.moc_parts.specs.Commands.{reply_on, set_after, IsPlain, NeedsOnly};
 ghost use Rattle.moc_shared.specs.Private.Seats.{IsOfTable};
-ghost use Rattle.moc_shared.specs.Private.Held.{HoldsOnly, NeedsOnly, IsPlain};
+ghost use Rattle.moc_shared.specs.Private.Held.{HoldsOnly};
 ghost use Rattle.moc_shared.specs.Private.StepEffects.{with_holds};
 ghost use Rattle.moc_shared.specs.Private.Slots.{BatchTakesEffect};
 
@@ -12,65 +11,58 @@ use crate::table::locks::{LockTable, Pointer, SeatToken};
 use crate::table::slots::share;
 use crate::table::steps::{end_single, give_part};
 use moc_parts::{Command, Part, Reply, batches_are_local};
-use moc_ranges::{Coverage, Memory};
+use moc_ranges::Memory;
 use std::alloc::Global;
 use std::marker::Brand;
 use std::sync::Arc;
 
-/// Returns the single part of a command that can be executed on this part alone: an `Add` of a set within one part, or
-/// a `Count` of one range within one part. The set must not be degraded.
+/// Returns the single part of a command that is executed on this part alone, without a batch. `Read` and counts of
+/// several ranges are executed as a batch, because their replies are computed after the part is given back.
 pub(crate) fn single_part(command: &Command) -> Option<Part>
     ensures { IfSome result (λ b. NeedsOnly command.now b) }
 {
     match command {
-        Command::Add(x) => x.single_part(),
-        // Longer counts are computed after the part is given back.
-        Command::Count(x) if x.set.range_count() == 1 => x.single_part(),
-        _ => None,
+        Command::Read(_) => None,
+        Command::Count(x) if x.set.range_count() > 1 => None,
+        _ => command.single_part(),
     }
 }
 
-/// Adds a set to the set of a pointer, and returns the number of added pixels. The list is changed in place if the
-/// pointer is its only owner. Otherwise the list is copied, unless it already has all pixels.
-fn insert_shared(alloc: Global, pointer: &mut Pointer, more: &Coverage) -> Result<u64, Memory>
-    ensures set { OnOk result (arc_value pointer.new ≡ set.union (arc_value pointer.old) more.now) }
-    ensures added { IfOk result (λ n. n ≡ set.len (set.difference more.now (arc_value pointer.old))) }
-    ensures unchanged { OnErr result (arc_value pointer.new ≡ arc_value pointer.old) }
-{
-    match Arc::get_mut(pointer) {
-        Some(list) => list.insert_all(alloc, more),
-        None => insert_into_copy(alloc, pointer, more),
-    }
-}
-
-/// Adds a set to a copy of the list, and replaces the pointer, unless the list already has all pixels.
-fn insert_into_copy(alloc: Global, pointer: &mut Pointer, more: &Coverage) -> Result<u64, Memory>
-    ensures set { OnOk result (arc_value pointer.new ≡ set.union (arc_value pointer.old) more.now) }
-    ensures added { IfOk result (λ n. n ≡ set.len (set.difference more.now (arc_value pointer.old))) }
-    ensures unchanged { OnErr result (arc_value pointer.new ≡ arc_value pointer.old) }
-{
-    if pointer.covers(more) {
-        return Ok(0);
-    }
-    let mut list = pointer.try_copy(alloc)?;
-    let added = list.insert_all(alloc, more)?;
-    *pointer = share(alloc, list)?;
-    Ok(added)
-}
-
-/// Executes a command on the set of a pointer.
+/// Executes a command on the set of a pointer. The list is changed in place if the pointer is its only owner.
 fn execute_on(alloc: Global, command: &Command, pointer: &mut Pointer) -> Result<Reply, Memory>
     requires { IsPlain command.now }
     ensures set { OnOk result (arc_value pointer.new ≡ set_after (arc_value pointer.old) command.now) }
     ensures reply { IfOk result (λ r. r ≡ reply_on (arc_value pointer.old) command.now) }
     ensures unchanged { OnErr result (arc_value pointer.new ≡ arc_value pointer.old) }
 {
-    match command {
-        Command::Add(x) => Ok(Reply::Changed(insert_shared(alloc, pointer, &x.set)?)),
-        Command::Count(x) => Ok(Reply::Total(pointer.count_common(&x.set))),
-        // No other command is executed on a single part.
-        _ => unreachable!(),
+    if !command.is_update() {
+        return command.query_on(alloc, pointer);
     }
+    match Arc::get_mut(pointer) {
+        Some(list) => command.execute_on(alloc, list),
+        None => execute_on_copy(alloc, command, pointer),
+    }
+}
+
+/// Executes a command on a copy of the list, and replaces the pointer, unless the list is unchanged. Makes no copy if
+/// the list already has all pixels of an `Add`.
+fn execute_on_copy(alloc: Global, command: &Command, pointer: &mut Pointer) -> Result<Reply, Memory>
+    requires { IsPlain command.now }
+    ensures set { OnOk result (arc_value pointer.new ≡ set_after (arc_value pointer.old) command.now) }
+    ensures reply { IfOk result (λ r. r ≡ reply_on (arc_value pointer.old) command.now) }
+    ensures unchanged { OnErr result (arc_value pointer.new ≡ arc_value pointer.old) }
+{
+    if let Command::Add(x) = command {
+        if pointer.covers(&x.set) {
+            return Ok(Reply::Changed(0));
+        }
+    }
+    let mut list = pointer.try_copy(alloc)?;
+    let reply = command.execute_on(alloc, &mut list)?;
+    if !reply.is_no_change() {
+        *pointer = share(alloc, list)?;
+    }
+    Ok(reply)
 }
 
 /// Executes a command on its held part, and gives the part back. Either the command takes effect, or the map is

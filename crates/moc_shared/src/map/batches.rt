@@ -10,6 +10,7 @@ ghost use Rattle.moc_shared.specs.Clients.{AfterTryApply, AfterLook, AfterSnapsh
 
 use crate::calls::execution::{execute_held, observe};
 use crate::calls::footprint::{give_all, take_all};
+use crate::calls::single::single_part;
 use crate::calls::waiting::wait_for_all;
 use crate::client::{Client, Holding};
 use crate::errors::{Busy, LookError, SnapshotError, TryError};
@@ -30,7 +31,8 @@ impl SharedMap {
     /// returning its replies.
     ///
     /// # Complexity
-    /// As `Map::apply`, and one compare-exchange for each part of the footprint.
+    /// As `Map::apply`, and one compare-exchange for each part of the footprint. One command in one part is executed as
+    /// by `try_answer`, after one allocation for its reply.
     pub fn try_apply(&self, client: &mut Client, batch: &Batch) -> Result<Replies, TryError>
         requires map { IsClientOf self.now client.old }
         ensures map { IsClientOf self.now client.new }
@@ -40,15 +42,20 @@ impl SharedMap {
         ensures err { IfErr result
             (λ e. AfterTryApply self.now batch.now e (record_of client.old) (record_of client.new)) }
     {
+        if let [command] = batch.commands() {
+            if let Some(part) = single_part(command) {
+                return self.try_apply_in_part(client, command, part);
+            }
+        }
         let mark = client.mark();
         let table = &self.table.shared;
         match take_all(table, self.alloc, &mut client.seat, mark, batch) {
-            Ok(mut previous) => match execute_held(
+            Ok(mut slots) => match execute_held(
                 table,
                 self.alloc,
                 &mut client.seat,
                 batch,
-                &mut previous,
+                &mut slots,
             ) {
                 Ok(replies) => Ok(replies),
                 Err(Memory) => Err(TryError::Memory),
@@ -81,10 +88,15 @@ impl SharedMap {
         ensures err { OnErr result
             (FailsOutOfMemoryWaiting self.now batch.now (record_of client.old) (record_of client.new)) }
     {
+        if let [command] = batch.commands() {
+            if let Some(part) = single_part(command) {
+                return self.apply_in_part(rt, client, command, part);
+            }
+        }
         let mark = client.mark();
         let table = &self.table.shared;
-        let mut previous = wait_for_all(rt, table, self.alloc, &mut client.seat, mark, batch);
-        execute_held(table, self.alloc, &mut client.seat, batch, &mut previous)
+        let mut slots = wait_for_all(rt, table, self.alloc, &mut client.seat, mark, batch);
+        execute_held(table, self.alloc, &mut client.seat, batch, &mut slots)
     }
 
     /// Executes a query like `try_apply`, but returns a snapshot from which its replies can be computed later. Does not
@@ -115,15 +127,15 @@ impl SharedMap {
         };
         let mark = client.mark();
         let table = &self.table.shared;
-        let mut previous = match take_all(table, self.alloc, &mut client.seat, mark, &batch) {
-            Ok(previous) => previous,
+        let mut slots = match take_all(table, self.alloc, &mut client.seat, mark, &batch) {
+            Ok(slots) => slots,
             Err(busy) => return Err(LookError::Busy(busy)),
         };
         let mut copies = no_slots();
-        match observe(table, &mut client.seat, &batch, &mut previous, &mut copies) {
+        match observe(table, &mut client.seat, &batch, &mut slots, &mut copies) {
             Ok(()) => Ok(Snapshot {
                 batch,
-                previous: copies,
+                slots: copies,
             }),
             Err(_) => Err(LookError::Memory),
         }
@@ -153,10 +165,10 @@ impl SharedMap {
             mark,
             &batch,
         ) {
-            Ok(previous) => Ok(Holding {
+            Ok(slots) => Ok(Holding {
                 client,
                 batch,
-                previous,
+                slots,
             }),
             Err(busy) => Err((client, batch, busy)),
         }
@@ -184,14 +196,14 @@ impl SharedMap {
         let Holding {
             mut client,
             batch,
-            mut previous,
+            mut slots,
         } = holding;
         let done = execute_held(
             &self.table.shared,
             self.alloc,
             &mut client.seat,
             &batch,
-            &mut previous,
+            &mut slots,
         );
         (client, done)
     }
@@ -207,9 +219,9 @@ impl SharedMap {
         let Holding {
             mut client,
             batch: _,
-            mut previous,
+            mut slots,
         } = holding;
-        give_all(&self.table.shared, &mut client.seat, &mut previous);
+        give_all(&self.table.shared, &mut client.seat, &mut slots);
         client
     }
 
@@ -236,21 +248,21 @@ impl SharedMap {
         let Holding {
             mut client,
             batch,
-            mut previous,
+            mut slots,
         } = holding;
         let mut copies = no_slots();
         match observe(
             &self.table.shared,
             &mut client.seat,
             &batch,
-            &mut previous,
+            &mut slots,
             &mut copies,
         ) {
             Ok(()) => Ok((
                 client,
                 Snapshot {
                     batch,
-                    previous: copies,
+                    slots: copies,
                 },
             )),
             Err(_) => Err(SnapshotError::Memory(client)),

@@ -6,8 +6,8 @@ use crate::client::Client;
 use crate::errors::CloseError;
 use crate::map::SharedMap;
 use crate::map::contents::{first_held, read_all, union_all};
-use crate::table::seats::{join, look, merge_records, split};
-use moc_ranges::Coverage;
+use crate::table::seats::{join, merge_records, read_history, split};
+use moc_ranges::{Coverage, Memory};
 
 impl SharedMap {
     /// Lets two clients synchronize. Afterwards both have seen the same history, so that all earlier calls of either
@@ -23,7 +23,7 @@ impl SharedMap {
         let idle = split(table, &mut b.seat);
         let seat = std::mem::replace(&mut a.seat, idle);
         join(table, &mut b.seat, seat);
-        look(table, &mut b.seat);
+        read_history(table, &mut b.seat);
         a.seat = split(table, &mut b.seat);
     }
 
@@ -58,7 +58,10 @@ impl SharedMap {
         closed.free();
         match held {
             Some(part) => Err(CloseError::Midway { part }),
-            None => Ok(union_all(alloc, &slots)?),
+            None => match union_all(alloc, &slots) {
+                Ok(set) => Ok(set),
+                Err(Memory) => Err(CloseError::Memory),
+            },
         }
     }
 }

@@ -10,7 +10,7 @@ ghost use Rattle.moc_shared.specs.Batches.{BatchRecord, batch_answer};
 use crate::table::locks::{JoinSeats, LockTable, MergeRecords, ReadHistory, SeatToken, SplitSeat};
 
 /// Reads the whole history.
-pub(crate) fn look(table: &LockTable, seat: &mut SeatToken)
+pub(crate) fn read_history(table: &LockTable, seat: &mut SeatToken)
     requires place { IsOfTable seat.old.table_id table.now.table_id }
     requires client { StandsFor seat.old.me.0.mine seat.old.me.0.mine.number }
     ensures same { (seat.new.table_id ≡ seat.old.table_id) × (seat.new.id ≡ seat.old.id) }

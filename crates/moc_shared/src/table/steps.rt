@@ -26,6 +26,7 @@ fn take_part(table: &LockTable, seat: &mut SeatToken, part: Part, mark: u64) -> 
     requires other { (y : Option NumberSet) → ¬ Contains seat.old.me.0.holds (note part y) }
     ensures same { (seat.new.table_id ≡ seat.old.table_id) × (seat.new.id ≡ seat.old.id) }
     ensures taken_or_missed { TakesOrMisses content seats.part part seat.old.me result seat.new.me }
+    ensures in_range { part < 12 }
 {
     table.compare_exchange::<Take>(seat, index(part), 0, mark)
 }
@@ -49,16 +50,17 @@ pub(crate) fn take_slot(
     ensures err { IfErr result
         (λ h. (seat.new.me.0 ≡ with_miss seat.old.me.0 h part) × (h < seat.old.me.0.clients)
         × ¬ StandsFor seat.old.me.0.mine h) }
+    ensures in_range { part < 12 }
 {
-    let previous = take_part(table, seat, part, mark);
-    if previous == 0 {
+    let old_word = take_part(table, seat, part, mark);
+    if old_word == 0 {
         // The slot of a free part has a pointer.
         let Some(pointer) = table.exchange(seat, index(part), None) else {
             unreachable!()
         };
         Ok(pointer)
     } else {
-        Err((previous - 1) as u8)
+        Err((old_word - 1) as u8)
     }
 }
 
@@ -81,28 +83,28 @@ pub(crate) fn give_part(table: &LockTable, seat: &mut SeatToken, part: Part, new
 /// Puts a pointer into the part that was taken last, and gives the part back. With this step, the call takes effect.
 ///
 /// The replies are those to the contents that were taken. The pointers in `rest` are given back next. The batch,
-/// `previous` and `rest` are parameters only because the contract refers to them.
+/// `slots` and `rest` are parameters only because the contract refers to them.
 pub(crate) fn end_call<C: EndingCall>(
     table: &LockTable,
     seat: &mut SeatToken,
     part: Part,
     new: Pointer,
     batch: &Batch,
-    previous: &Slots,
+    slots: &Slots,
     rest: &Slots,
 )
     requires place { IsOfTable seat.old.table_id table.now.table_id }
     requires client { IsSingleClient seat.old.me.0 }
     requires carried { IsCarried seat.old.me }
-    requires call { (C.call ≡ call_by seat.old.me.0.mine.number batch.now (replies_to previous.now batch.now))
+    requires call { (C.call ≡ call_by seat.old.me.0.mine.number batch.now (replies_to slots.now batch.now))
         × (C.notes ≡ notes_below rest.now 12) }
     requires held { (parts_of_notes seat.old.me.0.holds ≡ part ∷ parts_of_notes (notes_below rest.now 12))
         × ¬ Contains (parts_of_notes (notes_below rest.now 12)) part }
-    requires answered { HasEffect seats.part batch_answer IsInSky batch.now (replies_to previous.now batch.now)
+    requires answered { HasEffect seats.part batch_answer IsInSky batch.now (replies_to slots.now batch.now)
         seat.old.me.0.holds (note part (shared new) ∷ notes_below rest.now 12) }
     ensures same { (seat.new.table_id ≡ seat.old.table_id) × (seat.new.id ≡ seat.old.id) }
     ensures carried { IsCarried seat.new.me }
-    ensures ended { BatchTakesEffect batch.now (replies_to previous.now batch.now) (notes_below rest.now 12)
+    ensures ended { BatchTakesEffect batch.now (replies_to slots.now batch.now) (notes_below rest.now 12)
         seat.old.me.0 seat.new.me.0 }
 {
     let index = index(part);

@@ -51,8 +51,8 @@ machine_code {Op} {Reply} op_code reply_code =
     code_by (Locks Op × (List NumberSet × (map.FinMap nat_cmp NumberSet × List (Entry Reply))))
     (coded× (locks_code op_code) (coded× (coded_list numbers_code)
     (coded× (map.code coded_ℕ numbers_code) (coded_list (entry_code reply_code)))))
-    (λ w. (w.locks, (w.parts, (w.previous, w.order))))
-    (λ p. record { locks = p.0; parts = p.1.0; previous = p.1.1.0; order = p.1.1.1 }) (λ _. refl)
+    (λ w. (w.locks, (w.parts, (w.taken_content, w.order))))
+    (λ p. record { locks = p.0; parts = p.1.0; taken_content = p.1.1.0; order = p.1.1.1 }) (λ _. refl)
 
 -- a world of batches
 abbrev pub world_code : Coded (World (List Command) (List Reply))
@@ -63,8 +63,8 @@ abbrev pub client_state_code : Coded ClientState
 client_state_code =
     code_by (Running (List Command) × (NumberSet × Option ℕ))
     (coded× (running_code batch.the_row.coded) (coded× numbers_code (coded_option coded_ℕ)))
-    (λ s. (s.running, (s.previous, s.entry_index)))
-    (λ p. record { running = p.0; previous = p.1.0; entry_index = p.1.1 }) (λ _. refl)
+    (λ s. (s.running, (s.taken_content, s.entry_index)))
+    (λ p. record { running = p.0; taken_content = p.1.0; entry_index = p.1.1 }) (λ _. refl)
 
 -- the result of an operation
 abbrev pub update_result_code : Coded UpdateResult

@@ -22,7 +22,7 @@ abbrev pub world_of : ℕ → map.FinMap nat_cmp ClientState → List NumberSet 
 world_of begun clients parts order = record {
   locks = record { begun = begun; clients = map_values (λ s. s.running) clients };
   parts = parts;
-  previous = map_values (λ s. s.previous) clients;
+  taken_content = map_values (λ s. s.taken_content) clients;
   order = entries_of order;
 }
 

@@ -1,5 +1,5 @@
 -- Lemmas about depths, for the proofs of callers: a union of whole cells of an order has no deeper cell. The set that a
--- text represents is such a union for the deepest order that the text names, and so are the results of set operations.
+-- text represents is such a union for the MOC order of the text, and so are the results of set operations.
 use Rattle.std.proofs.Common.{◌≡◌, ℕ, zero, suc, ◌+◌, ◌-◌, ◌*◌, ◌/◌, ◌<◌, ◌≤◌, Bool, true, false, cond, not, ◌&&◌, ◌||◌}
 use Rattle.std.proofs.Common.{List, [], ◌∷◌, Option, None, Some, refl, sym, ap, ap₂, subst, ◌∙◌, inl, inr, arith}
 use Rattle.std.specs.Prelude.{nat_eq, nat_le, nat_lt, ⊤, slice_index_or, length, min, option_map, ◌^◌}
@@ -40,7 +40,7 @@ IsAtMost (Some j) k = j ≤ k
 
 -- the set is a union of whole cells of each order at least as deep as this optional order, or of every order without it
 abbrev pub HasMaxOrder : NumberSet → Option ℕ → Type 0
-HasMaxOrder a deepest = (k : ℕ) → IsAtMost deepest k → IsUnionOfCells k a
+HasMaxOrder a moc_order = (k : ℕ) → IsAtMost moc_order k → IsUnionOfCells k a
 
 -- ---- cells and deeper cells
 
@@ -326,11 +326,11 @@ words_made k before (n ∷ ns) le most =
     (words_made k (current_order before n.mark) ns here rest)
 
 -- a text in the ASCII format
-pub ascii_depth : (text : List ℕ) (a : NumberSet) (deepest : Option ℕ) → Represents text a deepest
-    → HasMaxOrder a deepest
-ascii_depth text a deepest represents k le =
+pub ascii_depth : (text : List ℕ) (a : NumberSet) (moc_order : Option ℕ) → Represents text a moc_order
+    → HasMaxOrder a moc_order
+ascii_depth text a moc_order represents k le =
     subst (λ (b : NumberSet). IsUnionOfCells k b) (sym represents.set_is)
-    (words_made k None represents.numbers tt (subst (λ (x : Option ℕ). IsAtMost x k) represents.deepest_is le))
+    (words_made k None represents.numbers tt (subst (λ (x : Option ℕ). IsAtMost x k) represents.moc_order_is le))
 
 cell_made : (k j : ℕ) (i : Option ℕ) → j ≤ k → IsUnionOfCells k (cell_pixels j i)
 cell_made k j None le = empty_made k
@@ -353,8 +353,8 @@ members_made k (member name d ms) most =
     (members_made k ms (at_most_second (order_of_name name) (deepest_name ms) k most))
 
 -- a text in the JSON format
-pub json_depth : (text : List ℕ) (a : NumberSet) (deepest : Option ℕ) → RepresentsJson text a deepest
-    → HasMaxOrder a deepest
-json_depth text a deepest represents k le =
+pub json_depth : (text : List ℕ) (a : NumberSet) (moc_order : Option ℕ) → RepresentsJson text a moc_order
+    → HasMaxOrder a moc_order
+json_depth text a moc_order represents k le =
     subst (λ (b : NumberSet). IsUnionOfCells k b) (sym represents.set_is)
-    (members_made k represents.members (subst (λ (x : Option ℕ). IsAtMost x k) represents.deepest_is le))
+    (members_made k represents.members (subst (λ (x : Option ℕ). IsAtMost x k) represents.moc_order_is le))

@@ -26,7 +26,7 @@ numbers_of before (w ∷ ws) = do
   ns ← numbers_of (current_order before n.mark) ws
   Ok (n ∷ ns)
 
--- the set and the deepest order that a text represents, or its first error
+-- the set and the MOC order that a text represents, or its first error
 unfoldable pub reading_of : List ℕ → Result (NumberSet × Option ℕ) TextError
 reading_of text = do
   ns ← numbers_of None (words text)

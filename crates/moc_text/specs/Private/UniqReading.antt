@@ -7,7 +7,7 @@ use Rattle.moc_sphere.specs.CellNumber.{CellNumber, IsCell, uniq_of}
 use Rattle.moc_lists.specs.RangeList.{NumberSet}
 use Rattle.moc_ranges.specs.Cells.{pixels_of}
 use Rattle.moc_text.specs.Lines.{is_line_feed, lines_of}
-use Rattle.moc_ranges.specs.Faults.{first_error_of}
+use Rattle.moc_ranges.specs.Errors.{first_error_of}
 use Rattle.moc_text.specs.UniqList.{uniq_line_error, numbers_on, uniq_error}
 
 -- the bytes after the end of the line, if the line ends here

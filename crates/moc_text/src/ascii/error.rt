@@ -12,37 +12,37 @@ use thiserror::Error;
 #[derive(Debug, Clone, Copy, PartialEq, Eq, Error)]
 pub enum TextError {
     /// A byte that cannot follow the preceding bytes of its word.
-    #[error("a byte that no word has there, at {at}")]
+    #[error("unexpected byte at offset {at}")]
     BadByte {
         /// The offset of the byte.
         at: usize,
     },
     /// An item before any order.
-    #[error("an item before any order, at {at}")]
+    #[error("item without an order at offset {at}")]
     NoOrder {
         /// The offset of the first byte of its word.
         at: usize,
     },
     /// An order above 29.
-    #[error("an order above 29, at {at}")]
+    #[error("order above 29 at offset {at}")]
     OrderTooLarge {
         /// The offset of its first digit.
         at: usize,
     },
     /// A number that is not the index of a cell of the current order.
-    #[error("no cell of the order in force, at {at}")]
+    #[error("index too large for its order at offset {at}")]
     CellTooLarge {
         /// The offset of its first digit.
         at: usize,
     },
     /// A range whose last cell is before its first cell.
-    #[error("a range that goes backwards, at {at}")]
+    #[error("descending range at offset {at}")]
     Backwards {
         /// The offset of the first digit of its first cell.
         at: usize,
     },
     /// A word that is incomplete.
-    #[error("a word that is not finished, at {at}")]
+    #[error("incomplete word at offset {at}")]
     Unfinished {
         /// The offset after its last byte.
         at: usize,
@@ -87,7 +87,7 @@ impl TextError {
 impl From<OutOfMemory> for TextError {
     ghost from_gives = { λ _ e. e ≡ Memory };
 
-    fn from(_e: OutOfMemory) -> TextError {
+    fn from(_error: OutOfMemory) -> TextError {
         TextError::Memory
     }
 }

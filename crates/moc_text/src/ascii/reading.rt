@@ -4,7 +4,7 @@ ghost use Rattle.std.specs.FinSet as set;
 ghost use Rattle.moc_lists.specs.RangeList.{NumberSet};
 ghost use Rattle.moc_text.specs.Ascii.{mark_error, item_error, item_pixels, current_order, deeper as deeper_of};
 ghost use Rattle.moc_text.specs.Ascii.{Represents, IsFirstError};
-ghost use Rattle.moc_text.specs.Faults.{Fails};
+ghost use Rattle.moc_text.specs.Errors.{Fails};
 ghost use Rattle.moc_text.specs.Private.AsciiReading.{Progress};
 ghost use Rattle.moc_text.specs.Reading.{IsReadingOf, ReadingsAreUnique};
 
@@ -16,12 +16,12 @@ use moc_ranges::{Coverage, CoverageBuilder};
 use moc_sphere::Order;
 use std::alloc::Global;
 
-/// The state of the parser: the cells, the current order, and the deepest order of the words so far.
+/// The state of the parser: the cells, the current order, and the MOC order of the words so far.
 #[derive(Drop)]
 struct Reading {
     cells: CoverageBuilder,
     order: Option<Order>,
-    deepest: Option<Order>,
+    moc_order: Option<Order>,
 }
 
 impl Reading {
@@ -30,7 +30,7 @@ impl Reading {
         ensures { MatchResult result
             (λ _. (mark_error mark ≡ None)
             × (self.new.order ≡ current_order self.old.order mark)
-            × (self.new.deepest ≡ deeper_of self.old.deepest (current_order None mark))
+            × (self.new.moc_order ≡ deeper_of self.old.moc_order (current_order None mark))
             × (self.new.cells ≡ self.old.cells))
             (λ e. mark_error mark ≡ Some e) }
     {
@@ -41,7 +41,7 @@ impl Reading {
             return Err(TextError::OrderTooLarge { at: mark.at });
         };
         self.order = Some(order);
-        self.deepest = deeper(self.deepest, self.order);
+        self.moc_order = deeper(self.moc_order, self.order);
         Ok(())
     }
 
@@ -50,7 +50,7 @@ impl Reading {
         ensures { MatchResult result
             (λ _. (item_error self.old.order at item ≡ None)
             × (self.new.order ≡ self.old.order)
-            × (self.new.deepest ≡ self.old.deepest)
+            × (self.new.moc_order ≡ self.old.moc_order)
             × (self.new.cells ≡ set.union self.old.cells (item_pixels self.old.order item)))
             (λ e. Fails TextError.Memory (item_error self.old.order at item) e) }
     {
@@ -79,14 +79,14 @@ impl Reading {
 
 /// Parses all words.
 fn read_words(alloc: Global, text: &[u8]) -> Result<Reading, TextError>
-    ensures represents { IfOk result (λ r. Progress text.now [] r.cells r.order r.deepest) }
+    ensures represents { IfOk result (λ r. Progress text.now [] r.cells r.order r.moc_order) }
     ensures error { IfErr result (λ e. (e ≡ TextError.Memory) ⊎ IsFirstError text.now e) }
 {
     let len = text.len();
     let mut reading = Reading {
         cells: CoverageBuilder::new(alloc),
         order: None,
-        deepest: None,
+        moc_order: None,
     };
     let mut rest = text;
     while let [byte, after @ ..] = rest {
@@ -103,7 +103,7 @@ fn read_words(alloc: Global, text: &[u8]) -> Result<Reading, TextError>
     Ok(reading)
 }
 
-/// Parses the ASCII format, and returns the set and the deepest order that the text names.
+/// Parses the ASCII format, and returns the set and the MOC order of the text.
 ///
 /// # Errors
 /// Reports the first invalid word, with a byte offset counted from 0. Fails with `BadByte` if the word has an invalid
@@ -135,10 +135,10 @@ pub fn read_ascii(alloc: Global, text: &[u8]) -> Result<(Coverage, Option<Order>
 {
     let reading = read_words(alloc, text)?;
     let set = reading.cells.build()?;
-    Ok((set, reading.deepest))
+    Ok((set, reading.moc_order))
 }
 
-/// Theorem: every text has exactly one reading, namely the set and the deepest order that it represents, or its first
+/// Theorem: every text has exactly one reading, namely the set and the MOC order that it represents, or its first
 /// error.
 pub fn readings_are_unique()
     ensures { ReadingsAreUnique }

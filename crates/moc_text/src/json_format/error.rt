@@ -6,7 +6,6 @@ ghost use Rattle.moc_text.specs.Places.{json_error_at};
 ghost use Rattle.moc_text.specs.declared.json_format.error.JsonError.TheVariants.{Memory};
 
 use moc_ranges::Memory as OutOfMemory;
-use std::alloc::{AllocError, AllocFailed};
 use thiserror::Error;
 
 /// The reason why a text is not valid in the JSON format. Names are counted from 0 in byte order, and the items of an
@@ -14,25 +13,25 @@ use thiserror::Error;
 #[derive(Debug, Clone, Copy, PartialEq, Eq, Error)]
 pub enum JsonError {
     /// The text is not valid JSON, according to `serde_json`.
-    #[error("no JSON")]
+    #[error("invalid JSON")]
     NotJson,
     /// The value is not an object.
-    #[error("no object")]
+    #[error("not a JSON object")]
     NotObject,
     /// A name is not a number from 0 to 29.
-    #[error("name {name} is no order")]
+    #[error("name {name} is not an order")]
     BadOrder {
         /// The number of the name.
         name: usize,
     },
     /// The value of a name is not an array.
-    #[error("name {name} has no array")]
+    #[error("the value of name {name} is not an array")]
     NotArray {
         /// The number of the name.
         name: usize,
     },
     /// An item is not an unsigned integer of 64 bits.
-    #[error("name {name}, item {place} is no whole number")]
+    #[error("item {place} of name {name} is not an unsigned integer")]
     NotWhole {
         /// The number of the name.
         name: usize,
@@ -40,7 +39,7 @@ pub enum JsonError {
         place: usize,
     },
     /// An item is not the index of a cell of the order.
-    #[error("name {name}, item {place} is no cell of its order")]
+    #[error("item {place} of name {name} is too large for its order")]
     CellTooLarge {
         /// The number of the name.
         name: usize,
@@ -98,26 +97,10 @@ impl JsonError {
     }
 }
 
-impl From<AllocError> for JsonError {
-    ghost from_gives = { λ _ e. e ≡ Memory };
-
-    fn from(_e: AllocError) -> JsonError {
-        JsonError::Memory
-    }
-}
-
-impl<T: Drop> From<AllocFailed<T>> for JsonError {
-    ghost from_gives = { λ _ e. e ≡ Memory };
-
-    fn from(_e: AllocFailed<T>) -> JsonError {
-        JsonError::Memory
-    }
-}
-
 impl From<OutOfMemory> for JsonError {
     ghost from_gives = { λ _ e. e ≡ Memory };
 
-    fn from(_e: OutOfMemory) -> JsonError {
+    fn from(_error: OutOfMemory) -> JsonError {
         JsonError::Memory
     }
 }

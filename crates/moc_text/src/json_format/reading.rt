@@ -1,12 +1,12 @@
 //! Parsing the JSON format.
-ghost use Rattle.std.specs.Prelude.{◌≡◌, ℕ, IfErr, IfOk, IfSome, IsOkUnless, MatchResult, None, Option, Some, ◌⊎◌};
+ghost use Rattle.std.specs.Prelude.{◌≡◌, ℕ, IfErr, IfOk, IfSome, MatchResult, None, Option, Some, ◌⊎◌};
 ghost use Rattle.std.specs.Prelude.{option_map};
 ghost use Rattle.std.specs.String.{string_bytes};
 ghost use Rattle.std.specs.FinSet as set;
 ghost use Rattle.serde_json.specs.Find.{as_array};
 ghost use Rattle.serde_json.specs.View.{view, items_view, members_view};
 ghost use Rattle.moc_lists.specs.RangeList.{NumberSet};
-ghost use Rattle.moc_text.specs.Faults.{Fails};
+ghost use Rattle.moc_text.specs.Errors.{Fails};
 ghost use Rattle.moc_text.specs.JsonFormat.{order_of_name, whole_number, cell_pixels, element_error, items_pixels};
 ghost use Rattle.moc_text.specs.JsonFormat.{elements_error, array_pixels, name_error, members_pixels, members_error};
 ghost use Rattle.moc_text.specs.JsonFormat.{deepest_name, member_at as member_numbered, HasText, IsJson, IsJsonError};
@@ -15,7 +15,7 @@ ghost use Rattle.moc_text.specs.Private.JsonReading.{capped_order};
 
 use crate::depth::deeper;
 use crate::json_format::error::{JsonError, JsonPlace};
-use moc_ranges::{Coverage, CoverageBuilder};
+use moc_ranges::{Coverage, CoverageBuilder, Memory};
 use moc_sphere::Order;
 use serde_json::{Map, Value};
 use std::alloc::Global;
@@ -117,19 +117,19 @@ fn read_members(
     members: &Map<String, Value>,
 ) -> Result<Option<Order>, JsonError>
     ensures { MatchResult result
-        (λ deepest. (members_error 0 (members_view members.now.entries) ≡ None)
+        (λ moc_order. (members_error 0 (members_view members.now.entries) ≡ None)
         × (cells.new ≡ set.union cells.old (members_pixels (members_view members.now.entries)))
-        × (deepest ≡ deepest_name (members_view members.now.entries)))
+        × (moc_order ≡ deepest_name (members_view members.now.entries)))
         (λ e. Fails JsonError.Memory (members_error 0 (members_view members.now.entries)) e) }
 {
-    let mut deepest = None;
+    let mut moc_order = None;
     let mut name = 0;
     for (text, value) in members.iter() {
         let order = read_member(cells, name, text.as_str(), value)?;
-        deepest = deeper(deepest, Some(order));
+        moc_order = deeper(moc_order, Some(order));
         name += 1;
     }
-    Ok(deepest)
+    Ok(moc_order)
 }
 
 /// Parses JSON (RFC 8259) with `serde_json`.
@@ -144,8 +144,9 @@ fn parse(alloc: Global, text: &[u8]) -> Result<Value, JsonError>
     }
 }
 
-/// Parses the JSON format, and returns the set and the deepest order among the names. In errors, names are counted from
-/// 0 in byte order, as `serde_json` sorts them, and the items of an array are counted from 0.
+/// Parses the JSON format, and returns the set and the MOC order, which is the deepest order among the names. In
+/// errors, names are counted from 0 in byte order, as `serde_json` sorts them, and the items of an array are counted
+/// from 0.
 ///
 /// # Errors
 /// Fails with `NotJson` if the text is not valid JSON according to `serde_json`, and with `NotObject` if the value is
@@ -178,9 +179,9 @@ pub fn read_json(alloc: Global, text: &[u8]) -> Result<(Coverage, Option<Order>)
         return Err(JsonError::NotObject);
     };
     let mut cells = CoverageBuilder::new(alloc);
-    let deepest = read_members(&mut cells, members)?;
+    let moc_order = read_members(&mut cells, members)?;
     let set = cells.build()?;
-    Ok((set, deepest))
+    Ok((set, moc_order))
 }
 
 /// Returns the name with this number and its value, if the name exists.
@@ -234,7 +235,7 @@ pub fn json_content_at(
 {
     let value = parse(alloc, text)?;
     match member_of(&value, place.name) {
-        Some((name, value)) => content_at(alloc, name, value, place.item),
+        Some((name, value)) => Ok(content_at(alloc, name, value, place.item)?),
         None => Ok(JsonContent {
             order: None,
             text: None,
@@ -248,11 +249,10 @@ fn content_at(
     name: &String,
     value: &Value,
     item: Option<usize>,
-) -> Result<JsonContent, JsonError>
+) -> Result<JsonContent, Memory>
     ensures order { IfOk result (λ site. site.order ≡ order_of_name (string_bytes name.now)) }
     ensures text { IfOk result (λ site. IsTextAt item (Some (string_bytes name.now, view value.now))
         (option_map string_bytes site.text)) }
-    ensures memory { IsOkUnless result JsonError.Memory }
 {
     let text = match item {
         None => Some(String::from_str(alloc, name.as_str())?),

@@ -22,5 +22,4 @@ returns-in_err-parsed-clause-error g c =
 
 pub returns-in_err-text_of-clause-error : goal.returns-in_err-text_of-clause-error
 returns-in_err-text_of-clause-error g c =
-    no_memory_together c.from_residual-in_err-text_of.result c.in_err-text_of.field-0.0 c.args.choice _ _
-    c.from_residual-in_err-text_of.ensures.1 c.in_err-text_of.ensures.memory
+    no_memory_together c.from_residual-in_err-text_of.result c.args.choice _ _ c.from_residual-in_err-text_of.ensures.1

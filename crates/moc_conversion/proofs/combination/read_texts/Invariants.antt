@@ -7,5 +7,5 @@ invariant-loop-piece g l = record {
   unmarked : g.R.Source.mark l.input ≡ false;
   buffer : 0 < length l.buffer.items;
   opened : IsOpen l.texts;
-  taken : (runs : RunsTo (g.R.Source.reading l.fn.input) (g.R.Source.reading l.input) l.initial.texts l.texts) × (l._piece ≤ length runs.0);
+  processed : (runs : RunsTo (g.R.Source.reading l.fn.input) (g.R.Source.reading l.input) l.initial.texts l.texts) × (l._piece ≤ length runs.0);
 }

@@ -1,30 +1,27 @@
-use Rattle.std.proofs.Common.{ℕ, List, inl, inr, refl, subst}
+use Rattle.std.proofs.Common.{ℕ, List, refl, subst}
 use Rattle.moc_forms.specs.Formats.{FormatFails, FormatRepresents}
-use Rattle.moc_conversion.specs.declared.fault.InputError.TheVariants as fault
-use Rattle.moc_conversion.proofs.Checks.{not_read, reported_alone}
+use Rattle.moc_conversion.proofs.Checks.{no_memory_converting, not_read}
 use Rattle.moc_conversion.proofs.Depths.{text_written}
 use Rattle.moc_conversion.proofs.conversion.convert_input.Goals as goal
 
-pub returns-in_err-set-clause-error : goal.returns-in_err-set-clause-error
-returns-in_err-set-clause-error g c =
-    let error = c.in_err-set.field-0.0 in
-    reported_alone c.from_residual-in_err-set.result (fault.Format error) c.args.from _ _ c.from_residual-in_err-set.ensures.1
-    (not_read c.args.from _ _ c.in_ok-text.text.items error c.in_ok-text.ensures.whole
-    (subst (λ (bytes : List ℕ). FormatFails c.args.from bytes error) c.deref.ensures.value c.in_err-set.ensures.error))
+pub returns-clause-error : goal.returns-clause-error
+returns-clause-error g c =
+    not_read c.args.from _ _ c.in_ok-text.text.items c.in-Err.error c.without_position.result c.in_ok-text.ensures.whole
+    c.without_position.ensures.memory c.without_position.ensures.alone
+    (subst (λ (bytes : List ℕ). FormatFails c.args.from bytes c.in-Err.error) c.deref.ensures.value c.in-Err.ensures.error)
 
 pub text_of-requires : goal.text_of-requires
 text_of-requires g c = record {
-  fits = text_written c.args.from _ c.in_ok-set.set c.in_ok-set.deepest c.in_ok-set.ensures.represents;
+  fits = text_written c.args.from _ c.in-Ok.set c.in-Ok.moc_order c.in-Ok.ensures.represents;
 }
 
-pub returns-in_err-text_of-clause-error : goal.returns-in_err-text_of-clause-error
-returns-in_err-text_of-clause-error g c =
-    reported_alone c.from_residual-in_err-text_of.result c.in_err-text_of.field-0.0 c.args.from _ _
-    c.from_residual-in_err-text_of.ensures.1 (inl (inr (inr c.in_err-text_of.ensures.memory)))
+pub returns-in_err-text_of-in-Ok-clause-error : goal.returns-in_err-text_of-in-Ok-clause-error
+returns-in_err-text_of-in-Ok-clause-error g c =
+    no_memory_converting c.from_residual-in_err-text_of-in-Ok.result c.args.from _ _ c.from_residual-in_err-text_of-in-Ok.ensures.1
 
-pub returns-clause-converts : goal.returns-clause-converts
-returns-clause-converts g c = (
-  record { set = c.in_ok-set.set; deepest = c.in_ok-set.deepest; format = c.args.from },
+pub returns-in-Ok-clause-converts : goal.returns-in-Ok-clause-converts
+returns-in-Ok-clause-converts g c = (
+  record { set = c.in-Ok.set; moc_order = c.in-Ok.moc_order; format = c.args.from },
   (
     c.in_ok-text.text.items,
     c.in_ok-text.ensures.whole.0,
@@ -32,10 +29,10 @@ returns-clause-converts g c = (
       c.in_ok-text.ensures.whole.1,
       c.in_ok-text.ensures.whole.2,
       (
-        subst (λ (bytes : List ℕ). FormatRepresents c.args.from bytes c.in_ok-set.set c.in_ok-set.deepest) c.deref.ensures.value c.in_ok-set.ensures.represents,
+        subst (λ (bytes : List ℕ). FormatRepresents c.args.from bytes c.in-Ok.set c.in-Ok.moc_order) c.deref.ensures.value c.in-Ok.ensures.represents,
         refl,
       ),
     ),
   ),
-  c.in_ok-text_of.ensures.text,
+  c.in_ok-text_of-in-Ok.ensures.text,
 )

@@ -7,8 +7,9 @@ use Rattle.moc_forms.specs.Combining.{TextRepresents}
 use Rattle.moc_forms.specs.declared.combining.ParsedCoverage.{ParsedCoverage}
 use Rattle.moc_forms.specs.Finding.{format_for}
 use Rattle.moc_forms.specs.declared.finding.FormatChoice.{FormatChoice}
-use Rattle.moc_conversion.specs.Conversion.{IsOutOfMemory, IsPictureOf, ReportsError, ReportsFirstOfTexts, second_text}
-use Rattle.moc_conversion.specs.declared.diagnostic.InputDiagnostic.{InputDiagnostic}
+use Rattle.moc_conversion.specs.Conversion.{IsPictureOf, ReportsError, ReportsFirstOfTexts, second_text}
+use Rattle.moc_conversion.specs.declared.error.InputError.{InputError}
+use Rattle.moc_conversion.specs.declared.error.InputError.TheVariants.{Memory}
 use Rattle.moc_conversion.proofs.Checks.{passed_on}
 use Rattle.moc_conversion.proofs.drawing.draw_texts.Goals as goal
 
@@ -21,20 +22,20 @@ of_texts : (P : List ℕ → Option (List ℕ) → Type 0) (bytes first : List �
 of_texts P bytes first second found one other is holds = subst₂ P (sym one) (sym (other ∙ is)) holds
 
 -- the texts have an error
-invalid : (choice : FormatChoice) (bytes first : List ℕ) (second : Option (List ℕ)) (found : Option (Bor (List ℕ))) (c : InputDiagnostic) → before_first is_semicolon bytes ≡ first
-    → second_text bytes ≡ bytes_of found → bytes_of found ≡ second → IsOutOfMemory c ⊎ ReportsFirstOfTexts choice first second c
-    → IsOutOfMemory c ⊎ ReportsFirstOfTexts choice (before_first is_semicolon bytes) (second_text bytes) c
+invalid : (choice : FormatChoice) (bytes first : List ℕ) (second : Option (List ℕ)) (found : Option (Bor (List ℕ))) (c : InputError) → before_first is_semicolon bytes ≡ first
+    → second_text bytes ≡ bytes_of found → bytes_of found ≡ second → (c ≡ Memory) ⊎ ReportsFirstOfTexts choice first second c
+    → (c ≡ Memory) ⊎ ReportsFirstOfTexts choice (before_first is_semicolon bytes) (second_text bytes) c
 invalid choice bytes first second found c one other is (inl memory) = inl memory
 invalid choice bytes first second found c one other is (inr diagnoses) =
     inr (of_texts (λ x y. ReportsFirstOfTexts choice x y c) bytes first second found one other is diagnoses)
 
-first_fails : (choice : FormatChoice) (first second : List ℕ) (c : InputDiagnostic) → IsOutOfMemory c ⊎ ReportsError (format_for choice first) first (Some 1) c
-    → IsOutOfMemory c ⊎ ReportsFirstOfTexts choice first (Some second) c
+first_fails : (choice : FormatChoice) (first second : List ℕ) (c : InputError) → (c ≡ Memory) ⊎ ReportsError (format_for choice first) first (Some 1) c
+    → (c ≡ Memory) ⊎ ReportsFirstOfTexts choice first (Some second) c
 first_fails choice first second c (inl memory) = inl memory
 first_fails choice first second c (inr diagnoses) = inr (inl diagnoses)
 
-second_fails : (choice : FormatChoice) (first second : List ℕ) (c : InputDiagnostic) → ((parsed : ParsedCoverage) × TextRepresents choice first parsed)
-    → IsOutOfMemory c ⊎ ReportsError (format_for choice second) second (Some 2) c → IsOutOfMemory c ⊎ ReportsFirstOfTexts choice first (Some second) c
+second_fails : (choice : FormatChoice) (first second : List ℕ) (c : InputError) → ((parsed : ParsedCoverage) × TextRepresents choice first parsed)
+    → (c ≡ Memory) ⊎ ReportsError (format_for choice second) second (Some 2) c → (c ≡ Memory) ⊎ ReportsFirstOfTexts choice first (Some second) c
 second_fails choice first second c represents (inl memory) = inl memory
 second_fails choice first second c represents (inr diagnoses) = inr (inr (represents, diagnoses))
 

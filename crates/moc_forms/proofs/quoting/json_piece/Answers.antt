@@ -6,10 +6,10 @@ use Rattle.moc_forms.proofs.quoting.json_piece.Goals as goal
 
 pub returns-in_default : goal.returns-in_default
 returns-in_default c =
-    stands_nowhere c.args.text.now c.args.fault
+    stands_nowhere c.args.text.now c.args.error
     (sym (ap (option_map (λ (p : JsonPlace). (p.name, p.item))) c.in_default.is) ∙ c.place.ensures)
 
-pub returns : goal.returns
-returns c =
-    text_at_error c.args.text.now c.args.fault c.in-Some.place.name c.in-Some.place.item _
-    (sym (ap (option_map (λ (p : JsonPlace). (p.name, p.item))) c.in-Some.is) ∙ c.place.ensures) c.in_ok-site.ensures.text
+pub returns-in-Ok : goal.returns-in-Ok
+returns-in-Ok c =
+    text_at_error c.args.text.now c.args.error c.in-Some.place.name c.in-Some.place.item _
+    (sym (ap (option_map (λ (p : JsonPlace). (p.name, p.item))) c.in-Some.is) ∙ c.place.ensures) c.in-Ok.ensures.text

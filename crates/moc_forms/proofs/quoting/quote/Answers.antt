@@ -7,16 +7,16 @@ use Rattle.moc_forms.proofs.quoting.quote.Goals as goal
 
 pub returns-in_ok-quote_of-in-Ascii : goal.returns-in_ok-quote_of-in-Ascii
 returns-in_ok-quote_of-in-Ascii c =
-    of_ascii c.args.text.now c.args.error c.in-Ascii.fault _ c.in-Ascii.is
+    of_ascii c.args.text.now c.args.error c.in-Ascii.error _ c.in-Ascii.is
     (c.in_ok-quote_of-in-Ascii.ensures ∙ ap (option_map quote_text) c.word_at.ensures)
 
 pub returns-in_ok-quote_of-in-Uniq : goal.returns-in_ok-quote_of-in-Uniq
 returns-in_ok-quote_of-in-Uniq c =
-    of_list c.args.text.now c.args.error c.in-Uniq.fault _ c.in-Uniq.is
+    of_list c.args.text.now c.args.error c.in-Uniq.error _ c.in-Uniq.is
     (c.in_ok-quote_of-in-Uniq.ensures ∙ ap (option_map quote_text) c.line_at.ensures)
 
-pub returns-in_ok-quote_of-in-Ok-Some : goal.returns-in_ok-quote_of-in-Ok-Some
-returns-in_ok-quote_of-in-Ok-Some c =
-    let stands = rw c.in-Ok-Some.field-0-is at c.in-Ok-Some.ensures in
-    of_json c.args.text.now c.args.error c.in-Json.fault (Some (string_bytes c.in-Ok-Some.piece)) _ c.in-Json.is stands
-    (c.in_ok-quote_of-in-Ok-Some.ensures ∙ ap (λ (b : List ℕ). Some (quote_text b)) c.as_bytes.ensures.value)
+pub returns-in_ok-quote_of-in-Some : goal.returns-in_ok-quote_of-in-Some
+returns-in_ok-quote_of-in-Some c =
+    let stands = rw c.in-Some.is at c.in_ok-piece-in-Json.ensures in
+    of_json c.args.text.now c.args.error c.in-Json.error (Some (string_bytes c.in-Some.piece)) _ c.in-Json.is stands
+    (c.in_ok-quote_of-in-Some.ensures ∙ ap (λ (b : List ℕ). Some (quote_text b)) c.as_bytes.ensures.value)

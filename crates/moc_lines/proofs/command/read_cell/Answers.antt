@@ -11,5 +11,5 @@ returns-in-Ok-new c =
     let index = c.in_ok-index.index in
     let depth_read : c.parse_decimal.result ≡ Some depth = search rules in
     let index_read : c.parse_decimal-2.result ≡ Some index = search rules in
-    near_is c.args.order.now c.args.index.now depth index order.0 (subst (λ k. index < cell_count k) order.1 cell.0) (sym depth_read ∙ c.parse_decimal.ensures) (sym index_read ∙ c.parse_decimal-2.ensures)
-    ∙ same_answer depth c.in-Ok.order index c.in-Ok-new.cell order.1 cell.1
+    sym (near_is c.args.order.now c.args.index.now depth index order.0 (subst (λ k. index < cell_count k) order.1 cell.0) (sym depth_read ∙ c.parse_decimal.ensures) (sym index_read ∙ c.parse_decimal-2.ensures)
+    ∙ same_answer depth c.in-Ok.order index c.in-Ok-new.cell order.1 cell.1)

@@ -5,7 +5,7 @@ use Rattle.moc_devices.specs.Devices.{Delivers}
 use Rattle.moc_devices.specs.Lemmas.{Delivers-nil}
 use Rattle.std.proofs.lemmas.List.{take-append-le, take-take}
 use Rattle.std.proofs.lemmas.Bool.{false≢true}
-use Rattle.moc_lines.specs.declared.reading.ScriptInputError.{ScriptInputError}
+use Rattle.moc_lines.specs.declared.run_error.RunError.{RunError}
 use Rattle.moc_lines.proofs.WholeReading.{script_new, script_short, given_more, given_all}
 use Rattle.moc_lines.proofs.reading.read_all.Goals as goal
 
@@ -13,10 +13,10 @@ unmarked : (new old : Bool) → new ≡ old || false → new ≡ old
 unmarked new true e = e
 unmarked new false e = e
 
-same_fault : {T : Type 0} (a b : ScriptInputError) → IsErrOf {T = T} (Err a) b → a ≡ b
+same_fault : {T : Type 0} (a b : RunError) → IsErrOf {T = T} (Err a) b → a ≡ b
 same_fault a b is = cc
 
-not_both : {T : Type 0} (value : T) (e : ScriptInputError) → IsErrOf (Ok value) e → ⊥
+not_both : {T : Type 0} (value : T) (e : RunError) → IsErrOf (Ok value) e → ⊥
 not_both value e is = cc
 
 failed : (new old : Bool) → new ≡ old || true → new ≡ true

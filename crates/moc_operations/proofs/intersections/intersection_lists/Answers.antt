@@ -4,15 +4,15 @@ use Rattle.moc_blocks.specs.RangeList.{set_of}
 use Rattle.moc_blocks.specs.Private.Built.{ranges_of}
 use Rattle.moc_operations.proofs.Walking.{at_both}
 use Rattle.moc_operations.proofs.Views.{common_view}
-use Rattle.moc_operations.proofs.InCommon.{IsIntersectionStep, met_first, met_second, meeting_kept, meeting_kept_back, meeting_taken}
-use Rattle.moc_operations.proofs.InCommon.{meeting_swap}
+use Rattle.moc_operations.proofs.InCommon.{IsIntersectionStep, met_first, met_second, intersection_kept, meeting_kept_back, intersection_taken}
+use Rattle.moc_operations.proofs.InCommon.{intersection_swap}
 use Rattle.moc_operations.proofs.Shortening.{length_begun, taken_shorter}
 use Rattle.moc_operations.proofs.intersections.intersection_lists.Goals as goal
 
 pub next_overlapping-requires-clause-after : goal.next_overlapping-requires-clause-after
 next_overlapping-requires-clause-after c =
     let s = at_both c.loop-first.first c.loop-first.second c.in-Some.x c.in-Some-second.y c.loop-first.xs c.loop-first.ys (λ xs ys. IsIntersectionStep (ranges_of c.loop-first.built) xs ys c.args.xs c.args.ys) c.in-Some.is c.in-Some-second.is c.loop-first.invariant in
-    (meeting_kept _ _ _ _ _ _ c.in-Some.x c.in-Some-second.y s (omega arith) c.in_ok-push_common.ensures.built c.in_ok-push_common.ensures.below c.in_ok-push_common.ensures.same).below
+    (intersection_kept _ _ _ _ _ _ c.in-Some.x c.in-Some-second.y s (omega arith) c.in_ok-push_common.ensures.built c.in_ok-push_common.ensures.below c.in_ok-push_common.ensures.same).below
 
 pub next_overlapping-requires-else-x-y-clause-after : goal.next_overlapping-requires-else-x-y-clause-after
 next_overlapping-requires-else-x-y-clause-after c =
@@ -22,12 +22,12 @@ next_overlapping-requires-else-x-y-clause-after c =
 pub loop-first-preserved-then-x-y : goal.loop-first-preserved-then-x-y
 loop-first-preserved-then-x-y c =
     let s = at_both c.loop-first.first c.loop-first.second c.in-Some.x c.in-Some-second.y c.loop-first.xs c.loop-first.ys (λ xs ys. IsIntersectionStep (ranges_of c.loop-first.built) xs ys c.args.xs c.args.ys) c.in-Some.is c.in-Some-second.is c.loop-first.invariant in
-    meeting_taken _ _ _ _ _ _ _ c.in-Some-second.y (meeting_kept _ _ _ _ _ _ c.in-Some.x c.in-Some-second.y s (omega arith) c.in_ok-push_common.ensures.built c.in_ok-push_common.ensures.below c.in_ok-push_common.ensures.same) c.in_ok-first.ensures
+    intersection_taken _ _ _ _ _ _ _ c.in-Some-second.y (intersection_kept _ _ _ _ _ _ c.in-Some.x c.in-Some-second.y s (omega arith) c.in_ok-push_common.ensures.built c.in_ok-push_common.ensures.below c.in_ok-push_common.ensures.same) c.in_ok-first.ensures
 
 pub loop-first-preserved : goal.loop-first-preserved
 loop-first-preserved c =
     let s = at_both c.loop-first.first c.loop-first.second c.in-Some.x c.in-Some-second.y c.loop-first.xs c.loop-first.ys (λ xs ys. IsIntersectionStep (ranges_of c.loop-first.built) xs ys c.args.xs c.args.ys) c.in-Some.is c.in-Some-second.is c.loop-first.invariant in
-    meeting_swap _ _ _ _ _ (meeting_taken _ _ _ _ _ _ _ c.in-Some.x (meeting_kept_back _ _ _ _ _ _ c.in-Some.x c.in-Some-second.y s (omega arith) c.in_ok-push_common.ensures.built c.in_ok-push_common.ensures.below c.in_ok-push_common.ensures.same) c.in_ok-second.ensures)
+    intersection_swap _ _ _ _ _ (intersection_taken _ _ _ _ _ _ _ c.in-Some.x (meeting_kept_back _ _ _ _ _ _ c.in-Some.x c.in-Some-second.y s (omega arith) c.in_ok-push_common.ensures.built c.in_ok-push_common.ensures.below c.in_ok-push_common.ensures.same) c.in_ok-second.ensures)
 
 pub returns-in_default-second : goal.returns-in_default-second
 returns-in_default-second c =

@@ -1,6 +1,6 @@
 use Rattle.std.proofs.Common.{length}
 use Rattle.moc_blocks.specs.Private.Built.{ranges_of}
-use Rattle.moc_operations.proofs.CarriedOver.{IsCarrying}
+use Rattle.moc_operations.proofs.MovedBlocks.{IsCarrying}
 use Rattle.moc_operations.proofs.sharing.push_shared_all.Given as goal
 
 abbrev pub invariant-loop-carried : goal.invariant-loop-carried

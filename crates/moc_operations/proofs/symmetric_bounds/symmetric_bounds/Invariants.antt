@@ -7,7 +7,7 @@ invariant-loop-first l = record {
   crossed : (kept tail_xs tail_ys : List ℕ) (whole_xs whole_ys : List (ℕ × ℕ))
       → AreBounds (kept ++ open_of l.fn.opened) (drop l.fn.passed.0 (bounds_of l.xs) ++ tail_xs) (drop l.fn.passed.1 (bounds_of l.ys) ++ tail_ys) whole_xs whole_ys
       → AreBounds (kept ++ take l.written l.out) (drop l.first (bounds_of l.xs) ++ tail_xs) (drop l.second (bounds_of l.ys) ++ tail_ys) whole_xs whole_ys;
-  room : length l.out ≡ 512;
+  buffer : length l.out ≡ 512;
   first_within : l.first ≤ 2 * length l.xs;
   second_within : l.second ≤ 2 * length l.ys;
   even : (n : ℕ) × (l.first + l.second ≡ l.written + 2 * n);

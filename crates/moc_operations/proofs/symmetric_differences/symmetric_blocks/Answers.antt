@@ -2,11 +2,11 @@ use Rattle.std.proofs.Common.{ap}
 use Rattle.std.proofs.lemmas.Result.{IfOk-weaker}
 use Rattle.moc_blocks.specs.Private.Built.{ranges_of}
 use Rattle.moc_operations.proofs.Differing.{differing_start, differs_view}
-use Rattle.moc_operations.proofs.Bounds.{crossing_of}
+use Rattle.moc_operations.proofs.Bounds.{common_of}
 use Rattle.moc_operations.proofs.symmetric_differences.symmetric_blocks.Goals as goal
 
 pub loop-built-init : goal.loop-built-init
-loop-built-init c = crossing_of _ _ _ _ _ (differing_start _ _ _ (ap ranges_of c.in_ok-built.ensures) c.requires.xs c.requires.ys)
+loop-built-init c = common_of _ _ _ _ _ (differing_start _ _ _ (ap ranges_of c.in_ok-built.ensures) c.requires.xs c.requires.ys)
 
 pub symmetric_block-requires : goal.symmetric_block-requires
 symmetric_block-requires c = record { started = (c.args.xs, (c.args.ys, c.in_ok-push_shared_apart.ensures.on _ _ c.loop-built.invariant)) }

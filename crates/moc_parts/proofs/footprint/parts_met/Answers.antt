@@ -47,13 +47,13 @@ pub loop-b-preserved : goal.loop-b-preserved
 loop-b-preserved c =
     let b : ℕ = c.in-Some.b in
     let has : ℕ → Bool = λ n. nat_lt 0 (set.len (part_of c.args.operand.now n)) in
-    let previous = c.in-Some.ensures.found in
-    let low = previous.1 in (
+    let before = c.in-Some.ensures.found in
+    let low = before.1 in (
       omega arith,
       λ k l.
           inserted c.loop-b.parts c.insert-in-Some.new.self c.of-in-Some.result k c.insert-in-Some.ensures
           ∙ (λ i. nat_eq (c.of-in-Some.ensures i) k || c.loop-b.invariant.1 k l i)
-          ∙ hop c.loop-b.from b k (has k) previous.0 (λ e. ap has (sym e) ∙ previous.2) (c.in-Some.ensures.first k),
+          ∙ hop c.loop-b.from b k (has k) before.0 (λ e. ap has (sym e) ∙ before.2) (c.in-Some.ensures.first k),
     )
 
 pub returns-clause-parts : goal.returns-clause-parts

@@ -1,7 +1,7 @@
 use Rattle.std.proofs.Common.{◌≡◌, arith, ◌∙◌, sym, subst, ap, refl, ℕ, false, nat_eq}
 use Rattle.moc_ranges.specs.Operations.{part_of}
 use Rattle.moc_parts.proofs.Members.{clash}
-use Rattle.moc_parts.proofs.InsertingIntoParts.{lies_alone, met_alone}
+use Rattle.moc_parts.proofs.SingleParts.{lies_alone, met_alone}
 use Rattle.moc_parts.proofs.footprint.single_part.Goals as goal
 
 pub returns-clause-in_part : goal.returns-clause-in_part

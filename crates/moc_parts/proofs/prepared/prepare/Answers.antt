@@ -11,14 +11,14 @@ use Rattle.moc_parts.proofs.prepared.prepare.Goals as goal
 pub returns : goal.returns
 returns c =
     let cs : List Command = c.args.batch.now in
-    let sets : List NumberSet = given_sets c.args.previous.now in
-    let previous : NumberSet = union_of sets in
-    let after : c.answer_all.new.self.set ≡ set_after_all previous cs = c.in_ok-replies.ensures.set ∙ (λ i. set_after_all (c.from_lists-draft.ensures i).set (c.commands.ensures.commands i)) in
+    let sets : List NumberSet = given_sets c.args.before.now in
+    let before : NumberSet = union_of sets in
+    let after : c.in_ok-draft.draft.set ≡ set_after_all before cs = (λ i. (c.in_ok-draft.ensures.draft i).set) ∙ ap (λ (l : List Command). set_after_all before l) c.commands.ensures.commands in
     record {
-      determined = determined cs previous previous c.in_ok-replies.replies c.commands.ensures.valid (parts_within sets (lying_parts sets c.requires)) (λ i. previous)
-          (c.in_ok-replies.ensures.replies ∙ (λ i. replies_on (c.from_lists-draft.ensures i).set (c.commands.ensures.commands i)));
-      parts = λ b l. c.in_ok-lists.ensures b l ∙ ap (λ a. part_if (is_given c.args.previous.now b) a b) after;
+      determined = determined cs before before c.in_ok-draft.replies c.commands.ensures.valid (parts_within sets (lying_parts sets c.requires)) (λ i. before)
+          (c.in_ok-draft.ensures.replies ∙ ap (λ (l : List Command). replies_on before l) c.commands.ensures.commands);
+      parts = λ b l. c.in_ok-lists.ensures b l ∙ ap (λ a. part_if (is_given c.args.before.now b) a b) after;
     }
 
-pub from_lists-draft-requires-clause-parts : goal.from_lists-draft-requires-clause-parts
-from_lists-draft-requires-clause-parts c = lying_parts (given_sets c.args.previous.now) c.requires
+pub run-requires-clause-parts : goal.run-requires-clause-parts
+run-requires-clause-parts c = lying_parts (given_sets c.args.before.now) c.requires

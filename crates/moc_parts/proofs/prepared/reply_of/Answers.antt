@@ -1,4 +1,4 @@
-use Rattle.std.proofs.Common.{List, ◌∙◌}
+use Rattle.std.proofs.Common.{List, ap, ◌∙◌}
 use Rattle.moc_lists.specs.RangeList.{NumberSet}
 use Rattle.moc_parts.specs.declared.command.Command.{Command}
 use Rattle.moc_parts.specs.Batches.{replies_on}
@@ -11,9 +11,9 @@ use Rattle.moc_parts.proofs.prepared.reply_of.Goals as goal
 pub returns : goal.returns
 returns c =
     let cs : List Command = c.args.batch.now in
-    let previous : NumberSet = union_of (given_sets c.args.previous.now) in
-    replied cs previous previous c.in_ok-replies.replies c.commands.ensures.valid (parts_within (given_sets c.args.previous.now) (lying_parts (given_sets c.args.previous.now) c.requires.parts)) (λ i. previous)
-    (c.in_ok-replies.ensures.replies ∙ (λ i. replies_on (c.from_lists-draft.ensures i).set (c.commands.ensures.commands i)))
+    let before : NumberSet = union_of (given_sets c.args.before.now) in
+    replied cs before before c.in_ok-replies.replies c.commands.ensures.valid (parts_within (given_sets c.args.before.now) (lying_parts (given_sets c.args.before.now) c.requires.parts)) (λ i. before)
+    (c.in_ok-replies.ensures.replies ∙ ap (λ (l : List Command). replies_on before l) c.commands.ensures.commands)
 
-pub from_lists-draft-requires-clause-parts : goal.from_lists-draft-requires-clause-parts
-from_lists-draft-requires-clause-parts c = lying_parts (given_sets c.args.previous.now) c.requires.parts
+pub run-requires-clause-parts : goal.run-requires-clause-parts
+run-requires-clause-parts c = lying_parts (given_sets c.args.before.now) c.requires.parts

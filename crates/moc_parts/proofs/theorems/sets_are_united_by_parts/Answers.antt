@@ -5,5 +5,5 @@ pub returns : goal.returns
 returns c = record {
   parts = lying_parts;
   within = λ sets lie. parts_within sets (lying_parts sets lie);
-  previous = contains_by_part;
+  contains = contains_by_part;
 }

@@ -1,5 +1,5 @@
 use Rattle.std.proofs.Common.{◌≡◌, drop}
-use Rattle.moc_ranges.specs.Faults.{first_error, first_error_of, pair_error}
+use Rattle.moc_ranges.specs.Errors.{first_error, first_error_of, pair_error}
 use Rattle.moc_ranges.proofs.from_ranges.check_pairs.Given as goal
 
 abbrev pub invariant-loop-at : goal.invariant-loop-at

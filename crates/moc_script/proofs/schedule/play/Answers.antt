@@ -1,7 +1,7 @@
 -- The machine is empty at first.
 use Rattle.std.proofs.Common.{subst, refl, inl, arith, ℕ, [], Err}
 use Rattle.std.specs.Result.{OnOk}
-use Rattle.moc_devices.specs.Devices.{Reading, Writing}
+use Rattle.moc_devices.specs.Devices.{SourceState, SinkState}
 use Rattle.moc_devices.specs.Lemmas.{Accepts-nil, Delivers-nil}
 use Rattle.moc_lines.specs.Runs.{Rules, script_text, line_limit, AnswersAll, Runs}
 use Rattle.moc_lines.specs.declared.run_error.RunError.TheVariants.{Memory}
@@ -9,7 +9,7 @@ use Rattle.moc_script.specs.Schedules.{Schedule, schedule_rules}
 use Rattle.moc_script.proofs.schedule.play.Goals as goal
 
 -- nothing was read or written
-unstarted : {S : Type 0} (limit : ℕ) (rules : Rules S) (s : S) (a : Reading) (w : Writing) → Runs limit rules s a a w w (Err (Memory 0))
+unstarted : {S : Type 0} (limit : ℕ) (rules : Rules S) (s : S) (a : SourceState) (w : SinkState) → Runs limit rules s a a w w (Err (Memory 0))
 unstarted limit rules s a w = record {
   input = [];
   output = [];

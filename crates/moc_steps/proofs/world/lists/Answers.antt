@@ -34,10 +34,10 @@ loop-b-preserved c =
 pub returns : goal.returns
 returns c =
     let xs : List (Option (Bor NumberSet)) = c.loop-b.lists in
-    let previous : List (Option NumberSet) = map (λ s. Some s) c.args.parts.now in
+    let taken_lists : List (Option NumberSet) = map (λ s. Some s) c.args.parts.now in
     let end : c.loop-b.b ≡ length c.args.parts.now = (let low = c.loop-b-test.false in let high = c.loop-b.auto.b-end in omega arith) in
     let at : c.loop-b.b ≡ 12 = end ∙ c.requires in
     previous_copied xs
-    ∙ ap contents_of (copied_all xs previous c.loop-b.invariant.0 (length-map (λ s. Some s) c.args.parts.now ∙ c.requires)
-    (subst (λ n. (k : ℕ) → get_or (map option_copied xs) k None ≡ cond (nat_lt k n) (get_or previous k None) None) at c.loop-b.invariant.1))
+    ∙ ap contents_of (copied_all xs taken_lists c.loop-b.invariant.0 (length-map (λ s. Some s) c.args.parts.now ∙ c.requires)
+    (subst (λ n. (k : ℕ) → get_or (map option_copied xs) k None ≡ cond (nat_lt k n) (get_or taken_lists k None) None) at c.loop-b.invariant.1))
     ∙ noted c.args.parts.now

@@ -2,7 +2,7 @@ use Rattle.std.proofs.Common.{◌∙◌, arith, ap, List, ℕ, refl, subst, sym}
 use Rattle.moc_blocks.specs.RangeList.{IsNormal}
 use Rattle.moc_blocks.specs.Blocks.{concat}
 use Rattle.moc_blocks.specs.Private.Blocks.{width_of}
-use Rattle.moc_blocks.specs.Private.Added.{IsInserted}
+use Rattle.moc_blocks.specs.Private.Added.{HasRangeInserted}
 use Rattle.moc_blocks.proofs.Passing.{all_ranges-blocks}
 use Rattle.moc_blocks.specs.Private.Built.{EndsBelow}
 use Rattle.moc_blocks.proofs.Adding.{some_of, node_normal, run_normal, one_wider, regrown_all}
@@ -17,13 +17,13 @@ with_range-requires-clause-normal c =
 
 pub overflow_sub-added : goal.overflow_sub-added
 overflow_sub-added c =
-    let more : IsInserted c.args.from c.args.to c.in-Some.place.run.now c.in_ok-ranges.ranges.items = subst (λ (l : List (ℕ × ℕ)). IsInserted c.args.from c.args.to l c.in_ok-ranges.ranges.items) c.ranges-2.ensures.value c.in_ok-ranges.ensures in
+    let more : HasRangeInserted c.args.from c.args.to c.in-Some.place.run.now c.in_ok-ranges.ranges.items = subst (λ (l : List (ℕ × ℕ)). HasRangeInserted c.args.from c.args.to l c.in_ok-ranges.ranges.items) c.ranges-2.ensures.value c.in_ok-ranges.ensures in
     let normal = run_normal (concat c.args.around.now.before.now) c.blocks-2.result.now c.args.around.now.run.now c.in-Some.place.before.now c.in-Some.place.after.now (concat c.args.around.now.after.now) c.in-Some.place.run.now c.blocks-2.ensures.value c.in-Some.ensures.parts c.requires.normal in
     omega (arith, one_wider c.args.from c.args.to _ _ normal more, c.width_of_ranges.ensures, ap width_of c.deref.ensures.value, c.size.ensures.value)
 
 pub returns : goal.returns
 returns c =
-    let more : IsInserted c.args.from c.args.to c.in-Some.place.run.now c.in_ok-ranges.ranges.items = subst (λ (l : List (ℕ × ℕ)). IsInserted c.args.from c.args.to l c.in_ok-ranges.ranges.items) c.ranges-2.ensures.value c.in_ok-ranges.ensures in
+    let more : HasRangeInserted c.args.from c.args.to c.in-Some.place.run.now c.in_ok-ranges.ranges.items = subst (λ (l : List (ℕ × ℕ)). HasRangeInserted c.args.from c.args.to l c.in_ok-ranges.ranges.items) c.ranges-2.ensures.value c.in_ok-ranges.ensures in
     let normal = run_normal (concat c.args.around.now.before.now) c.blocks-2.result.now c.args.around.now.run.now c.in-Some.place.before.now c.in-Some.place.after.now (concat c.args.around.now.after.now) c.in-Some.place.run.now c.blocks-2.ensures.value c.in-Some.ensures.parts c.requires.normal in
     let cut = some_of _ _ _ c.in-Some-2.is c.in_ok-cut.ensures in
     let parts = sym c.blocks-2.ensures.value ∙ c.in-Some.ensures.parts in
@@ -36,5 +36,5 @@ returns c =
           (subst (λ (l : List (ℕ × ℕ)). EndsBelow c.args.from l) (all_ranges-blocks c.in-Some.place.before.now) c.in-Some.ensures.below)
           (omega (arith, c.if-start_of_next-to.false, c.start_of_next.ensures))
           more (omega (arith, one_wider c.args.from c.args.to _ _ normal more, c.width_of_ranges.ensures, ap width_of c.deref.ensures.value, c.size.ensures.value))
-          c.length_of_last-front.ensures c.length_of_next-back.ensures cut refl;
+          c.ranges_in_last-front.ensures c.ranges_in_next-back.ensures cut refl;
     }

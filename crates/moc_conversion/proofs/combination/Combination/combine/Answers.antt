@@ -1,7 +1,8 @@
-use Rattle.std.proofs.Common.{ℕ, List, Some, ◌⊎◌, subst}
+use Rattle.std.proofs.Common.{◌≡◌, ◌⊎◌, ℕ, List, Some, subst}
 use Rattle.moc_forms.specs.Combining.{TextRepresents}
 use Rattle.moc_forms.specs.Finding.{format_for}
-use Rattle.moc_conversion.specs.Conversion.{IsOutOfMemory, ReportsError}
+use Rattle.moc_conversion.specs.Conversion.{ReportsError}
+use Rattle.moc_conversion.specs.declared.error.InputError.TheVariants.{Memory}
 use Rattle.moc_conversion.proofs.Checks.{passed_on}
 use Rattle.moc_conversion.proofs.combination.Combination.combine.Goals as goal
 
@@ -16,5 +17,5 @@ pub returns-in_err-parsed-clause-reported : goal.returns-in_err-parsed-clause-re
 returns-in_err-parsed-clause-reported c =
     let reported = c.in_err-parsed.field-0.0 in
     passed_on c.from_residual.result reported _ c.from_residual.ensures.1
-    (subst (λ (bytes : List ℕ). IsOutOfMemory reported ⊎ ReportsError (format_for c.args.self.now.choice bytes) bytes (Some c.args.self.now.number) reported) c.deref.ensures.value
+    (subst (λ (bytes : List ℕ). (reported ≡ Memory) ⊎ ReportsError (format_for c.args.self.now.choice bytes) bytes (Some c.args.self.now.number) reported) c.deref.ensures.value
     c.in_err-parsed.ensures.reported)

@@ -8,7 +8,7 @@ use Rattle.moc_conversion.proofs.combination.Combination.finish.Goals as goal
 pub returns-in_default-clause-error : goal.returns-in_default-clause-error
 returns-in_default-clause-error c =
     let bare : c.args.self.now.before ≡ None = grind (arith, common_steps) in
-    IfErr-weaker c.combine.result _ _ (λ diagnostic reported. last_fails c.args.self.now diagnostic c.requires (inl bare) reported) c.combine.ensures.reported
+    IfErr-weaker c.combine.result _ _ (λ e reported. last_fails c.args.self.now e c.requires (inl bare) reported) c.combine.ensures.reported
 
 pub returns-in_default-clause-represents : goal.returns-in_default-clause-represents
 returns-in_default-clause-represents c =
@@ -24,7 +24,7 @@ returns-then-is_blank-clause-represents c =
 pub returns-clause-error : goal.returns-clause-error
 returns-clause-error c =
     let written : are_blanks c.args.self.now.text.items ≡ false = ap are_blanks (sym c.deref.ensures.value) ∙ sym c.is_blank.ensures ∙ c.if-is_blank.false in
-    IfErr-weaker c.combine-2.result _ _ (λ diagnostic reported. last_fails c.args.self.now diagnostic c.requires (inr written) reported) c.combine-2.ensures.reported
+    IfErr-weaker c.combine-2.result _ _ (λ e reported. last_fails c.args.self.now e c.requires (inr written) reported) c.combine-2.ensures.reported
 
 pub returns-clause-represents : goal.returns-clause-represents
 returns-clause-represents c =

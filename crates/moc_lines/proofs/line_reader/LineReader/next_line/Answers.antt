@@ -1,25 +1,29 @@
 -- A part of a line was found, the line was ended, or it is too long.
 use Rattle.std.proofs.Common.{◌≡◌, ℕ, zero, suc, ◌<◌, ◌≤◌, ◌||◌, Bool, true, false, eqb, List, [], ◌∷◌, length, sym, ap, ◌∙◌, Err, refl, arith, length-append}
 use Rattle.std.proofs.lemmas.Bool.{ltb-true, ltb-false, eqb-true}
-use Rattle.moc_lines.specs.declared.reading.ScriptInputError.{ScriptInputError}
-use Rattle.moc_lines.specs.declared.reading.ScriptInputError.TheVariants.{Read, TooLong, Memory}
+use Rattle.moc_lines.specs.declared.run_error.RunError.{RunError}
+use Rattle.moc_lines.specs.declared.run_error.RunError.TheVariants.{Read, Write, LineTooLong, Memory, Spawn}
 use Rattle.moc_lines.specs.Private.LineReading.{FailsPart, IsOfLine, ReadsLine}
 use Rattle.std.specs.List.{count_by}
 use Rattle.moc_text.specs.Lines.{is_line_feed}
 use Rattle.moc_lines.specs.Private.ReaderState.{ReaderState}
-use Rattle.moc_devices.specs.Devices.{Reading}
+use Rattle.moc_devices.specs.Devices.{SourceState}
 use Rattle.moc_lines.proofs.Turns.{HasNotEnded-later, Turn, Turn-brought, Turn-line, Turn-more, Turn-none, Turn-too_long}
 use Rattle.moc_lines.proofs.line_reader.LineReader.next_line.Goals as goal
 
-after_error : (limit : ℕ) (old now next : ReaderState) (a b : Reading) → Turn limit old a now b → (number : ℕ) (fault : ScriptInputError)
-    → FailsPart number limit now fault → 0 < length now.unread → ReadsLine limit old a next b (Err fault)
+after_error : (limit : ℕ) (old now next : ReaderState) (a b : SourceState) → Turn limit old a now b → (number : ℕ) (error : RunError)
+    → FailsPart number limit now error → 0 < length now.unread → ReadsLine limit old a next b (Err error)
 after_error limit old now next a b turn number Read fails some = absurd fails
-after_error limit old now next a b turn number (TooLong line) fails some = Turn-too_long limit old now next a b turn line fails.1
+after_error limit old now next a b turn number Write fails some = absurd fails
+after_error limit old now next a b turn number Spawn fails some = absurd fails
+after_error limit old now next a b turn number (LineTooLong line) fails some = Turn-too_long limit old now next a b turn line fails.1
 after_error limit old now next a b turn number (Memory line) fails some = (turn.came, turn.consumed, rw turn.parts (omega (arith, some, length-append now.line now.unread)))
 
-of_line : (number limit : ℕ) (now : ReaderState) (fault : ScriptInputError) → FailsPart number limit now fault → IsOfLine number fault
-of_line number limit now Read fails = tt
-of_line number limit now (TooLong line) fails = fails.0
+of_line : (number limit : ℕ) (now : ReaderState) (error : RunError) → FailsPart number limit now error → IsOfLine number error
+of_line number limit now Read fails = absurd fails
+of_line number limit now Write fails = absurd fails
+of_line number limit now Spawn fails = absurd fails
+of_line number limit now (LineTooLong line) fails = fails.0
 of_line number limit now (Memory line) fails = fails
 
 none : (xs : List ℕ) → length xs ≤ 0 → xs ≡ []
@@ -58,10 +62,10 @@ pub returns-in-Err-take_part-clause-takes : goal.returns-in-Err-take_part-clause
 returns-in-Err-take_part-clause-takes g c =
     let part = c.in-Err-take_part.ensures in
     let turn = Turn-brought _ _ _ _ _ _ _ c.loop-self.invariant.turn c.fill_chunk.ensures.reads_more in
-    after_error _ _ _ c.take_part.new.self _ _ turn c.args.number c.in-Err-take_part.fault part.fails (ltb-true _ _ (sym c.in-Ok-true.ensures.some ∙ c.in-Ok-true.field-0-test))
+    after_error _ _ _ c.take_part.new.self _ _ turn c.args.number c.in-Err-take_part.error part.fails (ltb-true _ _ (sym c.in-Ok-true.ensures.some ∙ c.in-Ok-true.field-0-test))
 
 pub returns-in-Err-take_part-clause-number : goal.returns-in-Err-take_part-clause-number
-returns-in-Err-take_part-clause-number g c = of_line c.args.number 1048576 c.fill_chunk.new.self c.in-Err-take_part.fault c.in-Err-take_part.ensures.fails
+returns-in-Err-take_part-clause-number g c = of_line c.args.number 1048576 c.fill_chunk.new.self c.in-Err-take_part.error c.in-Err-take_part.ensures.fails
 
 pub returns-in-Err : goal.returns-in-Err
 returns-in-Err g c =

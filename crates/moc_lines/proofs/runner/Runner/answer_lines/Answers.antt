@@ -2,7 +2,7 @@
 use Rattle.std.proofs.Common.{◌≡◌, ◌∙◌, inl, sym, refl, arith}
 use Rattle.moc_devices.specs.Lemmas.{Delivers-nil, FlushesNothing-none, FlushesNothing-later}
 use Rattle.moc_lines.proofs.Outcomes.{at_ok, unmarked}
-use Rattle.moc_lines.proofs.Progress.{at_line_kind, Progress-permits, Progress-start, Progress-sent, Progress-line, ReachedEnd-nothing, ReachedEnd-last, Ended-fault, Ended-refused, Ended-uncounted, Ended-closed, Ended-write}
+use Rattle.moc_lines.proofs.Progress.{at_line_kind, Progress-permits, Progress-start, Progress-sent, Progress-line, ReachedEnd-nothing, ReachedEnd-last, Ended-error, Ended-refused, Ended-uncounted, Ended-closed, Ended-write}
 use Rattle.moc_lines.proofs.Turns.{HasNotEnded-later}
 use Rattle.moc_lines.proofs.runner.Runner.answer_lines.Goals as goal
 
@@ -28,7 +28,7 @@ returns-then-is_err-clause-ended g c = Ended-write _ _ _ _ _ _ _ _ _ _ _ _ _ _ c
 pub returns-in-Err-clause-ended : goal.returns-in-Err-clause-ended
 returns-in-Err-clause-ended g c =
     let sent = Progress-sent _ _ _ _ _ _ _ _ _ c.loop-line.self.lines c.send_if_due.new.self.lines _ _ _ _ c.send_if_due.result c.loop-line.invariant.progress (sym c.is_err.ensures.value ∙ c.if-is_err.false) c.send_if_due.ensures.sends c.send_if_due.ensures.lines c.next_line.ensures.pending in
-    rw c.from.ensures (Ended-fault _ _ _ _ _ _ _ _ _ c.send_if_due.new.self.lines c.next_line.new.self.lines _ _ sent c.in-Err.fault c.in-Err.ensures.takes c.in-Err.ensures.number _ refl)
+    Ended-error _ _ _ _ _ _ _ _ _ c.send_if_due.new.self.lines c.next_line.new.self.lines _ _ sent c.in-Err.error c.in-Err.ensures.takes c.in-Err.ensures.number _ refl
 
 pub returns-in-Ok-EndOfInput-clause-ended : goal.returns-in-Ok-EndOfInput-clause-ended
 returns-in-Ok-EndOfInput-clause-ended g c =

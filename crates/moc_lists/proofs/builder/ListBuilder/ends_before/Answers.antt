@@ -1,5 +1,7 @@
+use Rattle.std.proofs.Common.{subst, sym}
+use Rattle.moc_blocks.specs.RangeList.{IsNormal}
 use Rattle.moc_blocks.proofs.Building.{ranges_normal}
 use Rattle.moc_lists.proofs.builder.ListBuilder.ends_before.Goals as goal
 
-pub ends_before-requires : goal.ends_before-requires
-ends_before-requires c = ranges_normal _ _ _ c.self.invariant
+pub end_below-requires : goal.end_below-requires
+end_below-requires c = subst IsNormal (sym c.deref.ensures.value) (ranges_normal _ _ _ c.self.invariant)

@@ -1,5 +1,5 @@
 use Rattle.std.proofs.Common.{[], List, ℕ, sym, subst, arith, slice_set, ◌-◌}
-use Rattle.moc_blocks.specs.Private.Added.{IsInsertion}
+use Rattle.moc_blocks.specs.Private.Added.{AddsRange}
 use Rattle.moc_blocks.specs.Blocks.{concat}
 use Rattle.moc_blocks.specs.Private.Blocks.{IsStored}
 use Rattle.moc_blocks.proofs.Blocking.{few_ranges, width_bounded}
@@ -35,4 +35,4 @@ pub returns-clause-inserted : goal.returns-clause-inserted
 returns-clause-inserted c =
     let stored = subst (λ (l : List (List (List (ℕ × ℕ)))). IsStored [] l) (sym c.self.view_is) c.requires.stored in
     let put = gap_put c.args.from c.args.to _ _ _ _ _ c.self.inside.nodes.items c.deref.result.now _ c.index_mut.result.now c.insert.new.self c.requires.filled stored c.self.invariant c.deref.ensures.value c.in-Some.ensures c.index_mut.ensures.value (on_true _ c.if-not-branch.false c.in_ok-insert.ensures.put) in
-    subst (λ (l : List (List (List (ℕ × ℕ)))). IsInsertion c.args.from c.args.to (concat (concat l)) (concat (concat (slice_set c.self.inside.nodes.items c.in-Some.field-0.node c.insert.new.self))) (c.args.to - c.args.from)) c.self.view_is put.growing_list
+    subst (λ (l : List (List (List (ℕ × ℕ)))). AddsRange c.args.from c.args.to (concat (concat l)) (concat (concat (slice_set c.self.inside.nodes.items c.in-Some.field-0.node c.insert.new.self))) (c.args.to - c.args.from)) c.self.view_is put.is_insertion

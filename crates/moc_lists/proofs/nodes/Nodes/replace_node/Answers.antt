@@ -1,6 +1,6 @@
 use Rattle.std.proofs.Common.{◌<◌, [], ◌∷◌, List, ℕ, length, refl, sym, subst, ap, arith}
 use Rattle.moc_blocks.specs.Private.Blocks.{IsStored}
-use Rattle.moc_blocks.proofs.Replacing.{node_part, kept_renewed, renewed_bounds, one_count}
+use Rattle.moc_blocks.proofs.Replacing.{node_part, node_edit_index, node_edit_bounds, one_count}
 use Rattle.moc_blocks.proofs.Places.{starts_length, starts_fit, placed_one, stored_blocks}
 use Rattle.moc_lists.proofs.nodes.Nodes.replace_node.Goals as goal
 
@@ -16,14 +16,14 @@ shift_after-requires-clause-fits c =
 
 pub overflow_add-self : goal.overflow_add-self
 overflow_add-self c =
-    omega (arith, (renewed_bounds c.self.inside.nodes.items c.args.self.now (c.args.node ∷ []) c.args.place _ c.args.added _ _ _ _ _ c.self.view_is c.self.invariant (omega (arith, ap length c.self.view_is, c.requires.place)) c.index.ensures c.count.ensures.value (one_count c.args.node _ refl) c.requires.stored c.requires.grows).0)
+    omega (arith, (node_edit_bounds c.self.inside.nodes.items c.args.self.now (c.args.node ∷ []) c.args.place _ c.args.added _ _ _ _ _ c.self.view_is c.self.invariant (omega (arith, ap length c.self.view_is, c.requires.place)) c.index.ensures c.count.ensures.value (one_count c.args.node _ refl) c.requires.stored c.requires.grows).0)
 
 pub overflow_add-self-2 : goal.overflow_add-self-2
 overflow_add-self-2 c =
-    omega (arith, (renewed_bounds c.self.inside.nodes.items c.args.self.now (c.args.node ∷ []) c.args.place _ c.args.added _ _ _ _ _ c.self.view_is c.self.invariant (omega (arith, ap length c.self.view_is, c.requires.place)) c.index.ensures c.count.ensures.value (one_count c.args.node _ c.count-2.ensures.value) c.requires.stored c.requires.grows).1)
+    omega (arith, (node_edit_bounds c.self.inside.nodes.items c.args.self.now (c.args.node ∷ []) c.args.place _ c.args.added _ _ _ _ _ c.self.view_is c.self.invariant (omega (arith, ap length c.self.view_is, c.requires.place)) c.index.ensures c.count.ensures.value (one_count c.args.node _ c.count-2.ensures.value) c.requires.stored c.requires.grows).1)
 
 pub invariant_of-self : goal.invariant_of-self
 invariant_of-self c =
     let there : c.args.place < length c.self.inside.nodes.items = omega (arith, ap length c.self.view_is, c.requires.place) in
-    kept_renewed c.self.inside.nodes.items c.args.self.now (c.args.node ∷ []) _ _ _ c.args.place _ c.args.added _ _ _ c.index.result.now c.self.view_is c.self.invariant there c.index.ensures c.count.ensures.value (one_count c.args.node _ c.count-2.ensures.value) c.requires.grows c.replace_with_one.ensures
+    node_edit_index c.self.inside.nodes.items c.args.self.now (c.args.node ∷ []) _ _ _ c.args.place _ c.args.added _ _ _ c.index.result.now c.self.view_is c.self.invariant there c.index.ensures c.count.ensures.value (one_count c.args.node _ c.count-2.ensures.value) c.requires.grows c.replace_with_one.ensures
     (placed_one c.self.inside.nodes.items c.self.inside.starts.items _ c.args.place _ _ c.index-2.result.now c.args.node c.self.invariant.placed there c.index-2.ensures (ap length c.blocks-blocks.ensures.value) (ap length c.blocks-2.ensures.value) c.shift_after.ensures.shift_starts)

@@ -1,7 +1,7 @@
 use Rattle.std.proofs.Common.{◌<◌, ◌+◌, [], ◌∷◌, List, ℕ, length, get_or, sym, subst, ap, ◌∙◌, arith}
 use Rattle.std.specs.Prelude.{vec_len, vec_capacity}
 use Rattle.moc_blocks.specs.Private.Blocks.{AreNodes, IsStored}
-use Rattle.moc_blocks.proofs.Replacing.{node_part, kept_renewed, renewed_bounds, two_count}
+use Rattle.moc_blocks.proofs.Replacing.{node_part, node_edit_index, node_edit_bounds, two_count}
 use Rattle.moc_blocks.proofs.Places.{starts_length, starts_fit, start_bound, placed_two, stored_blocks}
 use Rattle.moc_lists.proofs.nodes.Nodes.replace_with_two.Goals as goal
 
@@ -17,7 +17,7 @@ overflow_add-start c =
 
 pub overflow_add-ranges : goal.overflow_add-ranges
 overflow_add-ranges c =
-    omega (arith, (renewed_bounds c.self.inside.nodes.items c.args.self.now (c.args.first ∷ (c.args.second ∷ [])) c.args.place _ c.args.added _ _ _ _ _ c.self.view_is c.self.invariant (omega (arith, ap length c.self.view_is, c.requires.place)) c.index.ensures c.count.ensures.value (two_count c.args.first c.args.second _ _ c.count-2.ensures.value c.count-3.ensures.value) c.requires.stored c.requires.grows).1)
+    omega (arith, (node_edit_bounds c.self.inside.nodes.items c.args.self.now (c.args.first ∷ (c.args.second ∷ [])) c.args.place _ c.args.added _ _ _ _ _ c.self.view_is c.self.invariant (omega (arith, ap length c.self.view_is, c.requires.place)) c.index.ensures c.count.ensures.value (two_count c.args.first c.args.second _ _ c.count-2.ensures.value c.count-3.ensures.value) c.requires.stored c.requires.grows).1)
 
 pub invariant_of-self : goal.invariant_of-self
 invariant_of-self c = subst (λ (l : List ℕ). AreNodes l c.self.inside.size c.self.inside.count c.self.inside.nodes.items) (sym c.reserve.ensures.items) c.self.invariant
@@ -34,17 +34,17 @@ insert-requires c = omega (arith, ap length c.self.view_is, c.requires.place, ap
 
 pub overflow_add-self : goal.overflow_add-self
 overflow_add-self c =
-    omega (arith, (renewed_bounds c.self.inside.nodes.items c.args.self.now (c.args.first ∷ (c.args.second ∷ [])) c.args.place _ c.args.added _ _ _ _ _ c.self.view_is c.self.invariant (omega (arith, ap length c.self.view_is, c.requires.place)) c.index.ensures c.count.ensures.value (two_count c.args.first c.args.second _ _ c.count-2.ensures.value c.count-3.ensures.value) c.requires.stored c.requires.grows).0)
+    omega (arith, (node_edit_bounds c.self.inside.nodes.items c.args.self.now (c.args.first ∷ (c.args.second ∷ [])) c.args.place _ c.args.added _ _ _ _ _ c.self.view_is c.self.invariant (omega (arith, ap length c.self.view_is, c.requires.place)) c.index.ensures c.count.ensures.value (two_count c.args.first c.args.second _ _ c.count-2.ensures.value c.count-3.ensures.value) c.requires.stored c.requires.grows).0)
 
 pub overflow_add-self-2 : goal.overflow_add-self-2
 overflow_add-self-2 c =
-    omega (arith, (renewed_bounds c.self.inside.nodes.items c.args.self.now (c.args.first ∷ (c.args.second ∷ [])) c.args.place _ c.args.added _ _ _ _ _ c.self.view_is c.self.invariant (omega (arith, ap length c.self.view_is, c.requires.place)) c.index.ensures c.count.ensures.value (two_count c.args.first c.args.second _ _ c.count-2.ensures.value c.count-3.ensures.value) c.requires.stored c.requires.grows).1)
+    omega (arith, (node_edit_bounds c.self.inside.nodes.items c.args.self.now (c.args.first ∷ (c.args.second ∷ [])) c.args.place _ c.args.added _ _ _ _ _ c.self.view_is c.self.invariant (omega (arith, ap length c.self.view_is, c.requires.place)) c.index.ensures c.count.ensures.value (two_count c.args.first c.args.second _ _ c.count-2.ensures.value c.count-3.ensures.value) c.requires.stored c.requires.grows).1)
 
 pub invariant_of-self-2 : goal.invariant_of-self-2
 invariant_of-self-2 c =
     let there : c.args.place < length c.self.inside.nodes.items = omega (arith, ap length c.self.view_is, c.requires.place) in
-    let room : vec_len c.shift_after.new.starts < vec_capacity c.shift_after.new.starts = omega (arith, c.shift_after.ensures.len, c.shift_after.ensures.capacity, c.in_ok-reserve.ensures.ok) in
-    kept_renewed c.self.inside.nodes.items c.args.self.now (c.args.first ∷ (c.args.second ∷ [])) _ _ _ c.args.place _ c.args.added _ _ _ c.index.result.now c.self.view_is c.self.invariant there c.index.ensures c.count.ensures.value (two_count c.args.first c.args.second _ _ c.count-2.ensures.value c.count-3.ensures.value) c.requires.grows c.in_ok-replace_with_two.ensures.new
+    let capacity : vec_len c.shift_after.new.starts < vec_capacity c.shift_after.new.starts = omega (arith, c.shift_after.ensures.len, c.shift_after.ensures.capacity, c.in_ok-reserve.ensures.ok) in
+    node_edit_index c.self.inside.nodes.items c.args.self.now (c.args.first ∷ (c.args.second ∷ [])) _ _ _ c.args.place _ c.args.added _ _ _ c.index.result.now c.self.view_is c.self.invariant there c.index.ensures c.count.ensures.value (two_count c.args.first c.args.second _ _ c.count-2.ensures.value c.count-3.ensures.value) c.requires.grows c.in_ok-replace_with_two.ensures.new
     (placed_two c.self.inside.nodes.items c.reserve.new.self.items c.shift_after.new.starts.items _ c.args.place c.index-3.result.now _ _ _ c.index-2.result.now c.args.first c.args.second _
     (c.reserve.ensures.items ∙ c.self.invariant.placed) there c.index-2.ensures (ap length c.blocks-blocks.ensures.value) (c.index-3.ensures ∙ ap (λ (l : List ℕ). get_or l c.args.place c.index-3.result.now) (sym c.reserve.ensures.items))
-    (ap length c.blocks-2.ensures.value) (λ i. length (c.blocks-3.ensures.value i) + length (c.blocks-4.ensures.value i)) c.shift_after.ensures.shift_starts (c.insert.ensures.succeeds room) c.insert.ensures.items)
+    (ap length c.blocks-2.ensures.value) (λ i. length (c.blocks-3.ensures.value i) + length (c.blocks-4.ensures.value i)) c.shift_after.ensures.shift_starts (c.insert.ensures.succeeds capacity) c.insert.ensures.items)

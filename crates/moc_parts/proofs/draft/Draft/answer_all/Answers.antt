@@ -21,5 +21,5 @@ loop-command-preserved c =
       c.in_ok-answer.ensures.set ∙ ap (λ s. set_after s command) now ∙ sym (ap (λ xs. set_after_all a xs) more ∙ set_after-last a (take n cs) command),
       c.in_ok-push.ensures ∙ (λ i. c.loop-command.invariant.1 i ++ ((c.in_ok-answer.ensures.reply ∙ ap (λ s. reply_on s command) now) i ∷ []))
           ∙ sym (ap (λ xs. replies_on a xs) more ∙ replies-last a (take n cs) command),
-      c.answer.ensures.previous ∙ c.loop-command.invariant.2,
+      c.answer.ensures.before ∙ c.loop-command.invariant.2,
     )

@@ -6,4 +6,4 @@ abbrev pub invariant-loop-command : goal.invariant-loop-command
 invariant-loop-command l =
     (l.self.set ≡ set_after_all l.fn.self.set (take l.command-index l.commands))
     × (l.replies ≡ replies_on l.fn.self.set (take l.command-index l.commands))
-    × (l.self.previous ≡ l.fn.self.previous)
+    × (l.self.before ≡ l.fn.self.before)

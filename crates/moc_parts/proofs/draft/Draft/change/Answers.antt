@@ -69,7 +69,7 @@ loop-part-preserved-in-Continue-branch-3 c =
       b + 1,
       turn_done change old c.loop-part.self.set _ c.loop-part.changed_pixels c.in-Some-2.field-0.pixels b c.next.new.self turn
           (c.in_ok-put.ensures.set ∙ (λ i. with_part (turn.half i) b (list i)) ∙ with_next new old b) more,
-      c.in_ok-put.ensures.previous ∙ c.loop-part.invariant.2,
+      c.in_ok-put.ensures.before ∙ c.loop-part.invariant.2,
     )
 
 pub loop-part-preserved : goal.loop-part-preserved
@@ -93,4 +93,4 @@ pub returns : goal.returns
 returns c =
     let end = walk_ends c.args.change.now c.requires c.args.self.now.set c.loop-part.self.set c.loop-part.changed_pixels c.loop-part.invariant.0 c.loop-part.part-iterator c.prove_in_sky.ensures
     c.in-None.ensures.steps.0 c.loop-part.invariant.1 in
-    record { set = end.0; changed_pixels = end.1; within = c.prove_in_sky.ensures; previous = c.loop-part.invariant.2 }
+    record { set = end.0; changed_pixels = end.1; within = c.prove_in_sky.ensures; before = c.loop-part.invariant.2 }

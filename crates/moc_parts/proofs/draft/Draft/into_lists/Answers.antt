@@ -23,7 +23,7 @@ pub loop-part-preserved : goal.loop-part-preserved
 loop-part-preserved c =
     let b : ℕ = c.loop-part.part-index in
     let given = c.args.given.now in
-    let previous : List (Bor NumberSet) = c.self.inside.previous in
+    let before : List (Bor NumberSet) = c.self.inside.before in
     let new_lists : List (Option NumberSet) = c.self.inside.new_lists in
     let lists : List (Option NumberSet) = c.loop-part.lists in
     let set_now : NumberSet = c.args.self.set in
@@ -42,20 +42,20 @@ loop-part-preserved c =
     elim c.if-is_none.branch [
       | then-is_none w ↦ left_out (w.lists-is ∙ w.clear.ensures ∙ ap (λ n. set_at lists n None) part) w.if-is_none.true
       | else-is_none+then-is_none-2+in_ok-try_copy+in_ok-put w ↦
-          let item : Bor NumberSet = w.index-previous-b.result in
-          let list : Bor NumberSet = get_or previous c.index-b.result item in
-          let many : length previous ≡ 12 = sym (length-map previous (λ l. l.now)) ∙ previous_twelve (sets_of previous) new_lists c.self.invariant.0 in
+          let item : Bor NumberSet = w.index-before-b.result in
+          let list : Bor NumberSet = get_or before c.index-b.result item in
+          let many : length before ≡ 12 = sym (length-map before (λ l. l.now)) ∙ previous_twelve (sets_of before) new_lists c.self.invariant.0 in
           let copied : w.in_ok-try_copy.field-0 ≡ part_of set_now b =
           w.in_ok-try_copy.ensures.same
-          ∙ previous_part previous new_lists b (option_copied w.get.result) list c.self.invariant.0 c.self.invariant.1 c.loop-part-test.true (w.get.ensures ∙ ap (λ n. get_or lists n None) part ∙ same)
+          ∙ previous_part before new_lists b (option_copied w.get.result) list c.self.invariant.0 c.self.invariant.1 c.loop-part-test.true (w.get.ensures ∙ ap (λ n. get_or lists n None) part ∙ same)
           (some_copied w.get.result ∙ w.is_none-else-is_none.ensures ∙ ap not w.if-is_none-2.true)
-          (ap (λ n. get_or previous n item) at ∙ get_or_default previous b item list (subst (λ n. b < n) (sym many) c.loop-part-test.true))
+          (ap (λ n. get_or before n item) at ∙ get_or_default before b item list (subst (λ n. b < n) (sym many) c.loop-part-test.true))
           ∙ ap (λ d. part_of d.set b) c.self.view_is in
           one_done new_lists lists next is b (Some w.in_ok-try_copy.field-0) c.loop-part-test.true (w.lists-is ∙ w.in_ok-put.ensures.put ∙ ap (λ n. set_at lists n (Some w.in_ok-try_copy.field-0)) part)
           (ap Some copied ∙ sym (ap (λ t. part_if t set_now b) (given_is ∙ ap not w.if-is_none.false))) inv
       | else-is_none+else-is_none-2 w ↦ none_done new_lists lists next is b w.lists-is
           (ap (λ n. get_or lists n None) (sym part) ∙ sym w.get.ensures
-          ∙ single_part (sets_of previous) new_lists b (option_copied w.get.result) c.self.invariant.0 c.self.invariant.1 c.loop-part-test.true (w.get.ensures ∙ ap (λ n. get_or lists n None) part ∙ same)
+          ∙ single_part (sets_of before) new_lists b (option_copied w.get.result) c.self.invariant.0 c.self.invariant.1 c.loop-part-test.true (w.get.ensures ∙ ap (λ n. get_or lists n None) part ∙ same)
           (some_copied w.get.result ∙ w.is_none-else-is_none.ensures ∙ ap not w.if-is_none-2.false)
           ∙ ap (λ d. Some (part_of d.set b)) c.self.view_is ∙ sym (ap (λ t. part_if t set_now b) (given_is ∙ ap not w.if-is_none.false))) inv
     ]

@@ -10,23 +10,23 @@ use Rattle.moc_parts.proofs.draft.Draft.put.Goals as goal
 
 pub invariant_of-self-2 : goal.invariant_of-self-2
 invariant_of-self-2 c =
-    let previous = sets_of c.self.inside.previous in
+    let before = sets_of c.self.inside.before in
     let new_lists = c.self.inside.new_lists in
-    let whole : NumberSet = union_of (current_lists previous new_lists) in
-    subst (λ lists. AreParts (current_lists previous lists) × (length lists ≡ 12)) (sym c.in_ok-put.ensures.put) (
-      made_parts (current_lists previous (set_at new_lists c.args.part (Some c.args.list))) (with_part whole c.args.part c.args.list)
-          (newest_set previous new_lists c.args.part c.args.list c.self.invariant.0 c.self.invariant.1 c.in_ok-put.ensures.in_range c.requires)
-          (with_part_within whole c.args.part c.args.list c.in_ok-put.ensures.in_range (parts_within (current_lists previous new_lists) c.self.invariant.0) c.requires),
+    let whole : NumberSet = union_of (current_lists before new_lists) in
+    subst (λ lists. AreParts (current_lists before lists) × (length lists ≡ 12)) (sym c.in_ok-put.ensures.put) (
+      made_parts (current_lists before (set_at new_lists c.args.part (Some c.args.list))) (with_part whole c.args.part c.args.list)
+          (newest_set before new_lists c.args.part c.args.list c.self.invariant.0 c.self.invariant.1 c.in_ok-put.ensures.in_range c.requires)
+          (with_part_within whole c.args.part c.args.list c.in_ok-put.ensures.in_range (parts_within (current_lists before new_lists) c.self.invariant.0) c.requires),
       length-set new_lists c.args.part (Some c.args.list) ∙ c.self.invariant.1,
     )
 
 pub returns-clause-set : goal.returns-clause-set
 returns-clause-set c =
-    let previous = sets_of c.self.inside.previous in
+    let before = sets_of c.self.inside.before in
     let new_lists = c.self.inside.new_lists in
-    let whole : NumberSet = union_of (current_lists previous new_lists) in
-    ap (λ lists. union_of (current_lists previous lists)) c.in_ok-put.ensures.put
-    ∙ made_union (current_lists previous (set_at new_lists c.args.part (Some c.args.list))) (with_part whole c.args.part c.args.list)
-    (newest_set previous new_lists c.args.part c.args.list c.self.invariant.0 c.self.invariant.1 c.in_ok-put.ensures.in_range c.requires)
-    (with_part_within whole c.args.part c.args.list c.in_ok-put.ensures.in_range (parts_within (current_lists previous new_lists) c.self.invariant.0) c.requires)
+    let whole : NumberSet = union_of (current_lists before new_lists) in
+    ap (λ lists. union_of (current_lists before lists)) c.in_ok-put.ensures.put
+    ∙ made_union (current_lists before (set_at new_lists c.args.part (Some c.args.list))) (with_part whole c.args.part c.args.list)
+    (newest_set before new_lists c.args.part c.args.list c.self.invariant.0 c.self.invariant.1 c.in_ok-put.ensures.in_range c.requires)
+    (with_part_within whole c.args.part c.args.list c.in_ok-put.ensures.in_range (parts_within (current_lists before new_lists) c.self.invariant.0) c.requires)
     ∙ ap (λ d. with_part d.set c.args.part c.args.list) c.self.view_is

@@ -8,12 +8,12 @@ use Rattle.moc_parts.proofs.draft.Draft.without_changes.Goals as goal
 
 pub invariant_of-result : goal.invariant_of-result
 invariant_of-result c =
-    let previous : List NumberSet = sets_of c.args.previous in
-    let as_found : current_lists previous c.new.result ≡ previous = ap (current_lists previous) c.new.ensures ∙ current_lists-none previous 12 in
+    let before : List NumberSet = sets_of c.args.before in
+    let as_found : current_lists before c.new.result ≡ before = ap (current_lists before) c.new.ensures ∙ current_lists-none before 12 in
     (subst AreParts (sym as_found) c.requires, ap length c.new.ensures)
 
 pub returns : goal.returns
 returns c =
-    let previous : List NumberSet = sets_of c.args.previous in
-    let as_found : current_lists previous c.new.result ≡ previous = ap (current_lists previous) c.new.ensures ∙ current_lists-none previous 12 in
-    λ i. record { previous = previous; set = union_of (as_found i) }
+    let before : List NumberSet = sets_of c.args.before in
+    let as_found : current_lists before c.new.result ≡ before = ap (current_lists before) c.new.ensures ∙ current_lists-none before 12 in
+    λ i. record { before = before; set = union_of (as_found i) }

@@ -1,7 +1,7 @@
 -- One more result, and all of them.
 use Rattle.std.specs.Prelude.{◌≡◌, ◌+◌, ◌<◌, get_or, vec_items, vec_len, length, List, Option, None, Result, Ok, Err}
 use Rattle.std.specs.Vec.Iter.{into_iter_items, into_iter_len}
-use Rattle.std.proofs.Common.{rules, arith, below_more, ap, ◌∙◌, sym, subst}
+use Rattle.std.proofs.Common.{rules, arith, inr, below_more, ap, ◌∙◌, sym, subst}
 use Rattle.std.proofs.lemmas.List.{get_or_default}
 use Rattle.moc_script.specs.Private.LaneEnds.{IsLaneEnd}
 use Rattle.moc_script.specs.declared.crews.lane.LaneOutput.{LaneOutput}
@@ -55,7 +55,7 @@ unreachable-requires c =
     none_first c.first_failure.result c.deref.ensures.value c.first_failure.ensures c.in_default.is e (done, inside, failed)
 
 pub returns-in_default-push-clause-first : goal.returns-in_default-push-clause-first
-returns-in_default-push-clause-first c = none_first c.first_failure.result c.deref.ensures.value c.first_failure.ensures c.in_default.is
+returns-in_default-push-clause-first c = inr (none_first c.first_failure.result c.deref.ensures.value c.first_failure.ensures c.in_default.is, c.line_after_last.ensures)
 
 pub returns-clause-done : goal.returns-clause-done
 returns-clause-done c map lanes input ends =

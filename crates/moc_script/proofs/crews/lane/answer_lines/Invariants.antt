@@ -11,11 +11,13 @@ use Rattle.moc_script.proofs.crews.lane.answer_lines.Given as goal
 
 abbrev pub invariant-loop-number : goal.invariant-loop-number
 invariant-loop-number g l = record {
-  of_map : IsClientOf l.job.map.now l.client;
-  number : number_of l.client ≡ l.lane;
+  ready : IsClientOf l.lane_client.map.now l.lane_client.client;
+  of_map : IsClientOf l.job.map.now l.lane_client.client;
+  map : l.lane_client.map.now ≡ l.job.map.now;
+  number : number_of l.lane_client.client ≡ l.lane;
   sum : total l.lens.items ≡ length l.bytes.items;
   passed : HasPassed l.job.input.now l.left.passed l.left.bytes.now;
-  done : (lines : List (List ℕ)) × (made : List BatchCall) × (lane_lines l.job.lanes l.job.input.now l.lane ≡ lines ++ remaining_lines l.left) × HasMade l.lane made (record_of l.client)
+  done : (lines : List (List ℕ)) × (made : List BatchCall) × (lane_lines l.job.lanes l.job.input.now l.lane ≡ lines ++ remaining_lines l.left) × HasMade l.lane made (record_of l.lane_client.client)
       × Performs object script_rules lines made (split_by_len l.lens.items l.bytes.items);
 }
 

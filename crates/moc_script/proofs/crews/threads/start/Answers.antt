@@ -34,12 +34,12 @@ loop-client-preserved g c =
       (λ k d below. below_more (λ i. IsWorkOf c.args.job.map.now c.args.job.lanes c.args.job.input.now i (get_or all i d).promise) done
           (λ i low. let e = ap (λ l. get_or l i d) c.push_reserved.ensures.items ∙ get_or_append_left (vec_items c.loop-client.handles) _ d i (omega (arith, low, c.loop-client.handles.ok)) in subst (λ h. IsWorkOf c.args.job.map.now c.args.job.lanes c.args.job.input.now i h.promise) (sym e) (was.2 i d low))
           (subst (λ h. IsWorkOf c.args.job.map.now c.args.job.lanes c.args.job.input.now done h.promise) (sym (ap (λ l. get_or l done d) c.push_reserved.ensures.items ∙ pushed_here (vec_items c.loop-client.handles) _ d done (omega (arith, c.loop-client.handles.ok))))
-          (let reported = c.in-Ok-spawn_with.ensures.ok in
+          (let spawned = c.in-Ok-spawn_with.ensures.ok in
           record {
-            map_is = ap (λ t. t.job.map.now) reported;
-            input_is = ap (λ t. t.job.input.now) reported;
-            lanes_are = ap (λ t. t.job.lanes) reported;
-            lane_is = ap (λ t. t.lane) reported ∙ lane_is;
+            map_is = ap (λ t. t.job.map.now) spawned;
+            input_is = ap (λ t. t.job.input.now) spawned;
+            lanes_are = ap (λ t. t.job.lanes) spawned;
+            lane_is = ap (λ t. t.lane) spawned ∙ lane_is;
           }))
           k (omega arith)),
       rw c.push_reserved.ensures.capacity was.3,

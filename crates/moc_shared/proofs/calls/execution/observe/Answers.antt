@@ -8,22 +8,22 @@ end_all-requires-clause-held c =
     record {
       client = all.client;
       carried = all.carried;
-      held = all.held ∙ sym (notes_same c.args.previous.now c.copy_all.new.copies 12 c.in-Ok.ensures.copied);
+      held = all.held ∙ sym (notes_same c.args.slots.now c.copy_all.new.copies 12 c.in-Ok.ensures.copied);
     }
 
 pub end_all-requires-clause-some : goal.end_all-requires-clause-some
 end_all-requires-clause-some c =
     let local =
     local_batch c.args.batch.now c.batches_are_local.ensures c.commands.ensures.some c.commands.ensures.valid in
-    let whole =
-    footprint_copies c.args.batch.now c.args.previous.now c.copy_all.new.copies c.in-Ok.ensures.copied c.requires.held.footprint
+    let set_is_valid =
+    footprint_copies c.args.batch.now c.args.slots.now c.copy_all.new.copies c.in-Ok.ensures.copied c.requires.held.footprint
     in
-    some_found c.args.batch.now c.copy_all.new.copies whole local
+    some_found c.args.batch.now c.copy_all.new.copies set_is_valid local
 
 pub end_all-requires-clause-edited : goal.end_all-requires-clause-edited
 end_all-requires-clause-edited c =
     let local =
     local_batch c.args.batch.now c.batches_are_local.ensures c.commands.ensures.some c.commands.ensures.valid in
-    leaves c.args.batch.now c.args.previous.now c.copy_all.new.copies c.copy_all.ensures.long c.requires.held.own
+    leaves c.args.batch.now c.args.slots.now c.copy_all.new.copies c.copy_all.ensures.long c.requires.held.own
     c.requires.held.footprint
     c.in-Ok.ensures.copied c.requires.query local

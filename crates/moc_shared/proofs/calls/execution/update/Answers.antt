@@ -8,7 +8,7 @@ pub end_all-requires-clause-some : goal.end_all-requires-clause-some
 end_all-requires-clause-some c =
     let local =
     local_batch c.args.batch.now c.batches_are_local.ensures c.commands.ensures.some c.commands.ensures.valid in
-    some_found c.args.batch.now c.args.previous.now c.requires.held.footprint local
+    some_found c.args.batch.now c.args.slots.now c.requires.held.footprint local
 
 pub returns-in-Ok-clause-executed : goal.returns-in-Ok-clause-executed
 returns-in-Ok-clause-executed c = record {

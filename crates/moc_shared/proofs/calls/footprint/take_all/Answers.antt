@@ -18,11 +18,11 @@ loop-part-init c = record {
   same = (refl, refl);
   carried = ap (λ (l : List (ℕ × Option Pointer)). map (λ x. x.0) l) c.requires.idle.1
       ∙ sym (ap (λ (l : List PartNote). map table_index (parts_of_notes l)) c.requires.idle.0);
-  view = start_parts c.args.seat.now.me.0 c.args.seat.now.me.0 c.no_slots-previous.result refl c.requires.idle.0;
+  view = start_parts c.args.seat.now.me.0 c.args.seat.now.me.0 c.no_slots-slots.result refl c.requires.idle.0;
   long = search rules;
   so_far = λ k l. absurd (omega arith);
-  beyond = λ k l. c.no_slots-previous.ensures.none k;
-  own = c.no_slots-previous.ensures.own;
+  beyond = λ k l. c.no_slots-slots.ensures.none k;
+  own = c.no_slots-slots.ensures.own;
 }
 
 pub take_slot-requires-clause-other : goal.take_slot-requires-clause-other
@@ -30,9 +30,9 @@ take_slot-requires-clause-other c =
     let inv = c.loop-part.invariant in
     let b : ℕ = c.in-Some.part in
     let to = next_remaining (footprint_of_all c.args.batch.now) inv.next c.in-Some.part c.loop-part.part-iterator c.next.new.self inv.remains c.in-Some.ensures.steps in
-    λ y h. not_below c.loop-part.previous b y
+    λ y h. not_below c.loop-part.slots b y
     (subst (λ (v : ClientView). Contains v.holds (note b y))
-    (passed_parts c.args.seat.now.me.0 c.loop-part.seat.me.0 c.loop-part.previous inv.next b inv.view to.after inv.beyond) h)
+    (passed_parts c.args.seat.now.me.0 c.loop-part.seat.me.0 c.loop-part.slots inv.next b inv.view to.after inv.beyond) h)
 
 pub give_all-requires-clause-held : goal.give_all-requires-clause-held
 give_all-requires-clause-held c =
@@ -43,8 +43,8 @@ give_all-requires-clause-held c =
     record {
       client = search rules;
       carried = c.take_slot.ensures.carried;
-      held = holds_upto c.args.seat.now.me.0 c.loop-part.seat.me.0 c.take_slot.new.seat.me.0 c.loop-part.previous b c.in-Err.holder
-          (passed_parts c.args.seat.now.me.0 c.loop-part.seat.me.0 c.loop-part.previous inv.next b inv.view after inv.beyond)
+      held = holds_upto c.args.seat.now.me.0 c.loop-part.seat.me.0 c.take_slot.new.seat.me.0 c.loop-part.slots b c.in-Err.holder
+          (passed_parts c.args.seat.now.me.0 c.loop-part.seat.me.0 c.loop-part.slots inv.next b inv.view after inv.beyond)
           c.in-Err.ensures.err.0 to.below (λ k l. inv.beyond k (omega (arith, after, l)));
     }
 
@@ -56,17 +56,17 @@ returns-in-Err-clause-err c =
     let to = next_remaining (footprint_of_all cs) inv.next c.in-Some.part c.loop-part.part-iterator c.next.new.self inv.remains c.in-Some.ensures.steps in
     let after = to.after in
     let init = c.args.seat.now.me.0 in
-    let previous = c.loop-part.previous in
-    let view = passed_parts init c.loop-part.seat.me.0 previous inv.next b inv.view after inv.beyond in
+    let slots = c.loop-part.slots in
+    let view = passed_parts init c.loop-part.seat.me.0 slots inv.next b inv.view after inv.beyond in
     let known =
-    known_through init c.loop-part.seat.me.0 (notes_below previous b) c.in-Err.holder view c.in-Err.ensures.err.1
+    known_through init c.loop-part.seat.me.0 (notes_below slots b) c.in-Err.holder view c.in-Err.ensures.err.1
     c.in-Err.ensures.err.2 in
-    let so_far = passed_so_far cs previous inv.next b inv.so_far inv.beyond to.between in
+    let so_far = passed_so_far cs slots inv.next b inv.so_far inv.beyond to.between in
     let refused : MissesTaking cs b c.in-Err.holder init c.give_all.new.seat.me.0 = (
-      notes_below previous b,
-      refused_view init c.loop-part.seat.me.0 c.take_slot.new.seat.me.0 c.give_all.new.seat.me.0 previous b
+      notes_below slots b,
+      refused_view init c.loop-part.seat.me.0 c.take_slot.new.seat.me.0 c.give_all.new.seat.me.0 slots b
           c.in-Err.holder view c.in-Err.ensures.err.0 (λ i. (c.give_all.ensures.given_back i).0),
-      (λ p y h. noted_touched cs previous b p y so_far h),
+      (λ p y h. noted_touched cs slots b p y so_far h),
       to.passes,
       to.below,
       known.0,
@@ -85,25 +85,25 @@ loop-part-preserved c =
     next_remaining (footprint_of_all cs) inv.next b c.loop-part.part-iterator c.next.new.self inv.remains c.in-Some.ensures.steps in
     let up : b + 1 ≡ suc b = omega arith in
     let after = to.after in
-    let previous = c.loop-part.previous in
+    let slots = c.loop-part.slots in
     let new = c.put_at.new.slots in
     let pointer = c.in-Ok.pointer in
-    let put : new ≡ set previous b (Some pointer) = c.put_at.ensures in
-    let wide : b < length previous = omega (arith, inv.long, to.below) in
+    let put : new ≡ set slots b (Some pointer) = c.put_at.ensures in
+    let word_count : b < length slots = omega (arith, inv.long, to.below) in
     record {
       next = b + 1;
       remains = to.remains;
       same = (c.take_slot.ensures.same.0 ∙ inv.same.0, c.take_slot.ensures.same.1 ∙ inv.same.1);
       carried = c.take_slot.ensures.carried;
-      view = took_part c.args.seat.now.me.0 c.loop-part.seat.me.0 c.take_slot.new.seat.me.0 previous new b (b + 1) pointer
-          (passed_parts c.args.seat.now.me.0 c.loop-part.seat.me.0 previous inv.next b inv.view after inv.beyond) up
-          c.in-Ok.ensures.ok.0 put wide;
-      long = ap (λ (l : List (Option Pointer)). length l) put ∙ length-set previous b (Some pointer) ∙ inv.long;
-      so_far = touched_so_far cs previous new b (b + 1) pointer
-          (passed_so_far cs previous inv.next b inv.so_far inv.beyond to.between)
-          up to.passes put wide;
-      beyond = still_beyond previous new b (b + 1) pointer (λ k l. inv.beyond k (omega (arith, after, l))) up put;
-      own = own_set previous new b pointer inv.own put wide c.in-Ok.ensures.ok.1;
+      view = took_part c.args.seat.now.me.0 c.loop-part.seat.me.0 c.take_slot.new.seat.me.0 slots new b (b + 1) pointer
+          (passed_parts c.args.seat.now.me.0 c.loop-part.seat.me.0 slots inv.next b inv.view after inv.beyond) up
+          c.in-Ok.ensures.ok.0 put word_count;
+      long = ap (λ (l : List (Option Pointer)). length l) put ∙ length-set slots b (Some pointer) ∙ inv.long;
+      so_far = touched_so_far cs slots new b (b + 1) pointer
+          (passed_so_far cs slots inv.next b inv.so_far inv.beyond to.between)
+          up to.passes put word_count;
+      beyond = still_beyond slots new b (b + 1) pointer (λ k l. inv.beyond k (omega (arith, after, l))) up put;
+      own = own_set slots new b pointer inv.own put word_count c.in-Ok.ensures.ok.1;
     }
 
 pub returns-clause-ok : goal.returns-clause-ok
@@ -111,9 +111,9 @@ returns-clause-ok c =
     let inv = c.loop-part.invariant in
     let cs = c.args.batch.now in
     let rest = none_remaining (footprint_of_all cs) inv.next c.loop-part.part-iterator inv.remains c.in-None.ensures.steps.0 in (
-      passed_parts c.args.seat.now.me.0 c.loop-part.seat.me.0 c.loop-part.previous inv.next 12 inv.view inv.remains.within
+      passed_parts c.args.seat.now.me.0 c.loop-part.seat.me.0 c.loop-part.slots inv.next 12 inv.view inv.remains.within
           inv.beyond,
       inv.carried,
-      passed_so_far cs c.loop-part.previous inv.next 12 inv.so_far inv.beyond rest,
+      passed_so_far cs c.loop-part.slots inv.next 12 inv.so_far inv.beyond rest,
       inv.own,
     )

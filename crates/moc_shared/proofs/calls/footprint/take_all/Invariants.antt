@@ -12,9 +12,9 @@ invariant-loop-part l = record {
   remains : IsRemaining (footprint_of_all l.batch) next l.part-iterator;
   same : (l.seat.table_id ≡ l.initial.seat.table_id) × (l.seat.id ≡ l.initial.seat.id);
   carried : IsCarried l.seat.me;
-  view : l.seat.me.0 ≡ with_parts l.initial.seat.me.0 (notes_below l.previous next);
-  long : length l.previous ≡ 12;
-  so_far : (k : ℕ) → k < next → is_some (slot_at l.previous k) ≡ footprint_of_all l.batch k;
-  beyond : (k : ℕ) → next ≤ k → slot_at l.previous k ≡ None;
-  own : AreWithinOwnParts l.previous;
+  view : l.seat.me.0 ≡ with_parts l.initial.seat.me.0 (notes_below l.slots next);
+  long : length l.slots ≡ 12;
+  so_far : (k : ℕ) → k < next → is_some (slot_at l.slots k) ≡ footprint_of_all l.batch k;
+  beyond : (k : ℕ) → next ≤ k → slot_at l.slots k ≡ None;
+  own : AreWithinOwnParts l.slots;
 }

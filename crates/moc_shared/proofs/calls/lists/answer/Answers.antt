@@ -10,12 +10,12 @@ use Rattle.moc_shared.proofs.calls.lists.answer.Goals as goal
 
 pub reply_of-requires-clause-parts : goal.reply_of-requires-clause-parts
 reply_of-requires-clause-parts c =
-    subst (λ (l : List NumberSet). AreWithinParts l) (sym (sets_alike c.lists.result c.args.previous.now c.lists.ensures))
-    (lie_in_parts c.args.previous.now c.type_inv.previous c.requires.own)
+    subst (λ (l : List NumberSet). AreWithinParts l) (sym (sets_alike c.lists.result c.args.slots.now c.lists.ensures))
+    (lie_in_parts c.args.slots.now c.type_inv.slots c.requires.own)
 
 pub returns : goal.returns
 returns c =
     IfOk-weaker c.reply_of.result _ _ (λ replies are.
-    replies_same c.args.batch.now c.args.previous.now replies c.type_inv.previous c.requires.own
+    replies_same c.args.batch.now c.args.slots.now replies c.type_inv.slots c.requires.own
     (subst (λ (l : List NumberSet). AreRepliesTo c.args.batch.now (union_of l) replies)
-    (sets_alike c.lists.result c.args.previous.now c.lists.ensures) are)) c.reply_of.ensures
+    (sets_alike c.lists.result c.args.slots.now c.lists.ensures) are)) c.reply_of.ensures

@@ -12,13 +12,13 @@ pub loop-part-preserved-in_default : goal.loop-part-preserved-in_default
 loop-part-preserved-in_default c =
     let inv = c.loop-part.invariant in
     let n : ℕ = c.loop-part.part-index in
-    let none : slot_at c.args.previous.now n ≡ None =
-    ap (slot_at c.args.previous.now) (sym (all_parts n c.part-item.result c.loop-part-test.true))
+    let none : slot_at c.args.slots.now n ≡ None =
+    ap (slot_at c.args.slots.now) (sym (all_parts n c.part-item.result c.loop-part-test.true))
     ∙ sym c.pointer_at.ensures ∙ ap option_copied c.in_default.is in
     record {
       replies = inv.replies;
       long = inv.long;
-      shared = shared_not c.args.previous.now c.loop-part.edited c.args.changes.now.lists n inv.shared (inv.empty_slots n (omega arith)) none;
+      shared = shared_not c.args.slots.now c.loop-part.edited c.args.changes.now.lists n inv.shared (inv.empty_slots n (omega arith)) none;
       left = λ k l. inv.left k (omega (arith, l));
       empty_slots = λ k l. inv.empty_slots k (omega (arith, l));
     }
@@ -31,7 +31,7 @@ loop-part-preserved c =
     record {
       replies = search rules;
       long = search rules;
-      shared = shared_next c.args.previous.now c.loop-part.edited c.put_at.new.slots c.args.changes.now.lists
+      shared = shared_next c.args.slots.now c.loop-part.edited c.put_at.new.slots c.args.changes.now.lists
           c.loop-part.changes.lists n _ c.in-Some.pointer.now c.match-take.new c.take.result inv.shared is
           (omega (arith, inv.long, is, c.loop-part-test.true)) c.put_at.ensures c.take.ensures.taken (inv.left n (omega arith))
           (sym c.pointer_at.ensures ∙ ap option_copied c.in-Some.is)

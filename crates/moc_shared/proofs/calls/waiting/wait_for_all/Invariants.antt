@@ -14,10 +14,10 @@ invariant-loop-part g l = record {
   same : (l.seat.table_id ≡ l.initial.seat.table_id) × (l.seat.id ≡ l.initial.seat.id);
   carried : IsCarried l.seat.me;
   view : (waits : List (ℕ × ℕ))
-      × (l.seat.me.0 ≡ with_parts (with_misses l.initial.seat.me.0 waits) (notes_below l.previous next))
+      × (l.seat.me.0 ≡ with_parts (with_misses l.initial.seat.me.0 waits) (notes_below l.slots next))
       × AreWaits (in_footprint l.batch) l.initial.seat.me.0 waits;
-  long : length l.previous ≡ 12;
-  so_far : (k : ℕ) → k < next → is_some (slot_at l.previous k) ≡ footprint_of_all l.batch k;
-  beyond : (k : ℕ) → next ≤ k → slot_at l.previous k ≡ None;
-  own : AreWithinOwnParts l.previous;
+  long : length l.slots ≡ 12;
+  so_far : (k : ℕ) → k < next → is_some (slot_at l.slots k) ≡ footprint_of_all l.batch k;
+  beyond : (k : ℕ) → next ≤ k → slot_at l.slots k ≡ None;
+  own : AreWithinOwnParts l.slots;
 }

@@ -11,6 +11,6 @@ pub loop-preserved : goal.loop-preserved
 loop-preserved g c = let w = c.loop.invariant.view in let e = c.in-Err.ensures.err in record {
   same = search rules;
   carried = search rules;
-  view = one_wait c.args.seat.now.me.0 c.loop.seat.me.0 c.take_slot.new.seat.me.0 c.args.part c.in-Err.field-0 w.0 w.1 w.2
+  view = one_wait c.args.seat.now.me.0 c.loop.seat.me.0 c.take_slot.new.seat.me.0 c.args.part c.in-Err.holder w.0 w.1 w.2
       e.0 e.1 e.2;
 }

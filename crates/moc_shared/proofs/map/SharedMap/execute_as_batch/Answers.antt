@@ -6,10 +6,10 @@ use Rattle.moc_shared.proofs.map.SharedMap.execute_as_batch.Goals as goal
 
 pub into_only-requires : goal.into_only-requires
 into_only-requires g c =
-    only_reply c.args.self.now c.args.command c.in_ok-replies.replies c.args.client.now.number
-    c.args.client.now.seat.me.0.mine c.apply.new.client.seat.me.0.mine
-    (subst (λ (cs : List Command). TakesEffectAfterWaiting c.args.self.now (call_of c.args.client.now cs c.in_ok-replies.replies)
-    c.args.client.now.seat.me.0.mine c.apply.new.client.seat.me.0.mine) c.in_ok-batch.ensures c.in_ok-replies.ensures.ok)
+    let waited = subst (λ (cs : List Command). TakesEffectAfterWaiting c.args.self.now (call_of c.args.client.now cs c.in_ok-replies.replies)
+    c.args.client.now.seat.me.0.mine c.apply.new.client.seat.me.0.mine) c.in_ok-batch.ensures c.in_ok-replies.ensures.ok in
+    only_reply c.args.self.now c.args.command c.in_ok-replies.replies c.args.client.now.number waited.0
+    c.apply.new.client.seat.me.0.mine waited.2
 
 pub returns-in_err-batch : goal.returns-in_err-batch
 returns-in_err-batch g c = record {

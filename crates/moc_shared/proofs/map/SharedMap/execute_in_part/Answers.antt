@@ -30,23 +30,23 @@ pub returns : goal.returns
 returns g c =
     let t = c.wait_for_slot-pointer.ensures.taken_or_missed in
     let part = c.args.part in
-    let previous = shared c.wait_for_slot-pointer.result in
+    let slots = shared c.wait_for_slot-pointer.result in
     let old = c.args.client.now.seat.me.0 in
     let mid = c.wait_for_slot-pointer.new.seat.me.0 in
     let new = c.execute_single.new.seat.me.0 in
-    let held = one_held (with_misses old t.0) mid part previous c.requires.map.no_part t.1 in
+    let held = one_held (with_misses old t.0) mid part slots c.requires.map.no_part t.1 in
     record {
       map = idle_after c.args.self.now c.args.client.now record { number = c.args.client.now.number; seat = c.execute_single.new.seat } c.requires.map
-          (stays_alone old mid new part previous t.0 held
+          (stays_alone old mid new part slots t.0 held
           (stays_answered (c.args.command.now ∷ []) mid new c.execute_single.result c.execute_single.ensures.ok c.execute_single.ensures.err))
           refl (c.execute_single.ensures.same.0 ∙ c.wait_for_slot-pointer.ensures.same.0 ∙ c.requires.map.table)
           c.execute_single.ensures.idle;
       number = refl;
       ok = IfOk-weaker c.execute_single.result _ _
-          (λ reply determined. ended_alone c.args.command.now part c.requires.single.met c.args.self.now reply c.args.client.now.number old mid new previous t.0
+          (λ reply determined. ended_alone c.args.command.now part c.requires.single.met c.args.self.now reply c.args.client.now.number old mid new slots t.0
           c.requires.map.start c.requires.map.clients c.requires.map.number held t.2 determined)
           c.execute_single.ensures.ok;
       err = on_err_weaker c.execute_single.result
-          (λ gave. undone_alone c.args.command.now part c.requires.single.met c.args.self.now old mid new previous t.0 c.requires.map.clients held t.2 gave)
+          (λ gave. undone_alone c.args.command.now part c.requires.single.met c.args.self.now old mid new slots t.0 c.requires.map.clients held t.2 gave)
           c.execute_single.ensures.err;
     }

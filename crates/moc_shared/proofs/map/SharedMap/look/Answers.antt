@@ -19,14 +19,14 @@ returns-in-Ok-observe-clause-ok c =
     let replies = replies_to c.observe.new.copies c.in-Ok.batch in
     subst (λ (cs : List Command). TakesEffect c.args.self.now (call_of c.args.client.now cs replies) c.args.client.now.seat.me.0.mine c.observe.new.seat.me.0.mine) c.in-Ok.ensures
     (ends_from c.args.self.now c.in-Ok.batch replies c.args.client.now.number
-    c.args.client.now.seat.me.0 c.take_all.new.seat.me.0 c.observe.new.seat.me.0 c.in-Ok-take_all.previous t.2
+    c.args.client.now.seat.me.0 c.take_all.new.seat.me.0 c.observe.new.seat.me.0 c.in-Ok-take_all.slots t.2
     c.requires.map.start c.requires.map.clients c.requires.map.number t.0 c.in-Ok-observe.ensures.ok)
 
 pub returns-in-Err-observe-clause-err : goal.returns-in-Err-observe-clause-err
 returns-in-Err-observe-clause-err c =
     let t = c.in-Ok-take_all.ensures.ok in (
       subst (λ (cs : List Command). HasNoEffect cs c.args.client.now.seat.me.0.mine c.observe.new.seat.me.0.mine) c.in-Ok.ensures
-          (undone_from c.in-Ok.batch c.args.client.now.seat.me.0 c.take_all.new.seat.me.0 c.observe.new.seat.me.0 c.in-Ok-take_all.previous t.2 t.0
+          (undone_from c.in-Ok.batch c.args.client.now.seat.me.0 c.take_all.new.seat.me.0 c.observe.new.seat.me.0 c.in-Ok-take_all.slots t.2 t.0
           c.in-Err-observe.ensures.err),
       sym c.is_update.ensures ∙ c.if-is_update.false,
     )

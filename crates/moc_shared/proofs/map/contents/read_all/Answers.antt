@@ -10,7 +10,7 @@ loop-k-preserved c =
     let items = slots_items c.args.closed.now.slots in
     let k = c.loop-k.k in
     let inv = c.loop-k.invariant in
-    let wide : length c.match-part_at.slots ≡ 12 = elim c.match-part_at.branch [
+    let word_count : length c.match-part_at.slots ≡ 12 = elim c.match-part_at.branch [
       | in-Some w ↦ search rules
       | in-None w ↦ search rules
     ] in
@@ -18,13 +18,13 @@ loop-k-preserved c =
       | in-Some w ↦
           let at : table_index w.in-Some.part ≡ k = w.in-Some.ensures.some in
           let l : w.in-Some.part < 12 = omega (arith, at, c.loop-k-test.true) in
-          one_slot_more items c.loop-k.slots c.match-part_at.slots w.in-Some.part k c.take-slot.result at inv.wide l
+          one_slot_more items c.loop-k.slots c.match-part_at.slots w.in-Some.part k c.take-slot.result at inv.word_count l
           (search rules) (search rules) inv.read
       | in-None w ↦ subst (λ s. AreRead items s (k + 1)) (search rules)
           (no_slot_more items c.loop-k.slots k w.in-None.ensures.none inv.read)
     ] in
     record {
-      wide = wide;
+      word_count = word_count;
       long = search rules;
       marks = search rules;
       same = search rules;

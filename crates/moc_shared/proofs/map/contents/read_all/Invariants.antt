@@ -6,7 +6,7 @@ use Rattle.moc_shared.proofs.map.contents.read_all.Given as goal
 
 abbrev pub invariant-loop-k : goal.invariant-loop-k
 invariant-loop-k l = record {
-  wide : length l.slots ≡ 12;
+  word_count : length l.slots ≡ 12;
   long : slots_len l.closed.slots ≡ table_index 12;
   marks : length (slots_filled l.closed.slots) ≡ table_index 12;
   same : slots_items l.closed.slots ≡ slots_items l.initial.closed.slots;

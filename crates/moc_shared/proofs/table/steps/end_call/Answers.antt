@@ -23,7 +23,7 @@ store-requires g c = let h = c.requires.held in let v = c.args.seat.now.me.0 in 
   search rules,
   omega (arith, c.index-index.ensures.place, c.index-index.ensures.in_range, c.requires.place.1),
   ends_call_as 12 content part batch_answer IsInSky _ _ _ _ _ v _ _ (Some c.args.new) _
-      (call_by v.mine.number c.args.batch.now (replies_to c.args.previous.now c.args.batch.now)) g.C.EndingCall.call
+      (call_by v.mine.number c.args.batch.now (replies_to c.args.slots.now c.args.batch.now)) g.C.EndingCall.call
       (notes_below c.args.rest.now 12) g.C.EndingCall.notes c.index-index.ensures.place c.requires.call.0 c.requires.call.1
       c.exchange.ensures.3 c.requires.client refl h.0 h.1 c.requires.answered,
 )
@@ -32,7 +32,7 @@ pub returns : goal.returns
 returns g c = let h = c.requires.held in let v = c.args.seat.now.me.0 in
     let t = ended_is 12 content part batch_answer IsInSky set.empty 0 c.args.table.now.table_id.slots c.index-index.result _
     c.store.new.seat.me v (Some c.args.new) _
-    (call_by v.mine.number c.args.batch.now (replies_to c.args.previous.now c.args.batch.now)) g.C.EndingCall.call
+    (call_by v.mine.number c.args.batch.now (replies_to c.args.slots.now c.args.batch.now)) g.C.EndingCall.call
     (notes_below c.args.rest.now 12) g.C.EndingCall.notes c.requires.call.0 c.requires.call.1 c.exchange.ensures.3
     (rest_parts c.args.seat.now.me.1 (table_index c.args.part) _ (c.requires.carried ∙ ap (λ (l : List ℕ). map table_index l) h.0)) c.store.ensures.2 in
     record { same = search rules; carried = t.0; ended = t.1 }

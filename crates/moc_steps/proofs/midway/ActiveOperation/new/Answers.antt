@@ -2,7 +2,7 @@ use Rattle.std.proofs.Common.{◌≡◌, false, None, is_some, length, ap, ◌�
 use Rattle.moc_steps.specs.Machine.{is_nonempty}
 use Rattle.moc_steps.proofs.Basics.{clash}
 use Rattle.moc_steps.proofs.Invariant.{not_any_empty}
-use Rattle.moc_steps.proofs.PreviousContents.{no_previous, nothing_lies}
+use Rattle.moc_steps.proofs.TakenContents.{no_taken_content, nothing_lies}
 use Rattle.moc_steps.proofs.midway.ActiveOperation.new.Goals as goal
 
 pub invariant_of-result : goal.invariant_of-result
@@ -19,6 +19,6 @@ invariant_of-result c =
 pub returns : goal.returns
 returns c = (λ i. record {
   running = record { number = c.args.number; operation = c.args.batch; taken = 0; edited = c.none.ensures i; given = c.none-2.ensures i; quits = false };
-  previous = no_previous c.no_lists.result c.no_lists.ensures i;
+  taken_content = no_taken_content c.no_lists.result c.no_lists.ensures i;
   entry_index = None;
 })

@@ -13,6 +13,6 @@ lists-requires c =
     let inv = reached_explained batches (world_of i.begun i.clients i.parts.items i.order.items) c.self.invariant.reached in
     ap length c.deref.ensures.value ∙ inv.1.size
 
-pub returns-clause-covered : goal.returns-clause-covered
-returns-clause-covered c =
-    c.in_ok-merge_parts.ensures ∙ ap union_of (c.lists.ensures ∙ c.deref.ensures.value) ∙ ap (λ (w : BatchWorld). whole batches w) c.self.view_is
+pub returns-in-Ok-clause-covered : goal.returns-in-Ok-clause-covered
+returns-in-Ok-clause-covered c =
+    c.in-Ok.ensures ∙ ap union_of (c.lists.ensures ∙ c.deref.ensures.value) ∙ ap (λ (w : BatchWorld). whole batches w) c.self.view_is

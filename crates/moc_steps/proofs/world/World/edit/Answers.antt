@@ -61,7 +61,7 @@ goes c =
     let fits = edit_footprint i.begun i.clients i.parts.items i.holders i.order.items c.self.invariant c.args.client b s has permitted in
     let none : s.entry_index ≡ None = is_some_of s.entry_index (ap is_some (sym c.entry_index.ensures) ∙ sym c.is_some.ensures ∙ c.if-is_some.false) in
     let place_is : prepared_update.entry_index ≡ length i.order.items = (let a : prepared_update.entry_index ≡ c.len.result = c.in_ok-prepared_update.ensures.entry_index in let d = c.len.ensures in search rules) in
-    let list_is = c.in_ok-list.ensures ∙ kept_list i.begun i.clients i.parts.items i.holders i.order.items c.self.invariant s.running.operation s.previous c.in-Some-list.list.now prepared_update.lists b fits.0 fits.1 c.in_ok-prepared_update.ensures.value.parts c.in-Some-list.ensures in
+    let list_is = c.in_ok-list.ensures ∙ kept_list i.begun i.clients i.parts.items i.holders i.order.items c.self.invariant s.running.operation s.taken_content c.in-Some-list.list.now prepared_update.lists b fits.0 fits.1 c.in_ok-prepared_update.ensures.value.parts c.in-Some-list.ensures in
     let entry : Entry = record { begin = c.number-begin.result; client = c.args.client; reply = None } in
     subst (λ es. Goes i.begun i.clients i.parts.items i.order.items (machine.Step.Edit c.args.client b) i.begun c.change.new.self (slice_set i.parts.items c.index.result list) i.holders es) (sym c.in_ok-push.ensures.items)
     (subst (λ k. Goes i.begun i.clients i.parts.items i.order.items (machine.Step.Edit c.args.client b) i.begun c.change.new.self (slice_set i.parts.items k list) i.holders (i.order.items ++ entry ∷ [])) (sym c.index.ensures.value)
@@ -81,5 +81,5 @@ unreachable-requires-in_default-list c =
     let s : ClientState = c.in-Some.midway.now in
     let fits = edit_footprint i.begun i.clients i.parts.items i.holders i.order.items c.self.invariant c.args.client c.args.part s (sym c.in-Some.ensures)
     (ap (λ (w : BatchWorld). refusal batches w.locks (machine.Step.Edit c.args.client c.args.part)) c.self.view_is ∙ c.requires) in
-    kept_some i.begun i.clients i.parts.items i.holders i.order.items c.self.invariant s.running.operation s.previous c.in_ok-prepared_update.prepared_update.lists c.args.part fits.0 fits.1 c.in_ok-prepared_update.ensures.value.parts
+    kept_some i.begun i.clients i.parts.items i.holders i.order.items c.self.invariant s.running.operation s.taken_content c.in_ok-prepared_update.prepared_update.lists c.args.part fits.0 fits.1 c.in_ok-prepared_update.ensures.value.parts
     (sym c.list.ensures ∙ ap option_copied c.in_default-list.is)

@@ -65,7 +65,7 @@ goes c =
     let i = c.self.inside in
     let s : ClientState = c.in-Some.midway.now in
     let has : map.get i.clients c.args.client ≡ Some s = sym c.in-Some.ensures in
-    let list_is : c.in_ok-list.list ≡ part_of (set_after_all s.previous s.running.operation) c.args.part = c.in_ok-list.ensures ∙ some_is _ _ c.in-Some-new_list.ensures in
+    let list_is : c.in_ok-list.list ≡ part_of (set_after_all s.taken_content s.running.operation) c.args.part = c.in_ok-list.ensures ∙ some_is _ _ c.in-Some-new_list.ensures in
     let edited = any_edited i.begun i.clients i.parts.items i.holders i.order.items c.self.invariant c.args.client s c.args.self.now has c.self.view_is c.requires.committed in
     subst (λ k. Goes i.begun i.clients i.parts.items i.order.items (machine.Step.Edit c.args.client c.args.part) i.begun c.change.new.self (slice_set i.parts.items k c.in_ok-list.list) i.holders i.order.items) (sym c.index.ensures.value)
     (subst (λ m. Goes i.begun i.clients i.parts.items i.order.items (machine.Step.Edit c.args.client c.args.part) i.begun m (set_at i.parts.items c.args.part c.in_ok-list.list) i.holders i.order.items)

@@ -5,7 +5,7 @@ use Rattle.moc_steps.specs.Machine.{part_at}
 use Rattle.moc_steps.specs.Played.{BatchWorld}
 use Rattle.moc_steps.specs.Private.Worlds.{world_of}
 use Rattle.moc_steps.proofs.AnyObject.{reached_explained}
-use Rattle.moc_steps.proofs.PreviousContents.{same_default}
+use Rattle.moc_steps.proofs.TakenContents.{same_default}
 use Rattle.moc_steps.proofs.world.World.part.Goals as goal
 
 pub index-requires-2 : goal.index-requires-2

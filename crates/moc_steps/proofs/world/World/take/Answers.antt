@@ -11,7 +11,7 @@ use Rattle.moc_steps.specs.declared.table.Effect.TheVariants.{Take}
 use Rattle.moc_steps.specs.Played.{BatchWorld}
 use Rattle.moc_steps.specs.Private.Worlds.{world_of}
 use Rattle.moc_steps.proofs.AnyObject.{reached_explained}
-use Rattle.moc_steps.proofs.PreviousContents.{same_default}
+use Rattle.moc_steps.proofs.TakenContents.{same_default}
 use Rattle.moc_steps.proofs.PreservedSteps.{Goes, take_goes, take_asks, is_midway, may_take}
 use Rattle.moc_steps.proofs.world.World.take.Goals as goal
 

@@ -45,8 +45,8 @@ pub loop-rest-preserved : goal.loop-rest-preserved
 loop-rest-preserved c =
     let entered = c.in_ok-set_order.ensures in
     let added = c.in_ok-add.ensures in
-    progress_word c.args.text.now c.loop-rest.rest.now c.loop-rest.reading.cells c.loop-rest.reading.order c.loop-rest.reading.deepest c.in_ok-numbers.numbers c.in_ok-numbers.after.now
-    c.add.new.self.cells c.add.new.self.order c.add.new.self.deepest (small_current_order c.args.text.now c.loop-rest.rest.now _ _ _ c.loop-rest.invariant) c.loop-rest.invariant (scanned (goal.at.loop-rest-preserved c).In_ok-numbers)
+    progress_word c.args.text.now c.loop-rest.rest.now c.loop-rest.reading.cells c.loop-rest.reading.order c.loop-rest.reading.moc_order c.in_ok-numbers.numbers c.in_ok-numbers.after.now
+    c.add.new.self.cells c.add.new.self.order c.add.new.self.moc_order (small_current_order c.args.text.now c.loop-rest.rest.now _ _ _ c.loop-rest.invariant) c.loop-rest.invariant (scanned (goal.at.loop-rest-preserved c).In_ok-numbers)
     entered.0 (added.1 ∙ entered.1) (added.2 ∙ entered.2)
     (ap (λ n. item_error c.add.new.self.order n c.in_ok-numbers.numbers.item) (sym c.place-at.ensures) ∙ ap (λ k. item_error k c.place-at.result c.in_ok-numbers.numbers.item) added.1 ∙ added.0)
     (added.3 ∙ ap (λ (a : NumberSet). set.union a (item_pixels c.set_order.new.self.order c.in_ok-numbers.numbers.item)) entered.3 ∙ ap (λ k. set.union c.loop-rest.reading.cells (item_pixels k c.in_ok-numbers.numbers.item)) (sym added.1))

@@ -9,10 +9,10 @@ use Rattle.moc_text.proofs.JsonMembers.{one_members}
 use Rattle.moc_text.proofs.json_format.reading.read_json.Goals as goal
 use Rattle.moc_text.proofs.json_format.reading.read_json.Goals.{Joined-value-4}
 
-represents : (c : Joined-value-4) → RepresentsJson c.args.text.now c.in_ok-set.set c.in_ok-deepest.deepest
+represents : (c : Joined-value-4) → RepresentsJson c.args.text.now c.in_ok-set.set c.in_ok-moc_order.moc_order
 represents c =
     let object : as_object (view c.in_ok-value.value) ≡ Some (members_view c.in-Some.members.now.entries) = search rules in
-    let read = c.in_ok-deepest.ensures in
+    let read = c.in_ok-moc_order.ensures in
     record {
       value = view c.in_ok-value.value;
       json = c.in_ok-value.ensures;
@@ -20,7 +20,7 @@ represents c =
       object = object;
       without_error = read.0;
       set_is = c.in_ok-set.ensures ∙ read.1 ∙ ap (λ (a : NumberSet). set.union a (members_pixels (members_view c.in-Some.members.now.entries))) c.new-cells.ensures ∙ empty-union (members_pixels (members_view c.in-Some.members.now.entries));
-      deepest_is = read.2;
+      moc_order_is = read.2;
     }
 
 pub returns-clause-set : goal.returns-clause-set

@@ -30,7 +30,7 @@ loop-text-preserved c =
       count = omega (arith, ap length e, c.loop-text.invariant.count);
       fault = member_fine name text d ms fine ∙ ap (λ (it : List (String Global × Value)). members_error name (members_view it)) (sym e) ∙ c.loop-text.invariant.fault;
       set = member_added c.loop-text.cells c.read_member.new.cells text d ms added ∙ ap (λ (it : List (String Global × Value)). set.union c.loop-text.cells (members_pixels (members_view it))) (sym e) ∙ c.loop-text.invariant.set;
-      deepest = member_deepest c.loop-text.deepest c.deeper-deepest.result c.in_ok-order.order text d ms order c.deeper-deepest.ensures ∙ ap (λ (it : List (String Global × Value)). deeper c.loop-text.deepest (deepest_name (members_view it))) (sym e) ∙ c.loop-text.invariant.deepest;
+      moc_order = member_deepest c.loop-text.moc_order c.deeper-moc_order.result c.in_ok-order.order text d ms order c.deeper-moc_order.ensures ∙ ap (λ (it : List (String Global × Value)). deeper c.loop-text.moc_order (deepest_name (members_view it))) (sym e) ∙ c.loop-text.invariant.moc_order;
     }
 
 pub returns : goal.returns
@@ -38,5 +38,5 @@ returns c =
     let none : c.loop-text.text-iterator ≡ [] = c.in-None.ensures.steps.0 in (
       sym c.loop-text.invariant.fault ∙ ap (λ (it : List (String Global × Value)). members_error c.loop-text.name (members_view it)) none,
       sym (union-empty c.loop-text.cells) ∙ ap (λ (it : List (String Global × Value)). set.union c.loop-text.cells (members_pixels (members_view it))) (sym none) ∙ c.loop-text.invariant.set,
-      sym (deeper-None c.loop-text.deepest) ∙ ap (λ (it : List (String Global × Value)). deeper c.loop-text.deepest (deepest_name (members_view it))) (sym none) ∙ c.loop-text.invariant.deepest,
+      sym (deeper-None c.loop-text.moc_order) ∙ ap (λ (it : List (String Global × Value)). deeper c.loop-text.moc_order (deepest_name (members_view it))) (sym none) ∙ c.loop-text.invariant.moc_order,
     )

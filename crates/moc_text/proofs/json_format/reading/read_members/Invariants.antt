@@ -10,5 +10,5 @@ invariant-loop-text l = record {
   count : l.name + length l.text-iterator ≡ length l.members.entries;
   fault : members_error l.name (members_view l.text-iterator) ≡ members_error 0 (members_view l.members.entries);
   set : set.union l.cells (members_pixels (members_view l.text-iterator)) ≡ set.union l.fn.cells (members_pixels (members_view l.members.entries));
-  deepest : deeper l.deepest (deepest_name (members_view l.text-iterator)) ≡ deepest_name (members_view l.members.entries);
+  moc_order : deeper l.moc_order (deepest_name (members_view l.text-iterator)) ≡ deepest_name (members_view l.members.entries);
 }

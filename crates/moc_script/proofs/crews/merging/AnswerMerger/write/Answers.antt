@@ -2,7 +2,7 @@
 use Rattle.std.proofs.Common.{List, ℕ, [], ◌++◌, subst}
 use Rattle.moc_devices.specs.Devices.{Sends}
 use Rattle.moc_devices.specs.Lemmas.{OnlyWrites-later}
-use Rattle.moc_script.proofs.Sending.{Sends-fault, Sends-then}
+use Rattle.moc_script.proofs.Sending.{Sends-error, Sends-then}
 use Rattle.moc_script.proofs.Joinings.{joins_fail, joins_then}
 use Rattle.moc_script.proofs.crews.merging.AnswerMerger.write.Goals as goal
 
@@ -14,7 +14,7 @@ pub returns-in_err-send-clause-sends : goal.returns-in_err-send-clause-sends
 returns-in_err-send-clause-sends g c =
     let pending = c.write_turns.new.self.pending.items in
     joins_then c.args.self.walks.items c.args.following.now pending _ _ _ c.from_residual-in_err-send.result c.in_ok-write_turns.ensures.sends
-    (Sends-fault (pending ++ c.args.following.now) c.send.new.pending.items [] _ _ c.send.result c.from_residual-in_err-send.result c.from_residual-in_err-send.ensures.0 c.send.ensures.sends)
+    (Sends-error (pending ++ c.args.following.now) c.send.new.pending.items [] _ _ c.send.result c.from_residual-in_err-send.result c.from_residual-in_err-send.ensures.0 c.send.ensures.sends)
 
 pub returns-clause-sends : goal.returns-clause-sends
 returns-clause-sends g c =

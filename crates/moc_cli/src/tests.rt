@@ -1,0 +1,10 @@
+//! Command lines, and the calls for an input, over memory and over devices that fail.
+mod arguments;
+mod combining;
+mod failing;
+mod inputs;
+mod lines;
+mod numbers;
+mod pictures;
+mod program_end;
+mod texts;

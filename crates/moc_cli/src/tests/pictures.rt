@@ -1,0 +1,63 @@
+//! Subcommands that draw pictures.
+use crate::tests::program_end::{expect, run_program};
+use moc_devices::OverReader;
+use std::alloc::Global;
+use std::marker::Sync;
+use std::process::Abort;
+use std::sync::Wait;
+use std::thread::Threads;
+
+/// Returns the picture of a text in a format.
+fn picture<T: Abort + Threads + Wait + Sync>(
+    rt: &T,
+    alloc: Global,
+    format: &str,
+    input: &str,
+) -> Vec<u8> {
+    let program_end = run_program(
+        rt,
+        alloc,
+        &["draw", format],
+        &mut OverReader::new(input.as_bytes()),
+    );
+    assert_eq!(rt; program_end.status, 0, "{format}");
+    assert!(rt; program_end.error_output.is_empty(), "{format}");
+    program_end.written
+}
+
+#[test]
+fn pictures(rt: HostRuntime) {
+    let ascii = picture(&rt, rt.alloc(), "ascii", "0/0 1/4-5");
+    let json = picture(&rt, rt.alloc(), "json", "{\"0\":[0],\"1\":[4,5]}");
+    let uniq = picture(&rt, rt.alloc(), "uniq", "4\n20\n21\n");
+    let other = picture(&rt, rt.alloc(), "ascii", "0/1");
+    assert!(rt; ascii.as_slice().ends_with(b"</svg>\n".as_slice()));
+    assert_eq!(rt; json.as_slice(), ascii.as_slice());
+    assert_eq!(rt; uniq.as_slice(), ascii.as_slice());
+    assert!(rt; other.as_slice() != ascii.as_slice());
+    let arguments = ["draw", "ascii"].as_slice();
+    expect(
+        &rt,
+        rt.alloc(),
+        arguments,
+        "0/12",
+        1,
+        "",
+        "fault CellTooLarge\nbyte 2, line 1, byte 2 of it: `0/12`\n",
+    );
+}
+
+/// Two texts give the picture of two; blanks after a semicolon are not a text.
+#[test]
+fn pictures_of_two(rt: HostRuntime) {
+    let one = picture(&rt, rt.alloc(), "ascii", "0/0");
+    let blank = picture(&rt, rt.alloc(), "ascii", "0/0; \n");
+    let two = picture(&rt, rt.alloc(), "auto", "0/0;{\"0\":[1]}");
+    let same = picture(&rt, rt.alloc(), "ascii", "0/0;0/1");
+    assert_eq!(rt; blank.as_slice(), one.as_slice());
+    assert_eq!(rt; two.as_slice(), same.as_slice());
+    assert!(rt; two.as_slice() != one.as_slice());
+    let arguments = ["draw", "ascii"];
+    let report = "fault BadByte\ntext 2, byte 3, line 1, byte 3 of it: `0/1;0/2`\n";
+    expect(&rt, rt.alloc(), &arguments, "0/0;0/1;0/2", 1, "", report);
+}

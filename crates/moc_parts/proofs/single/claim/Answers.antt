@@ -1,0 +1,33 @@
+use Rattle.std.proofs.Common.{cond, sym, ap, ◌∙◌}
+use Rattle.std.specs.FinSet as set
+use Rattle.moc_lists.specs.RangeList.{NumberSet}
+use Rattle.moc_parts.specs.declared.reply.Reply.{Reply}
+use Rattle.moc_parts.specs.declared.reply.Reply.TheVariants.{Taken, Claimed}
+use Rattle.moc_parts.proofs.Counts.{meets_some_common, meets_no_common}
+use Rattle.moc_parts.proofs.single.claim.Goals as goal
+
+pub returns-then-common-gt0-clause-set : goal.returns-then-common-gt0-clause-set
+returns-then-common-gt0-clause-set c =
+    let a : NumberSet = c.args.pixels.now in
+    let s : NumberSet = c.args.others.now in
+    sym (ap (λ b. cond b a (set.union a s)) (meets_some_common a s _ c.count_common-common.ensures.size c.if-common-gt0.true))
+
+pub returns-then-common-gt0-clause-reply : goal.returns-then-common-gt0-clause-reply
+returns-then-common-gt0-clause-reply c =
+    let a : NumberSet = c.args.pixels.now in
+    let s : NumberSet = c.args.others.now in
+    ap Taken c.count_common-common.ensures.size
+    ∙ sym (ap (λ b. cond {A = Reply} b (Taken (set.len (set.intersection a s))) Claimed) (meets_some_common a s _ c.count_common-common.ensures.size c.if-common-gt0.true))
+
+pub returns-clause-set : goal.returns-clause-set
+returns-clause-set c =
+    let a : NumberSet = c.args.pixels.now in
+    let s : NumberSet = c.args.others.now in
+    c.in_ok-insert_all.ensures.set
+    ∙ sym (ap (λ b. cond b a (set.union a s)) (meets_no_common a s _ c.count_common-common.ensures.size c.if-common-gt0.false))
+
+pub returns-clause-reply : goal.returns-clause-reply
+returns-clause-reply c =
+    let a : NumberSet = c.args.pixels.now in
+    let s : NumberSet = c.args.others.now in
+    sym (ap (λ b. cond {A = Reply} b (Taken (set.len (set.intersection a s))) Claimed) (meets_no_common a s _ c.count_common-common.ensures.size c.if-common-gt0.false))

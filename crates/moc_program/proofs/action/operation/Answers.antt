@@ -1,9 +1,0 @@
-use Rattle.std.proofs.Common.{codes, rules}
-use Rattle.moc_forms.specs.Combining.{operation_name}
-use Rattle.moc_forms.specs.declared.name_error.FormatNameError.TheVariants.{NotOperation}
-use Rattle.clap.specs.Words.{found_of}
-use Rattle.moc_program.proofs.Requests.{word_read}
-use Rattle.moc_program.proofs.action.operation.Goals as goal
-
-pub returns : goal.returns
-returns c = word_read operation_name NotOperation (found_of c.args.values.now) (codes "OP") c.in_ok-get_str.field-0.now c.from_str.result c.ok.result (search rules) c.from_str.ensures c.ok.ensures.value

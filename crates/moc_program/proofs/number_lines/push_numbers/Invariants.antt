@@ -1,8 +1,0 @@
--- The others so far follow the first.
-use Rattle.std.proofs.Common.{◌≡◌, ◌++◌, take}
-use Rattle.std.specs.String.{string_bytes}
-use Rattle.moc_program.proofs.NumberLines.{spaced}
-use Rattle.moc_program.proofs.number_lines.push_numbers.Given as goal
-
-abbrev pub invariant-loop-number : goal.invariant-loop-number
-invariant-loop-number l = string_bytes l.line ≡ string_bytes l.initial.line ++ spaced (take l.number-index l.others)

@@ -1,8 +1,0 @@
-pub mod Actions
-pub mod Requests
-pub mod Explanations
-pub mod Listing
-pub mod Numbers
-pub mod Outcomes
-pub mod Statuses
-pub mod Private
