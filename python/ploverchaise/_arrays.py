@@ -1,4 +1,7 @@
-"""Numbers in and out: an int, a list or another iterable, or what numpy takes for an array; answers come in kind."""
+"""Conversions between Python's integers, iterables and NumPy arrays, and the arrays that the library reads and writes.
+
+A result has the kind of its argument: an int, a list, or a NumPy array. NumPy is imported only by functions that handle its arrays.
+"""
 from __future__ import annotations
 
 import operator
@@ -10,25 +13,37 @@ if TYPE_CHECKING:
 
 Numbers = Union[int, Iterable[int], "numpy.ndarray"]
 
-NO_NUMBER = 2**64 - 1
-"""What stands for a number that 64 bits without sign do not hold: no pixel, no cell and no NUNIQ number."""
+INVALID_NUMBER = 2**64 - 1
+"""The value that replaces an int outside 0 to 2^64 - 1. It is not a pixel, not a cell number and not a NUNIQ number. The library writes it
+for a missing neighbour."""
 
-# numpy's types by the codes of `array`, as numbers go into the library.
-_TYPES = {"Q": "uint64", "B": "uint8", "I": "uint32"}
-# How many numbers are put in sequence at once, and by which of their bits: some 49,000 pieces of the sky.
-_PIECE, _SHIFT = 2**18, 46
-# Memory for an array without elements, whose address is not null either.
-_SPARE = array("Q", [0])
-_NOT_NULL, _ = _SPARE.buffer_info()
+# The dtypes of NumPy for the type codes of `array` that outputs use.
+_DTYPES = {"Q": "uint64", "B": "uint8", "I": "uint32"}
+# The number of elements that are sorted at once.
+_CHUNK_SIZE = 2**18
+# The cell of order 6 that contains a pixel is the pixel shifted right by this number of bits.
+_ORDER_6_SHIFT = 2 * (29 - 6)
+# Memory whose address replaces the address of an array without elements, which may be null.
+_PLACEHOLDER = array("Q", [0])
+_PLACEHOLDER_ADDRESS, _ = _PLACEHOLDER.buffer_info()
 
 
-def _unsigned(number) -> int:
+def _to_uint64(number) -> int:
+    """Returns a number if 64 bits without a sign can hold it, and INVALID_NUMBER otherwise. Raises TypeError if it is not an integer."""
     number = operator.index(number)
-    return number if 0 <= number <= NO_NUMBER else NO_NUMBER
+    return number if 0 <= number <= INVALID_NUMBER else INVALID_NUMBER
 
 
 class Array:
-    """Numbers without a sign, one behind the other, that the library reads or writes in rows of `width`."""
+    """An array of unsigned integers in contiguous memory, which the library reads or writes.
+
+    Attributes
+    ----------
+    numbers : array.array or numpy.ndarray
+        The elements.
+    width : int
+        The number of elements of a row. For the library, the length of the array is the number of its rows.
+    """
 
     width = 1
 
@@ -39,157 +54,200 @@ class Array:
         return len(self.numbers)
 
     @property
-    def as_passed(self) -> tuple[int, int]:
-        """The address, which is never null, and the number of rows. The memory is this object's."""
-        return self.address() or _NOT_NULL, len(self) // self.width
+    def c_arguments(self) -> tuple[int, int]:
+        """The address, which is never null, and the number of rows. This object owns the memory."""
+        return self.address() or _PLACEHOLDER_ADDRESS, len(self) // self.width
 
 
 class PlainArray(Array):
-    """An `array`, which is answered as a list, or as an int."""
+    """An array whose results are lists or ints.
 
-    def __init__(self, numbers: array, is_one: bool = False) -> None:
+    Attributes
+    ----------
+    is_scalar : bool
+        Whether the argument was a single int. Results are then ints.
+    """
+
+    def __init__(self, numbers: array, is_scalar: bool = False) -> None:
         super().__init__(numbers)
-        self.is_one = is_one
+        self.is_scalar = is_scalar
 
     @classmethod
-    def of(cls, given) -> PlainArray:
-        if not hasattr(given, "__iter__"):
-            return cls(array("Q", [_unsigned(given)]), True)
-        given = given if isinstance(given, (list, tuple, range, array)) else list(given)
+    def of(cls, numbers) -> PlainArray:
+        """Returns the array of an int or of an iterable of ints. Raises TypeError if a number is not an integer."""
+        if not hasattr(numbers, "__iter__"):
+            return cls(array("Q", [_to_uint64(numbers)]), True)
+        sequence = numbers if isinstance(numbers, (list, tuple, range, array)) else list(numbers)
         try:
-            return cls(array("Q", given))
+            return cls(array("Q", sequence))
         except OverflowError:
-            return cls(array("Q", map(_unsigned, given)))
+            return cls(array("Q", map(_to_uint64, sequence)))
 
     def address(self) -> int:
-        at, _ = self.numbers.buffer_info()
-        return at
+        """Returns the address of the first element, which may be null if there is none."""
+        address, _ = self.numbers.buffer_info()
+        return address
 
-    def room(self, code: str = "Q", width: int = 1) -> PlainArray:
-        """Room for a row of so many numbers for each number here."""
-        empty = array(code)
-        made = PlainArray(array(code, bytes(len(self) * width * empty.itemsize)), self.is_one)
-        made.width = width
-        return made
+    def new_output(self, code: str = "Q", width: int = 1) -> PlainArray:
+        """Returns an array with a row of `width` elements for each element of this array.
 
-    def places_of(self, number: int) -> list[int]:
-        """Where a number stands."""
-        return [place for place, one in enumerate(self.numbers) if one == number]
+        Parameters
+        ----------
+        code : str
+            The type code of `array` for the elements: Q, I or B.
+        width : int
+            The number of elements of a row.
+        """
+        item_size = array(code).itemsize
+        output = PlainArray(array(code, bytes(len(self) * width * item_size)), self.is_scalar)
+        output.width = width
+        return output
 
-    def at(self, places) -> PlainArray:
-        """The numbers at these places."""
-        return PlainArray(array("Q", [self.numbers[place] for place in places]))
+    def positions_of(self, number: int) -> list[int]:
+        """Returns the positions of the elements that are equal to a number, ascending."""
+        return [position for position, element in enumerate(self.numbers) if element == number]
 
-    def is_scattered(self) -> bool:
-        """Whether it is worth while to put them in sequence, which for a list it is not."""
+    def take(self, positions) -> PlainArray:
+        """Returns the elements at these positions."""
+        return PlainArray(array("Q", [self.numbers[position] for position in positions]))
+
+    def is_worth_sorting(self) -> bool:
+        """Returns False: the elements of a list are looked up in the given order."""
         return False
 
-    def answer(self):
-        """The numbers as they are answered."""
-        return self.numbers[0] if self.is_one else self.numbers.tolist()
+    def result(self):
+        """Returns the elements as a list, or the element as an int."""
+        return self.numbers[0] if self.is_scalar else self.numbers.tolist()
 
-    def truths(self):
-        """What they tell, 1 or 0 each."""
-        return bool(self.numbers[0]) if self.is_one else [number == 1 for number in self.numbers]
+    def booleans(self):
+        """Returns the elements, each 1 or 0, as a list of bools, or the element as a bool."""
+        return bool(self.numbers[0]) if self.is_scalar else [number == 1 for number in self.numbers]
 
     def rows(self):
-        """The rows, without the places that nothing stands at."""
+        """Returns the rows as lists, without missing neighbours, or the row as a list."""
         starts = range(0, len(self), self.width)
-        found = [[number for number in self.numbers[at:at + self.width] if number != NO_NUMBER] for at in starts]
-        return found[0] if self.is_one else found
+        rows = [[number for number in self.numbers[start:start + self.width] if number != INVALID_NUMBER] for start in starts]
+        return rows[0] if self.is_scalar else rows
 
     def columns(self):
-        """The first of each row, the second of each, and so on, with -1 where nothing stands."""
-        numbers = [-1 if number == NO_NUMBER else number for number in self.numbers]
-        return numbers if self.is_one else [numbers[at::self.width] for at in range(self.width)]
+        """Returns a list for each column, or the row as a list. A missing neighbour is -1."""
+        numbers = [-1 if number == INVALID_NUMBER else number for number in self.numbers]
+        return numbers if self.is_scalar else [numbers[column::self.width] for column in range(self.width)]
 
 
 class NumpyArray(Array):
-    """A numpy array, whose answers have its shape. Numbers with a sign go as they are: -1 as the greatest one without a sign, and back."""
+    """A flat NumPy array whose results are NumPy arrays.
+
+    A signed integer is passed with its bits, -1 as 2^64 - 1, and is converted back in results.
+
+    Attributes
+    ----------
+    shape : tuple of int
+        The shape of the argument, which is also the shape of results.
+    """
 
     def __init__(self, numbers: numpy.ndarray, shape: tuple[int, ...]) -> None:
         super().__init__(numbers)
         self.shape = shape
 
     @classmethod
-    def of(cls, given) -> NumpyArray:
+    def of(cls, numbers) -> NumpyArray:
+        """Returns the elements of an array-like object of any shape. Copies them only if the dtype or the layout of the memory requires it.
+
+        Raises TypeError if the dtype is not an integer type. An array without elements may have any dtype."""
         import numpy
 
-        given = numpy.asarray(given)
-        if given.dtype.kind not in "iu" and given.size:
-            raise TypeError(f"whole numbers are wanted, not {given.dtype}")
-        kind = numpy.uint64 if given.dtype.kind == "u" else numpy.int64
-        flat = numpy.require(given, kind, ["C", "A"]).reshape(-1)
-        return cls(flat.view(numpy.uint64), given.shape)
+        elements = numpy.asarray(numbers)
+        if elements.dtype.kind not in "iu" and elements.size:
+            raise TypeError(f"expected an array of integers, not of {elements.dtype}")
+        dtype = numpy.uint64 if elements.dtype.kind == "u" else numpy.int64
+        flat = numpy.require(elements, dtype, ["C", "A"]).reshape(-1)
+        return cls(flat.view(numpy.uint64), elements.shape)
 
     def address(self) -> int:
+        """Returns the address of the first element."""
         return self.numbers.ctypes.data
 
-    def room(self, code: str = "Q", width: int = 1) -> NumpyArray:
-        """Room for a row of so many numbers for each number here."""
+    def new_output(self, code: str = "Q", width: int = 1) -> NumpyArray:
+        """Returns an array with a row of `width` elements for each element of this array. The elements are not initialized.
+
+        Parameters
+        ----------
+        code : str
+            The type code of `array` for the elements: Q, I or B.
+        width : int
+            The number of elements of a row.
+        """
         import numpy
 
-        made = NumpyArray(numpy.empty(len(self) * width, _TYPES[code]), self.shape)
-        made.width = width
-        return made
+        output = NumpyArray(numpy.empty(len(self) * width, _DTYPES[code]), self.shape)
+        output.width = width
+        return output
 
-    def places_of(self, number: int) -> numpy.ndarray:
-        """Where a number stands."""
-        places, = (self.numbers == number).nonzero()
-        return places
+    def positions_of(self, number: int) -> numpy.ndarray:
+        """Returns the positions of the elements that are equal to a number, ascending."""
+        positions, = (self.numbers == number).nonzero()
+        return positions
 
-    def at(self, places) -> NumpyArray:
-        """The numbers at these places."""
-        return NumpyArray(self.numbers[places], (len(places),))
+    def take(self, positions) -> NumpyArray:
+        """Returns the elements at these positions, as an array with one axis."""
+        return NumpyArray(self.numbers[positions], (len(positions),))
 
-    def is_scattered(self) -> bool:
-        """Whether they are many, and do not rise."""
+    def is_worth_sorting(self) -> bool:
+        """Returns whether the array has more than 1,000 elements and is not ascending."""
         return len(self) > 1000 and bool((self.numbers[1:] < self.numbers[:-1]).any())
 
-    def gathered(self):
-        """Their places in pieces, in each of which the numbers of one piece of the sky stand together, and the pieces rise."""
+    def sorted_chunks(self):
+        """Returns an iterator over the positions of the elements, in chunks of `_CHUNK_SIZE` positions.
+
+        In a chunk, pixels are sorted by the cell of order 6 that contains them. A number that is not a pixel may be at any position."""
         import numpy
 
-        for start in range(0, len(self), _PIECE):
-            pieces = (self.numbers[start:start + _PIECE] >> numpy.uint64(_SHIFT)).astype(numpy.uint16)
-            yield numpy.argsort(pieces, kind="stable") + start
+        for start in range(0, len(self), _CHUNK_SIZE):
+            cells = (self.numbers[start:start + _CHUNK_SIZE] >> numpy.uint64(_ORDER_6_SHIFT)).astype(numpy.uint16)
+            yield numpy.argsort(cells, kind="stable") + start
 
-    def put(self, places: numpy.ndarray, found: NumpyArray) -> None:
-        """Puts these numbers at these places."""
-        self.numbers[places] = found.numbers
+    def put(self, positions: numpy.ndarray, values: NumpyArray) -> None:
+        """Replaces the elements at these positions by values."""
+        self.numbers[positions] = values.numbers
 
-    def answer(self):
-        """The numbers as they are answered: with a sign, as numpy's and healpy's are."""
+    def result(self):
+        """Returns the elements as int64, which healpy uses too, in the shape of the argument."""
         signed = self.numbers.view("int64") if self.numbers.dtype == "uint64" else self.numbers.astype("int64")
         return signed.reshape(self.shape)[()]
 
-    def truths(self):
-        """What they tell, 1 or 0 each."""
+    def booleans(self):
+        """Returns the elements, each 1 or 0, as bools in the shape of the argument."""
         return self.numbers.view(bool).reshape(self.shape)[()]
 
     def rows(self):
-        """The rows, with -1 where nothing stands."""
+        """Returns the rows along the last axis. A missing neighbour is -1."""
         return self.numbers.view("int64").reshape(*self.shape, self.width)
 
     def columns(self):
-        """The first of each row, the second of each, and so on, as one array."""
+        """Returns the columns along the first axis. A missing neighbour is -1."""
         import numpy
 
         return numpy.moveaxis(self.rows(), -1, 0)
 
 
-def numbers_of(given: Numbers) -> PlainArray | NumpyArray:
-    """The numbers that were passed. TypeError where one is no whole number."""
-    return (NumpyArray if hasattr(given, "__array__") else PlainArray).of(given)
+def as_array(numbers: Numbers) -> PlainArray | NumpyArray:
+    """Returns the array of an argument: a `NumpyArray` if it implements NumPy's array interface, and a `PlainArray` otherwise.
+
+    Raises TypeError if a number is not an integer."""
+    return (NumpyArray if hasattr(numbers, "__array__") else PlainArray).of(numbers)
 
 
-def pairs_of(given) -> PlainArray | NumpyArray:
-    """The pairs of numbers that were passed. ValueError where they are no pairs."""
-    if hasattr(given, "__array__"):
-        found = NumpyArray.of(given)
-        if len(found) and found.shape[1:] != (2,):
-            raise ValueError(f"pairs (from, to) are wanted, an array of the shape (n, 2), not {found.shape}")
+def as_pairs(pairs) -> PlainArray | NumpyArray:
+    """Returns an array with a row of two elements for each pair of an argument.
+
+    Raises ValueError if a NumPy array has another shape than (n, 2) and is not empty, or if an item has not two elements. Raises TypeError
+    if an item is not iterable, or if a number is not an integer."""
+    if hasattr(pairs, "__array__"):
+        numbers = NumpyArray.of(pairs)
+        if len(numbers) and numbers.shape[1:] != (2,):
+            raise ValueError(f"expected an array of pairs (from, to) with the shape (n, 2), not {numbers.shape}")
     else:
-        found = PlainArray.of([number for start, end in given for number in (start, end)])
-    found.width = 2
-    return found
+        numbers = PlainArray.of([number for start, end in pairs for number in (start, end)])
+    numbers.width = 2
+    return numbers

@@ -1,185 +1,156 @@
-"""The door to the built library: its calls by ctypes, and the one desk that all coverages of a process lie on.
+"""Loads the library with ctypes, and calls its functions.
 
-A desk is in one call at a time, so a lock stands before it. One desk serves all threads, since a coverage is no thread's own, and two that
-are joined have to lie on the same one. Calls of ctypes let other threads of Python run, those that need no desk among them."""
+One store has all coverages of the process, because both operands of a set operation must be in the same store. A lock protects the store,
+which may be in one call at a time. During a call, ctypes lets other threads of Python run. They may also call functions that need no store.
+"""
 from __future__ import annotations
 
 import ctypes
 import os
 import threading
-from ctypes import c_bool, c_size_t, c_uint8, c_uint64, c_void_p
+from ctypes import c_bool
 
 from ._arrays import Array
+from ._codes import KINDS
+from ._signatures import CLIENT, CLIENT_CALLS, ID_CALLS, NUMBER_CALLS, STORE, STORE_CALLS, ClientHandle, Result, StoreHandle
 from .errors import MEMORY, MocError
 
-NONE = 255
-"""In place of an order: that there is none."""
+NO_ORDER = 255
+"""The value of an optional order that is not stated, `MOC_NO_ORDER` in C."""
 
 
-class Desk(ctypes.Structure):
-    """moc_desk."""
+def _library_path() -> str:
+    """Returns the value of PLOVERCHAISE_LIBRARY if it is set, or the path of the library in this folder.
 
-    _fields_ = [("at", c_void_p)]
-
-
-class Seat(ctypes.Structure):
-    """moc_seat, which ends when nobody has it any more."""
-
-    _fields_ = [("at", c_void_p)]
-
-
-class Outcome(ctypes.Structure):
-    """moc_outcome."""
-
-    _fields_ = [("code", ctypes.c_uint32), ("first", c_uint64), ("second", c_uint64)]
+    Raises ImportError if the variable is not set and the folder has no library."""
+    chosen = os.environ.get("PLOVERCHAISE_LIBRARY")
+    default = os.path.join(os.path.dirname(os.path.abspath(__file__)), "libploverchaise.so")
+    if not chosen and not os.path.exists(default):
+        raise ImportError(f"{default} does not exist: run `./moc library` at the top of the repository to prove and build it, or set "
+                          "PLOVERCHAISE_LIBRARY to the path of another library")
+    return chosen or default
 
 
-def _path() -> str:
-    """Where the library lies: where the environment says, or beside these modules."""
-    named = os.environ.get("PLOVERCHAISE_LIBRARY")
-    beside = os.path.join(os.path.dirname(os.path.abspath(__file__)), "libploverchaise.so")
-    if not named and not os.path.exists(beside):
-        raise ImportError(f"there is no {beside}: `./moc library`, at the top of the repository, proves and builds it; "
-                          "PLOVERCHAISE_LIBRARY may name one that lies elsewhere")
-    return named or beside
+def declare_function(library, name, result, *arguments):
+    """Returns the function `moc_NAME` of a library, with the type of its result and the types of its arguments."""
+    function = getattr(library, f"moc_{name}")
+    function.argtypes, function.restype = arguments, result
+    return function
 
 
-_KEY, _ORDER, _NUMBER = c_uint64, c_uint8, c_uint64
-# An array is its address and its length.
-_ARRAY = (c_void_p, c_size_t)
+library = ctypes.CDLL(_library_path())
+_store_functions = {name: declare_function(library, name, Result, STORE, *types) for name, types in STORE_CALLS.items()}
+_client_functions = {name: declare_function(library, name, Result, CLIENT, *types) for name, types in CLIENT_CALLS.items()}
+_number_functions = {name: declare_function(library, name, Result, *types) for name, types in NUMBER_CALLS.items()}
+_client_open = declare_function(library, "client_open", c_bool, CLIENT)
+_client_close = declare_function(library, "client_close", None, CLIENT)
 
-# What each call on the desk takes behind the desk.
-DESK_CALLS = {
-    "empty": (), "full": (),
-    "from_ranges": _ARRAY, "from_cells": (_ORDER, *_ARRAY), "from_uniqs": _ARRAY,
-    "read_ascii": _ARRAY, "read_json": _ARRAY, "read_uniq": _ARRAY,
-    "union": (_KEY, _KEY), "intersection": (_KEY, _KEY), "difference": (_KEY, _KEY), "symmetric": (_KEY, _KEY),
-    "complement": (_KEY,), "degrade": (_KEY, _ORDER), "free": (_KEY,),
-    "count": (_KEY,), "count_common": (_KEY, _KEY), "range_count": (_KEY,), "deepest_order": (_KEY,), "is_empty": (_KEY,),
-    "contains": (_KEY, _NUMBER), "meets": (_KEY, _KEY), "covers": (_KEY, _KEY), "same": (_KEY, _KEY),
-    "contains_all": (_KEY, *_ARRAY, *_ARRAY), "ranges": (_KEY, *_ARRAY), "cells": (_KEY, *_ARRAY),
-    "write_ascii": (_KEY, _ORDER), "write_json": (_KEY, _ORDER), "write_uniq": (_KEY,), "describe": (_KEY, _ORDER), "draw": (_KEY,),
-    "text": _ARRAY,
-}
-
-# What each call of a seat takes behind the seat.
-_DESK, _SEAT = ctypes.POINTER(Desk), ctypes.POINTER(Seat)
-SEAT_CALLS = {
-    "map_begin": (_DESK, _KEY, c_uint8), "map_join": (_SEAT,), "map_apply": _ARRAY, "map_answer": _ARRAY, "map_set": (_DESK,),
-}
-
-# What each call takes that needs no desk.
-NUMBER_CALLS = {
-    "nest_to_ring": (_ORDER, *_ARRAY, *_ARRAY), "ring_to_nest": (_ORDER, *_ARRAY, *_ARRAY),
-    "nest_to_uniq": (_ORDER, *_ARRAY, *_ARRAY), "uniq_to_nest": (*_ARRAY, *_ARRAY, *_ARRAY),
-    "nest_to_face_xy": (_ORDER, *_ARRAY, *_ARRAY, *_ARRAY, *_ARRAY), "touching": (_ORDER, *_ARRAY, *_ARRAY),
-    "neighbours": (_ORDER, *_ARRAY, *_ARRAY),
-}
-
-
-def declared(library, name, result, *arguments):
-    """The function `moc_NAME`, which takes and answers these types."""
-    call = getattr(library, f"moc_{name}")
-    call.argtypes, call.restype = arguments, result
-    return call
-
-
-library = ctypes.CDLL(_path())
-_on_desk = {name: declared(library, name, Outcome, _DESK, *types) for name, types in DESK_CALLS.items()}
-_on_seat = {name: declared(library, name, Outcome, _SEAT, *types) for name, types in SEAT_CALLS.items()}
-_on_numbers = {name: declared(library, name, Outcome, *types) for name, types in NUMBER_CALLS.items()}
-
-_desk = Desk()
-if not declared(library, "open", c_bool, _DESK)(ctypes.byref(_desk)):
+_store = StoreHandle()
+_store_pointer = ctypes.byref(_store)
+if not declare_function(library, "store_open", c_bool, STORE)(_store_pointer):
     raise MemoryError
-_at = ctypes.byref(_desk)
-_seat_open, _seat_close = declared(library, "seat_open", c_bool, _SEAT), declared(library, "seat_close", None, Seat)
 
-# A finalizer may run while its own thread has the lock, but never within a call of the library: so it may take the lock once more.
+# The lock is reentrant, because a finalizer or a signal handler may run in the thread that holds it, and call the store. It does not run
+# during a call of the library.
 _lock = threading.RLock()
-# A process is forked while no call of the desk runs.
+# The process forks only while no other thread calls the store.
 os.register_at_fork(before=_lock.acquire, after_in_parent=_lock.release, after_in_child=_lock.release)
-# How many texts were begun on the desk, which keeps the last.
-_texts = 0
+# The number of texts that the process has requested. The store keeps the last text.
+_text_count = 0
 
 
-def done(outcome: Outcome) -> Outcome:
-    """The outcome of a call that was not refused."""
-    if outcome.code == MEMORY:
+def check_result(result: Result, name: str = "") -> Result:
+    """Returns the result of the function `moc_NAME` if its code is `OK`.
+
+    If a function that returns an id fails, `second` has the position of the error. Two numbers of a position have 32 bits each in it.
+
+    Raises
+    ------
+    MemoryError
+        If an allocation failed.
+    MocError
+        For any other error.
+    """
+    if result.code == MEMORY:
         raise MemoryError("no memory is left for a coverage")
-    if outcome.code:
-        raise MocError(outcome.code, outcome.first, outcome.second)
-    return outcome
+    if result.code and name in ID_CALLS:
+        if len(KINDS[result.code].place) > 1:
+            raise MocError(result.code, result.second & 0xFFFFFFFF, result.second >> 32)
+        raise MocError(result.code, result.second, 0)
+    if result.code:
+        raise MocError(result.code, result.first, result.second)
+    return result
 
 
-def _passed(arguments):
-    """The arguments as they are passed: an array by its address and its length. (The caller's tuple of arguments keeps it meanwhile.)"""
+def _c_arguments(arguments):
+    """Returns an iterator over arguments for C: arrays and bytes become an address and a length. The caller keeps their memory alive."""
     for argument in arguments:
         if isinstance(argument, Array):
-            yield from argument.as_passed
+            yield from argument.c_arguments
         elif isinstance(argument, bytes):
             yield from (argument, len(argument))
         else:
             yield argument
 
 
-def on_desk(name: str, *arguments) -> Outcome:
-    """Calls `moc_NAME` on the desk."""
+def call_with_store(name: str, *arguments) -> Result:
+    """Calls `moc_NAME` with the store, and returns its result. Raises as `check_result`."""
     with _lock:
-        outcome = _on_desk[name](_at, *_passed(arguments))
-    return done(outcome)
+        result = _store_functions[name](_store_pointer, *_c_arguments(arguments))
+    return check_result(result, name)
 
 
-def on_numbers(name: str, *arguments) -> None:
-    """Calls `moc_NAME`, which needs no desk."""
-    done(_on_numbers[name](*_passed(arguments)))
+def call_without_handle(name: str, *arguments) -> None:
+    """Calls `moc_NAME`, which takes neither the store nor a client handle. Raises as `check_result`."""
+    check_result(_number_functions[name](*_c_arguments(arguments)))
 
 
-def seat_opened() -> Seat:
-    """A seat on which nobody sits."""
-    seat = Seat()
-    if not _seat_open(ctypes.byref(seat)):
-        raise MemoryError("no memory is left for a seat")
-    return seat
+def open_client() -> ClientHandle:
+    """Returns a new client handle without a map. Raises MemoryError if an allocation fails."""
+    handle = ClientHandle()
+    if not _client_open(ctypes.byref(handle)):
+        raise MemoryError("no memory is left for a handle")
+    return handle
 
 
-def _ended(seat: Seat, close=_seat_close) -> None:
-    """Ends a seat that was begun. (What it uses is bound here, since modules may be gone when a process ends.)"""
-    if seat.at:
-        close(seat)
+def _close_client(handle: ClientHandle, close=_client_close, byref=ctypes.byref) -> None:
+    """Closes a client handle. The default arguments exist also at the end of the process, when modules may be deleted."""
+    close(byref(handle))
 
 
-Seat.__del__ = _ended
+ClientHandle.__del__ = _close_client
 
 
-def on_seat(name: str, seat: Seat, *arguments) -> Outcome:
-    """Calls `moc_NAME` of a seat, which is in no other call."""
-    passed = (ctypes.byref(it) if isinstance(it, Seat) else it for it in _passed(arguments))
-    return done(_on_seat[name](ctypes.byref(seat), *passed))
+def call_with_client(name: str, handle: ClientHandle, *arguments) -> Result:
+    """Calls `moc_NAME` with a client handle, and returns its result. The handle must not be in another call. Raises as `check_result`."""
+    converted = (ctypes.byref(it) if isinstance(it, ClientHandle) else it for it in _c_arguments(arguments))
+    return check_result(_client_functions[name](ctypes.byref(handle), *converted))
 
 
-def on_seat_and_desk(name: str, seat: Seat, *arguments) -> Outcome:
-    """Calls `moc_NAME` of a seat and the desk."""
+def call_with_client_and_store(name: str, handle: ClientHandle, *arguments) -> Result:
+    """Calls `moc_NAME` with a client handle and the store, and returns its result. Raises as `check_result`."""
     with _lock:
-        outcome = _on_seat[name](ctypes.byref(seat), _at, *arguments)
-    return done(outcome)
+        result = _client_functions[name](ctypes.byref(handle), _store_pointer, *arguments)
+    return check_result(result, name)
 
 
-def text_of(name: str, *arguments) -> str:
-    """The text that `moc_NAME` makes. Where a finalizer or a handler of a signal makes one in between, it is made anew."""
-    global _texts
+def make_text(name: str, *arguments) -> str:
+    """Returns the text that `moc_NAME` makes in the store. Raises as `check_result`.
+
+    A finalizer or a signal handler may replace the text in the store before it is copied. In this case the call is repeated."""
+    global _text_count
     with _lock:
         while True:
-            _texts += 1
-            turn = _texts
-            length = done(_on_desk[name](_at, *arguments)).first
+            _text_count += 1
+            number = _text_count
+            length = check_result(_store_functions[name](_store_pointer, *arguments)).first
             buffer = ctypes.create_string_buffer(length + 1)
-            outcome = _on_desk["text"](_at, buffer, length)
-            if turn == _texts:
-                return ctypes.string_at(buffer, done(outcome).first).decode("utf-8")
+            result = _store_functions["text"](_store_pointer, buffer, length)
+            if number == _text_count:
+                return ctypes.string_at(buffer, check_result(result).first).decode("utf-8")
 
 
-def free(key: int, call=_on_desk["free"], desk=_at, lock=_lock) -> None:
-    """Frees the set of a key. (What it uses is bound here, since modules may be gone when a process ends.)"""
+def free_coverage(coverage_id: int, free=_store_functions["free"], store=_store_pointer, lock=_lock) -> None:
+    """Frees the coverage with an id. The default arguments exist also at the end of the process, when modules may be deleted."""
     with lock:
-        call(desk, key)
+        free(store, coverage_id)

@@ -1,4 +1,4 @@
-"""Sky coverages."""
+"""Sky coverages, which are sets of HEALPix cells."""
 from __future__ import annotations
 
 import json
@@ -6,166 +6,308 @@ import operator
 from array import array
 from typing import TYPE_CHECKING, Iterable
 
-from ._arrays import Array, Numbers, PlainArray, numbers_of, pairs_of
-from ._library import NONE, free, on_desk, text_of
-from .errors import MocError, order_byte
+from ._arrays import Array, Numbers, PlainArray, as_array, as_pairs
+from ._library import NO_ORDER, call_with_store, free_coverage, make_text
+from .errors import MocError, check_order
 
 if TYPE_CHECKING:
     import numpy
 
 PIXEL_COUNT = 12 * 4**29
-"""How many pixels the sky has, cells of order 29."""
+"""The number of pixels of the sky, which are cells of order 29."""
 
-# Up to so many ranges lie near in memory.
-_FEW_RANGES = 2000
-_READERS = {"ascii": "read_ascii", "json": "read_json", "uniq": "read_uniq"}
+# Pixels are sorted before they are looked up only if the set has more ranges. The ranges of a smaller set are close together in memory.
+_MIN_RANGES_FOR_SORTING = 2000
+# The functions of the library that parse a text, by the name of its format.
+_PARSERS = {"ascii": "read_ascii", "json": "read_json", "uniq": "read_uniq"}
 
 
 class MOC:
-    """A set of pixels of order 29, by their nested numbers. It is never changed: each call makes a new one.
+    """An immutable set of pixels, which are HEALPix cells of order 29, by their nested numbers.
 
-    `MOC()` has no pixel. Two are equal where they have the same pixels, whatever order a text has named. Any thread may use any of them;
-    their calls wait for one another. All calls that make one raise MemoryError where no memory is left.
+    `MOC()` is the empty set. Two MOCs are equal if they have the same pixels. A MOC does not keep the MOC order that a text states. A MOC
+    is true if it is not empty.
+
+    Any thread may use any MOC. Calls wait for each other, because one store has all MOCs of a process. A call raises MemoryError if an
+    allocation fails.
+
+    A MOC is stored as sorted ranges of pixels. If its description does not state otherwise, a method takes time that is linear in the
+    number of ranges of its operands. A set operation with several MOCs combines them one after the other.
+
+    Examples
+    --------
+    >>> moc = MOC.from_string("0/0 1/4-5")
+    >>> print(moc - MOC.from_string("1/4"))
+    0/0 1/5
+    >>> moc.contains([0, 2**60])
+    [True, False]
     """
 
-    __slots__ = ("_key", "__weakref__")
-    _key: int
+    __slots__ = ("_id", "__weakref__")
+    _id: int
 
     def __init__(self) -> None:
-        self._key = on_desk("empty").first
+        self._id = call_with_store("empty").first
 
-    def __del__(self, free=free) -> None:
+    def __del__(self, free=free_coverage) -> None:
         try:
-            key = self._key
+            coverage_id = self._id
         except AttributeError:
-            # (it could not be made)
+            # The store did not return an id.
             return
-        free(key)
+        free(coverage_id)
 
     @classmethod
-    def _made(cls, call: str, *arguments) -> MOC:
-        """The set that a call makes."""
-        return cls._at(on_desk(call, *arguments).first)
+    def _from_call(cls, function: str, *arguments) -> MOC:
+        """Returns the coverage that a function of the library stores."""
+        return cls._from_id(call_with_store(function, *arguments).first)
 
     @classmethod
-    def _at(cls, key: int) -> MOC:
-        """The set at a key that was just given."""
-        made = cls.__new__(cls)
-        made._key = key
-        return made
+    def _from_id(cls, coverage_id: int) -> MOC:
+        """Returns the coverage with an id that the store just returned. The MOC frees it."""
+        moc = cls.__new__(cls)
+        moc._id = coverage_id
+        return moc
 
-    # Making them.
+    # Constructors
 
     @classmethod
     def new_empty(cls, max_depth: int = 29) -> MOC:
-        """The set without pixels. (mocpy keeps the order with it; here it is looked at alone.) MocError NoSuchOrder above 29."""
-        order_byte(max_depth)
+        """Returns the empty set.
+
+        Parameters
+        ----------
+        max_depth : int
+            The order of the MOC in mocpy. Here it is only checked.
+
+        Raises
+        ------
+        MocError
+            `NoSuchOrder` if `max_depth` is not 0 to 29.
+        """
+        check_order(max_depth)
         return cls()
 
     @classmethod
     def full(cls) -> MOC:
-        """The set of all pixels of the sky."""
-        return cls._made("full")
+        """Returns the set of all pixels of the sky."""
+        return cls._from_call("full")
 
     @classmethod
     def from_string(cls, value: str | bytes, format: str = "ascii") -> MOC:
-        """What a text says, in the form `ascii`, `json` or `uniq`, a list of NUNIQ numbers, one a line.
+        """Parses a text. Takes linear time in its length, and O(n log n) for its n cells and ranges, or O(n) if they are ascending.
 
-        MocError at its first fault: BadByte, NoOrder, OrderTooLarge, CellTooLarge, Backwards, Unfinished with a byte; NotJson, NotObject
-        with no place, BadOrder, NotArray with a name, NotWhole, CellTooLarge with a name and an item; BadByte, NotUniq with a line.
-        ValueError for another form."""
-        if format not in _READERS:
-            raise ValueError(f"a form is one of {', '.join(_READERS)}, not {format}")
-        return cls._made(_READERS[format], value.encode() if isinstance(value, str) else bytes(memoryview(value)))
+        Parameters
+        ----------
+        value : str or bytes
+            The text. A str is encoded in UTF-8.
+        format : {"ascii", "json", "uniq"}
+            The format: ASCII or JSON of MOC 2.0, or a list of NUNIQ numbers with one number on a line.
+
+        Raises
+        ------
+        MocError
+            For the first error of the text. The errors are, by format:
+
+            - ASCII, with the position of a byte: `BadByte`, `NoOrder`, `OrderTooLarge`, `CellTooLarge`, `Backwards`, `Unfinished`;
+            - JSON, without a position: `NotJson`, `NotObject`; with the position of a name: `BadOrder`, `NotArray`; with those of a name
+              and an item: `NotWhole`, `CellTooLarge`;
+            - NUNIQ numbers, with the number of a line: `BadByte`, `NotUniq`.
+        ValueError
+            If the format is unknown.
+        TypeError
+            If the value is neither a str nor a bytes-like object.
+        """
+        if format not in _PARSERS:
+            raise ValueError(f"format must be one of {', '.join(_PARSERS)}, not {format}")
+        return cls._from_call(_PARSERS[format], value.encode() if isinstance(value, str) else bytes(memoryview(value)))
 
     @classmethod
     def from_json(cls, json_moc: dict[str, list[int]] | str | bytes) -> MOC:
-        """What JSON says: a text, or a dict with a list of cells for each order. MocError as of `from_string`."""
+        """Parses JSON, as `from_string` with the format `json`.
+
+        Parameters
+        ----------
+        json_moc : dict, str or bytes
+            A text, or a dict with a list of nested numbers for each order. The orders are its keys, as str.
+
+        Raises
+        ------
+        MocError
+            As in `from_string`.
+        """
         return cls.from_string(json.dumps(json_moc) if isinstance(json_moc, dict) else json_moc, "json")
 
     @classmethod
     def from_ranges(cls, ranges: Iterable[tuple[int, int]] | numpy.ndarray) -> MOC:
-        """The pixels in any of the ranges (from, to), `to` not included, which come in any order and may overlap.
+        """Returns the set of the pixels in any of the ranges. Takes O(n log n) for n ranges, or O(n) if they are ascending.
 
-        MocError with the place of the first faulty range: Backwards where it ends before it begins, PixelTooLarge where it ends behind
-        the sky. A number below 0 counts as one behind the sky."""
-        return cls._made("from_ranges", pairs_of(ranges))
+        Parameters
+        ----------
+        ranges : iterable of pairs of int, or array-like of integers with the shape (n, 2)
+            Ranges (from, to) of pixels, without `to`. They may be in any order, may overlap, and may be empty.
+
+        Raises
+        ------
+        MocError
+            `Backwards` if a range ends before its start; `PixelTooLarge` if a range ends above the number of pixels, 12·4^29. Both have the
+            position of the first invalid range. A negative number counts as one above the number of pixels.
+        ValueError
+            If an array has another shape and is not empty, or an item is not a pair.
+        """
+        return cls._from_call("from_ranges", as_pairs(ranges))
 
     @classmethod
     def from_depth29_ranges(cls, max_depth: int, ranges: Iterable[tuple[int, int]] | numpy.ndarray) -> MOC:
-        """As `from_ranges`, and then all of each cell of the order `max_depth` that it has a pixel of; 29 leaves it as it is.
+        """Returns the set of the pixels in any of the ranges, degraded to an order.
 
-        MocError as of `from_ranges`, and NoSuchOrder."""
-        order_byte(max_depth)
-        made = cls.from_ranges(ranges)
-        return made if max_depth == 29 else made.degrade_to_order(max_depth)
+        Parameters
+        ----------
+        max_depth : int
+            The order of `degrade_to_order`. Order 29 leaves the set unchanged.
+        ranges : iterable of pairs of int, or array-like of integers with the shape (n, 2)
+            The ranges of `from_ranges`.
+
+        Raises
+        ------
+        MocError
+            `NoSuchOrder` if `max_depth` is not 0 to 29; otherwise as `from_ranges`.
+        ValueError
+            As in `from_ranges`.
+        """
+        check_order(max_depth)
+        moc = cls.from_ranges(ranges)
+        return moc if max_depth == 29 else moc.degrade_to_order(max_depth)
 
     @classmethod
     def from_healpix_cells(cls, ipix: Numbers, depth: int | Numbers, max_depth: int = 29) -> MOC:
-        """The pixels of cells by their nested numbers, of one order `depth` or each of its own; then as `from_depth29_ranges`.
+        """Returns the set of the pixels in any of the cells. For one order, takes O(n log n) for n cells, or O(n) if they are ascending.
 
-        MocError NoSuchOrder; NoSuchCell with the place of the first number that is no cell, of those of the least order that has one.
-        ValueError where there are not as many orders as cells."""
-        order_byte(max_depth)
+        For several orders, the set is the union of one set for each order.
+
+        Parameters
+        ----------
+        ipix : int, iterable of int, or array-like of integers
+            The nested numbers of the cells, in any order.
+        depth : int, iterable of int, or array-like of integers
+            The order of all cells, or the order of each cell.
+        max_depth : int
+            The order to which the set is degraded. Order 29 leaves the set unchanged.
+
+        Raises
+        ------
+        MocError
+            `NoSuchOrder` if an order is not 0 to 29; `NoSuchCell` with the position of a number that is not a cell number. For several
+            orders, it is the first such number of the least order that has one.
+        ValueError
+            If the number of orders differs from the number of cells.
+        """
+        check_order(max_depth)
         if hasattr(depth, "__iter__"):
-            made = cls._of_orders(numbers_of(ipix), numbers_of(depth))
+            moc = cls._from_cells_of_orders(as_array(ipix), as_array(depth))
         else:
-            made = cls._made("from_cells", order_byte(depth), numbers_of(ipix))
-        return made if max_depth == 29 else made.degrade_to_order(max_depth)
+            moc = cls._from_call("from_cells", check_order(depth), as_array(ipix))
+        return moc if max_depth == 29 else moc.degrade_to_order(max_depth)
 
     @classmethod
-    def _of_orders(cls, cells: Array, orders: Array) -> MOC:
-        """The pixels of cells, each of its own order."""
+    def _from_cells_of_orders(cls, cells: Array, orders: Array) -> MOC:
+        """Returns the set of the pixels in any of the cells. The order of each cell is at the same position."""
         if len(cells) != len(orders):
-            raise ValueError(f"{len(cells)} cells have {len(orders)} orders")
-        made = cls()
-        for order in map(order_byte, sorted(set(orders.numbers.tolist()))):
-            places = orders.places_of(order)
+            raise ValueError(f"depth has {len(orders)} orders for {len(cells)} cells")
+        moc = cls()
+        for order in map(check_order, sorted(set(orders.numbers.tolist()))):
+            positions = orders.positions_of(order)
             try:
-                made |= cls._made("from_cells", order, cells.at(places))
+                moc |= cls._from_call("from_cells", order, cells.take(positions))
             except MocError as error:
-                raise MocError(error.code, *(int(places[at]) for at in error.place)) from None
-        return made
+                raise MocError(error.code, *(int(positions[index]) for index in error.place)) from None
+        return moc
 
     @classmethod
     def from_uniq(cls, uniq: Numbers) -> MOC:
-        """The pixels of cells by their NUNIQ numbers. MocError NotUniq with the place of the first that no cell has."""
-        return cls._made("from_uniqs", numbers_of(uniq))
+        """Returns the set of the pixels in any of the cells. Takes O(n log n) for n cells, or O(n) if they are ascending.
 
-    # Joining them.
+        Parameters
+        ----------
+        uniq : int, iterable of int, or array-like of integers
+            The NUNIQ numbers of the cells, in any order.
 
-    def _joined(self, call: str, *others: MOC) -> MOC:
-        made = self
+        Raises
+        ------
+        MocError
+            `NotUniq` with the position of the first number that is not a NUNIQ number.
+        """
+        return cls._from_call("from_uniqs", as_array(uniq))
+
+    # Set operations
+
+    def _combine(self, operation: str, *others: MOC) -> MOC:
+        """Returns the result of an operation with each of the other MOCs in turn. Raises TypeError if one of them is not a MOC."""
+        moc = self
         for other in others:
             if not isinstance(other, MOC):
-                raise TypeError(f"a MOC is wanted, not {type(other).__name__}")
-            made = MOC._made(call, made._key, other._key)
-        return made
+                raise TypeError(f"expected a MOC, not {type(other).__name__}")
+            moc = MOC._from_call(operation, moc._id, other._id)
+        return moc
 
     def union(self, *others: MOC) -> MOC:
-        """The pixels that any has. As the three behind it: for each other a pass over its ranges and those made so far; TypeError for what
-        is no MOC."""
-        return self._joined("union", *others)
+        """Returns the pixels that are in this MOC or in any of the others.
+
+        Raises
+        ------
+        TypeError
+            If one of the others is not a MOC.
+        """
+        return self._combine("union", *others)
 
     def intersection(self, *others: MOC) -> MOC:
-        """The pixels that all have."""
-        return self._joined("intersection", *others)
+        """Returns the pixels that are in this MOC and in all others.
+
+        Raises
+        ------
+        TypeError
+            If one of the others is not a MOC.
+        """
+        return self._combine("intersection", *others)
 
     def difference(self, *others: MOC) -> MOC:
-        """The pixels that this one has and none of the others."""
-        return self._joined("difference", *others)
+        """Returns the pixels that are in this MOC and in none of the others.
+
+        Raises
+        ------
+        TypeError
+            If one of the others is not a MOC.
+        """
+        return self._combine("difference", *others)
 
     def symmetric_difference(self, *others: MOC) -> MOC:
-        """The pixels that one of two has alone; of more, those that an odd number has."""
-        return self._joined("symmetric", *others)
+        """Returns the pixels that are in an odd number of the MOCs.
+
+        Raises
+        ------
+        TypeError
+            If one of the others is not a MOC.
+        """
+        return self._combine("symmetric", *others)
 
     def complement(self) -> MOC:
-        """The pixels of the sky that it lacks."""
-        return MOC._made("complement", self._key)
+        """Returns the pixels of the sky that are not in this MOC."""
+        return MOC._from_call("complement", self._id)
 
     def degrade_to_order(self, new_order: int) -> MOC:
-        """All pixels of each cell of this order that it has a pixel of. MocError NoSuchOrder."""
-        return MOC._made("degrade", self._key, order_byte(new_order))
+        """Returns all pixels of each cell of an order that has a pixel in this MOC.
+
+        Parameters
+        ----------
+        new_order : int
+            The order of the cells, 0 to 29.
+
+        Raises
+        ------
+        MocError
+            `NoSuchOrder` if the order is not 0 to 29.
+        """
+        return MOC._from_call("degrade", self._id, check_order(new_order))
 
     def __or__(self, other: MOC) -> MOC:
         return self.union(other) if isinstance(other, MOC) else NotImplemented
@@ -182,75 +324,117 @@ class MOC:
     def __invert__(self) -> MOC:
         return self.complement()
 
-    # Asking them.
+    # Queries
 
-    def _asked(self, call: str, *arguments) -> int:
-        return on_desk(call, self._key, *arguments).first
+    def _query(self, function: str, *arguments) -> int:
+        """Returns the value that a function of the library returns for this MOC."""
+        return call_with_store(function, self._id, *arguments).first
 
-    def _compared(self, call: str, other: MOC) -> int:
+    def _query_pair(self, function: str, other: MOC) -> int:
+        """Returns the value that a function of the library returns for two MOCs. Raises TypeError if the other one is not a MOC."""
         if not isinstance(other, MOC):
-            raise TypeError(f"a MOC is wanted, not {type(other).__name__}")
-        return self._asked(call, other._key)
+            raise TypeError(f"expected a MOC, not {type(other).__name__}")
+        return self._query(function, other._id)
 
     def count(self) -> int:
-        """How many pixels it has."""
-        return self._asked("count")
+        """Returns the number of pixels."""
+        return self._query("count")
 
     def count_common(self, other: MOC) -> int:
-        """How many pixels both have."""
-        return self._compared("count_common", other)
+        """Returns the number of pixels that are in both MOCs.
+
+        Raises
+        ------
+        TypeError
+            If the other is not a MOC.
+        """
+        return self._query_pair("count_common", other)
 
     def range_count(self) -> int:
-        """How many ranges `ranges` gives."""
-        return self._asked("range_count")
+        """Returns the number of ranges that `ranges` returns."""
+        return self._query("range_count")
+
+    def cell_count_by_order(self) -> list[int]:
+        """Returns the number of cells of each order, from order 0 to order 29. The cells are those that `cells` returns."""
+        counts = PlainArray(array("Q", bytes(8 * 30)))
+        call_with_store("cell_count_by_order", self._id, counts)
+        return counts.numbers.tolist()
 
     @property
     def sky_fraction(self) -> float:
-        """Its share of the sky, 0 to 1."""
+        """The fraction of the sky, from 0 to 1: the number of pixels divided by 12·4^29."""
         return self.count() / PIXEL_COUNT
 
     @property
     def max_order(self) -> int:
-        """The least order of whose cells it is a union, 0 where it has no pixel. (mocpy answers the order that was named.)"""
-        return self._asked("deepest_order")
+        """The least order at which the set is a union of cells, or 0 for the empty set. In mocpy, it is the order that was stated."""
+        return self._query("deepest_order")
 
     def empty(self) -> bool:
-        """Whether it has no pixel."""
-        return bool(self._asked("is_empty"))
+        """Returns whether the MOC has no pixels."""
+        return bool(self._query("is_empty"))
 
     def meets(self, other: MOC) -> bool:
-        """Whether both have a pixel in common."""
-        return bool(self._compared("meets", other))
+        """Returns whether two MOCs have a pixel in common.
+
+        Raises
+        ------
+        TypeError
+            If the other is not a MOC.
+        """
+        return bool(self._query_pair("meets", other))
 
     def covers(self, other: MOC) -> bool:
-        """Whether it has each pixel of the other."""
-        return bool(self._compared("covers", other))
+        """Returns whether the MOC contains every pixel of another one.
+
+        Raises
+        ------
+        TypeError
+            If the other is not a MOC.
+        """
+        return bool(self._query_pair("covers", other))
 
     def contains(self, pixels: Numbers):
-        """Whether it has each of these pixels of order 29, a bool for each; a number that is no pixel it has not. Rising pixels are looked
-        up fastest; those of an array of more than 1,000 that are in no sequence are brought into one, where the set is large. O(log n) a
-        pixel for n ranges, and less where they rise; TypeError for what is no whole number."""
-        given = numbers_of(pixels)
-        found = given.room("B")
-        if self.range_count() > _FEW_RANGES and given.is_scattered():
-            for places in given.gathered():
-                near = given.at(places)
-                told = near.room("B")
-                on_desk("contains_all", self._key, near, told)
-                found.put(places, told)
+        """Returns for each pixel whether the MOC contains it. Takes O(log n) for each pixel and n ranges, and less if pixels are ascending.
+
+        A large array that is not ascending is sorted in pieces before it is looked up, if the MOC has many ranges.
+
+        Parameters
+        ----------
+        pixels : int, iterable of int, or array-like of integers
+            The pixels of order 29, by their nested numbers. No MOC contains a number that is not a pixel.
+
+        Returns
+        -------
+        bool, list of bool, or ndarray of bool
+            The results, in the shape of `pixels`.
+
+        Raises
+        ------
+        TypeError
+            If a number is not an integer.
+        """
+        numbers = as_array(pixels)
+        flags = numbers.new_output("B")
+        if self.range_count() > _MIN_RANGES_FOR_SORTING and numbers.is_worth_sorting():
+            for positions in numbers.sorted_chunks():
+                chunk = numbers.take(positions)
+                chunk_flags = chunk.new_output("B")
+                call_with_store("contains_all", self._id, chunk, chunk_flags)
+                flags.put(positions, chunk_flags)
         else:
-            on_desk("contains_all", self._key, given, found)
-        return found.truths()
+            call_with_store("contains_all", self._id, numbers, flags)
+        return flags.booleans()
 
     def __contains__(self, what: int | MOC) -> bool:
-        """Whether it has this pixel of order 29, or each pixel of another set."""
+        """Returns whether the MOC contains a pixel of order 29, or every pixel of another MOC. Takes O(log n) for a pixel and n ranges."""
         if isinstance(what, MOC):
             return self.covers(what)
         pixel = operator.index(what)
-        return 0 <= pixel < PIXEL_COUNT and bool(self._asked("contains", pixel))
+        return 0 <= pixel < PIXEL_COUNT and bool(self._query("contains", pixel))
 
     def __eq__(self, other: object) -> bool:
-        return bool(self._compared("same", other)) if isinstance(other, MOC) else NotImplemented
+        return bool(self._query_pair("same", other)) if isinstance(other, MOC) else NotImplemented
 
     def __hash__(self) -> int:
         return hash(self._bounds().tobytes())
@@ -258,85 +442,121 @@ class MOC:
     def __bool__(self) -> bool:
         return not self.empty()
 
-    # What they are made of.
+    # Ranges and cells
 
     def _bounds(self) -> array[int]:
-        """The bounds of its ranges, rising."""
-        made = PlainArray(array("Q", bytes(16 * self.range_count())))
-        made.width = 2
-        on_desk("ranges", self._key, made)
-        return made.numbers
+        """Returns the first pixel of each range and the number after its last pixel, ascending."""
+        bounds = PlainArray(array("Q", bytes(16 * self.range_count())))
+        bounds.width = 2
+        call_with_store("ranges", self._id, bounds)
+        return bounds.numbers
 
     def _uniqs(self) -> array[int]:
-        """The NUNIQ numbers of its cells, rising."""
-        room = 2 * self.range_count() + 64
+        """Returns the NUNIQ numbers of the cells, ascending."""
+        size = 2 * self.range_count() + 64
         while True:
-            made = PlainArray(array("Q", bytes(8 * room)))
+            uniqs = PlainArray(array("Q", bytes(8 * size)))
             try:
-                count = on_desk("cells", self._key, made).first
+                count = call_with_store("cells", self._id, uniqs).first
             except MocError as error:
-                if error.name != "NoRoom":
+                if error.name != "BufferTooShort":
                     raise
-                room, = error.place
+                size, = error.place
             else:
-                return made.numbers[:count]
+                return uniqs.numbers[:count]
 
     def ranges(self) -> list[tuple[int, int]]:
-        """Its ranges (from, to) of pixels, `to` not included: rising, none empty, none touching the next."""
+        """Returns the ranges (from, to) of pixels, without `to`, ascending. No range is empty, and no range touches the next one."""
         bounds = self._bounds().tolist()
         return list(zip(bounds[::2], bounds[1::2]))
 
     def cells(self) -> list[tuple[int, int]]:
-        """The cells of the set that lie in no larger cell of it, as (order, nested number), by ascending NUNIQ numbers."""
+        """Returns the largest cells of the set as pairs (order, nested number), by ascending NUNIQ numbers.
+
+        A largest cell is in the set, and in no larger cell of the set. Takes one pass over the ranges for each order that can have cells.
+        """
         orders = ((uniq, (uniq.bit_length() - 3) // 2) for uniq in self._uniqs())
         return [(order, uniq - 4**(order + 1)) for uniq, order in orders]
 
     @property
     def to_depth29_ranges(self) -> numpy.ndarray:
-        """Its ranges as an array of numpy of the shape (n, 2), of uint64. ImportError where there is no numpy."""
+        """The ranges that `ranges` returns, as an array of uint64 with the shape (n, 2). Raises ImportError if NumPy is not installed."""
         import numpy
 
         return numpy.asarray(self._bounds()).reshape(-1, 2)
 
     @property
     def uniq_hpx(self) -> numpy.ndarray:
-        """The NUNIQ numbers of its cells, rising, as an array of numpy, of uint64. ImportError where there is no numpy."""
+        """The NUNIQ numbers of the cells that `cells` returns, as an ascending array of uint64.
+
+        Raises ImportError if NumPy is not installed."""
         import numpy
 
         return numpy.asarray(self._uniqs())
 
-    # Showing them.
+    # Texts and pictures
 
     def to_string(self, format: str = "ascii", *, max_order: int | None = None) -> str:
-        """Its text in the form `ascii`, `json` or `uniq`, without a line feed at its end.
+        """Returns the MOC as a text, without a line feed at the end.
 
-        max_order: the order that ASCII and JSON state, as MOC 2.0 asks where a set was made of deeper cells than it needs; a set does
-            not keep it. MocError NoSuchOrder, or TooCoarse where the set has a deeper cell; ValueError for another form."""
+        Takes one pass over the ranges for each order that can have cells, and is linear in the length of the text.
+
+        Parameters
+        ----------
+        format : {"ascii", "json", "uniq"}
+            The format: ASCII or JSON of MOC 2.0, or a list of NUNIQ numbers with one number on a line.
+        max_order : int, optional
+            The MOC order that the text states. MOC 2.0 requires it if the MOC was made of deeper cells than it needs. The format `uniq`
+            states no order, and ignores this argument.
+
+        Raises
+        ------
+        MocError
+            `NoSuchOrder` if the order is not 0 to 29; `TooCoarse` if the MOC has a cell of a deeper order.
+        ValueError
+            If the format is unknown.
+        """
         if format == "uniq":
-            text = text_of("write_uniq", self._key)
-        elif format in _READERS:
-            text = text_of(f"write_{format}", self._key, NONE if max_order is None else order_byte(max_order))
+            text = make_text("write_uniq", self._id)
+        elif format in _PARSERS:
+            text = make_text(f"write_{format}", self._id, NO_ORDER if max_order is None else check_order(max_order))
         else:
-            raise ValueError(f"a form is one of {', '.join(_READERS)}, not {format}")
+            raise ValueError(f"format must be one of {', '.join(_PARSERS)}, not {format}")
         return text.removesuffix("\n")
 
     def serialize(self, format: str = "json") -> dict[str, list[int]] | str:
-        """A dict with a list of cells for each order (`json`), or the text in ASCII (`str`). (mocpy's `fits` is not here.) ValueError for
-        another form."""
+        """Returns the MOC as a dict or as an ASCII text.
+
+        Parameters
+        ----------
+        format : {"json", "str"}
+            The dict has a list of nested numbers for each order; the str is that of `to_string`. The format `fits` of mocpy is not
+            supported.
+
+        Raises
+        ------
+        ValueError
+            If the format is not one of these.
+        """
         if format not in ("json", "str"):
-            raise ValueError(f"a form is one of json, str, not {format}")
+            raise ValueError(f"format must be one of json, str, not {format}")
         return json.loads(self.to_string("json")) if format == "json" else self.to_string()
 
     def describe(self) -> str:
-        """Its figures, a line each, as the program `moc describe` tells them: the numbers of pixels, of ranges, of cells and of those of
-        each order, and the share of the sky. (The line of the deepest order is left out, which is a text's.)"""
-        return text_of("describe", self._key, NONE).removesuffix("\n").partition("\n")[2]
+        """Returns statistics, one on a line: the number of pixels, the share of the sky, and the numbers of ranges and of cells.
+
+        These lines are followed by the number of cells of each order that has any. They are the lines of `moc describe` without the first
+        one, which has the MOC order of a text. Takes the time of `to_string`."""
+        return make_text("describe", self._id, NO_ORDER).removesuffix("\n").partition("\n")[2]
 
     def draw(self) -> str:
-        """A picture in SVG, as the program `moc draw` makes it: HEALPix's plane, north up and east to the left."""
-        return text_of("draw", self._key)
+        """Returns a picture in SVG, as `moc draw` writes it: the HEALPix projection with north up and east to the left.
+
+        Takes the time of `to_string`, and O(log n) for each cell of order 7 that has a pixel in this MOC of n ranges."""
+        return make_text("draw", self._id)
 
     def _repr_svg_(self) -> str:
+        """Returns the picture that a notebook displays."""
         return self.draw()
 
     def __str__(self) -> str:
@@ -347,11 +567,11 @@ class MOC:
                 f"deepest order {self.max_order}>")
 
     def __reduce__(self):
-        return _unpickled, (self._bounds().tobytes(),)
+        return _unpickle, (self._bounds().tobytes(),)
 
 
-def _unpickled(data: bytes) -> MOC:
-    """The set of these bounds of ranges."""
+def _unpickle(data: bytes) -> MOC:
+    """Returns the MOC with these bounds of ranges, which are the bytes of `MOC._bounds`."""
     bounds = PlainArray(array("Q", data))
     bounds.width = 2
-    return MOC._made("from_ranges", bounds)
+    return MOC._from_call("from_ranges", bounds)

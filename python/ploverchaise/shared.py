@@ -1,4 +1,4 @@
-"""A coverage that threads change and query at the same time."""
+"""A set of pixels that threads change and query at the same time."""
 from __future__ import annotations
 
 import ctypes
@@ -8,110 +8,173 @@ import time
 from contextlib import contextmanager
 from typing import Callable, Iterator
 
-from ._library import Outcome, Seat, on_seat, on_seat_and_desk, seat_opened
+from ._library import Result, ClientHandle, call_with_client, call_with_client_and_store, open_client
 from .errors import BUSY, MocError
 from .moc import MOC
 
-# How many bytes of an answer are asked for at first.
-_ROOM = 256
-# How many seconds a client that met another sleeps at first, and at most.
-_SHORT, _LONG = 10e-6, 1e-3
+# The size of the first buffer for replies, in bytes.
+_REPLY_BUFFER_SIZE = 256
+# The first and the longest pause between two tries of a client that needs a part that another client holds, in seconds.
+_MIN_PAUSE, _MAX_PAUSE = 10e-6, 1e-3
 
 
 class Client:
-    """A client of a `SharedMap`. Threads may hand it on; calls of one client wait for one another, and those of different clients run side
-    by side, where they touch different parts of the sky, the base pixels.
+    """A client of a `SharedMap`, which `SharedMap.client` creates.
 
-    number: from 0, by which `Busy` names it.
+    Any thread may use a client, but calls of one client wait for each other. Calls of different clients run in parallel if they touch
+    different base pixels. A call raises RuntimeError if it interrupts another call of the client in its own thread, for example in a signal
+    handler.
+
+    Attributes
+    ----------
+    number : int
+        The number of the client, from 0. A `Busy` error has the number of the other client.
     """
 
-    __slots__ = ("number", "_seat", "_lock", "_inside")
+    __slots__ = ("number", "_handle", "_lock", "_is_in_call")
     number: int
+    _handle: ClientHandle
 
     def __init__(self) -> None:
-        raise TypeError("SharedMap.client makes clients")
+        raise TypeError("use SharedMap.client to create a client")
 
     @classmethod
-    def _on(cls, sit: Callable[[Seat], int]) -> Client:
-        """The client that a call puts on a seat."""
-        made = cls.__new__(cls)
-        made._lock, made._inside = threading.RLock(), False
-        made._seat = seat_opened()
-        made.number = sit(made._seat)
-        return made
+    def _create(cls, attach: Callable[[ClientHandle], int]) -> Client:
+        """Returns a client with a new handle. `attach` makes the handle a client of a map, and returns its number."""
+        client = cls.__new__(cls)
+        client._lock, client._is_in_call = threading.RLock(), False
+        client._handle = open_client()
+        client.number = attach(client._handle)
+        return client
 
     @contextmanager
-    def _call(self) -> Iterator[Seat]:
-        """The client in one call at a time, also of its own thread, which a handler of a signal may interrupt."""
+    def _call(self) -> Iterator[ClientHandle]:
+        """Returns a context in which no other call uses the handle. Raises RuntimeError inside another context of the same thread."""
         with self._lock:
-            if self._inside:
-                raise RuntimeError("the client is in a call")
-            self._inside = True
+            if self._is_in_call:
+                raise RuntimeError("the client is already in a call")
+            self._is_in_call = True
             try:
-                yield self._seat
+                yield self._handle
             finally:
-                self._inside = False
+                self._is_in_call = False
 
     def apply(self, line: str | bytes, timeout: float | None = None) -> str:
-        """Does the commands of a line, parted by `;`, as one step, and answers as the program `moc run` does.
+        """Executes a line of commands as one atomic step, and returns the replies.
 
-        Where another client holds a part of the sky that they touch, it sleeps a while and tries again, for so many seconds, and then
-        MocError Busy tells the part and the client; 0 tries once, None again and again. MocError for the line's first fault: UnknownWord,
-        EmptyCommand, TooManyCommands, WrongCount, BadNumber, OrderTooLarge, CellTooLarge, BadByte, NoOrder, Backwards, Unfinished. After
-        a MocError nothing was changed. After a MemoryError either nothing was, or the line was done and `answer` gives its answer."""
-        given = line.encode() if isinstance(line, str) else bytes(memoryview(line))
-        with self._call() as seat:
-            _until_free(lambda: on_seat("map_apply", seat, given), timeout)
-            return _answer(seat)
+        If another client holds a base pixel that the commands touch, the call sleeps and tries again until the timeout has passed.
+
+        Parameters
+        ----------
+        line : str or bytes
+            The commands of `moc run`, separated by `;`.
+        timeout : float, optional
+            The number of seconds after which the call does not try again. With 0 it tries once, and without a timeout it tries until it
+            succeeds.
+
+        Returns
+        -------
+        str
+            The replies, as `moc run` prints them, without a line feed.
+
+        Raises
+        ------
+        MocError
+            `Busy` with the base pixel and the number of the client that holds it, if the timeout has passed. `UnknownWord`, `EmptyCommand`,
+            `TooManyCommands`, `WrongCount`, `BadNumber`, `OrderTooLarge`, `CellTooLarge`, `BadByte`, `NoOrder`, `Backwards` or `Unfinished`
+            for an invalid line. The set is then unchanged.
+        MemoryError
+            If an allocation fails. Either the set is unchanged, or the line was executed and `answer` returns its replies.
+        TypeError
+            If the line is neither a str nor a bytes-like object.
+        """
+        text = line.encode() if isinstance(line, str) else bytes(memoryview(line))
+        with self._call() as handle:
+            _retry_while_busy(lambda: call_with_client("map_apply", handle, text), timeout)
+            return _read_replies(handle)
 
     def answer(self) -> str:
-        """The answer to the last line that was done, once more; empty before the first."""
-        with self._call() as seat:
-            return _answer(seat)
+        """Returns the replies to the last line that this client executed, or an empty str before the first line."""
+        with self._call() as handle:
+            return _read_replies(handle)
 
     def moc(self, timeout: float | None = None) -> MOC:
-        """The set as it is. It waits as `apply` does."""
-        with self._call() as seat:
-            return MOC._at(_until_free(lambda: on_seat_and_desk("map_set", seat), timeout).first)
+        """Returns the set of the map as a MOC.
+
+        Parameters
+        ----------
+        timeout : float, optional
+            The number of seconds after which the call does not try again, as in `apply`.
+
+        Raises
+        ------
+        MocError
+            `Busy` if another client holds a base pixel and the timeout has passed.
+        MemoryError
+            If an allocation fails.
+        """
+        with self._call() as handle:
+            return MOC._from_id(_retry_while_busy(lambda: call_with_client_and_store("map_set", handle), timeout).first)
 
 
 class SharedMap:
-    """A set of pixels that threads change and query at the same time, each by a client of its own, without a lock round it.
+    """A set of pixels that threads change and query at the same time. Each thread uses a separate client.
 
-    start: the set that it begins with; the one without pixels, where there is none.
-    clients: how many clients `client` gives, 1 to 63; else ValueError.
+    The map has no lock for the whole set: a client holds the base pixels that its line touches. Each finished line is the last one of one
+    sequential history. The history begins with all lines that the client had seen, and each reply in it is that of one single set.
 
-    What a client sees is one history, which begins with all that it had seen: each line is done as a whole, and each answer is that of the
-    one set after the lines before. A client that nobody has any more is gone, and `client` gives no other for it. In the forked child of a
-    process with threads make no call.
+    A client that is garbage-collected is closed, and `client` does not replace it. Make no calls in the forked child of a process with
+    threads.
+
+    Parameters
+    ----------
+    start : MOC, optional
+        The initial set. Without it, the map begins with the empty set.
+    clients : int
+        The number of clients that `client` can create, 1 to 63.
+
+    Raises
+    ------
+    ValueError
+        If `clients` is not 1 to 63.
+    MemoryError
+        If an allocation fails.
     """
 
-    __slots__ = ("_own",)
+    __slots__ = ("_client",)
 
     def __init__(self, start: MOC | None = None, clients: int = 8) -> None:
         clients = operator.index(clients)
         if not 1 <= clients <= 63:
-            raise ValueError(f"a map gives 1 to 63 clients, not {clients}")
-        begun = MOC() if start is None else start
-        self._own = Client._on(lambda seat: on_seat_and_desk("map_begin", seat, begun._key, clients + 1).first)
+            raise ValueError(f"clients must be 1 to 63, not {clients}")
+        initial = MOC() if start is None else start
+        self._client = Client._create(lambda handle: call_with_client_and_store("map_begin", handle, initial._id, clients + 1).first)
 
     def client(self) -> Client:
-        """A further client. MocError NoClient where all are given."""
-        with self._own._call() as own:
-            return Client._on(lambda seat: on_seat("map_join", own, seat).first)
+        """Returns a new client of the map.
+
+        Raises
+        ------
+        MocError
+            `NoClient` if all clients were created.
+        MemoryError
+            If an allocation fails.
+        """
+        with self._client._call() as first:
+            return Client._create(lambda handle: call_with_client("map_join", first, handle).first)
 
     def apply(self, line: str | bytes, timeout: float | None = None) -> str:
-        """Does a line by a client that the map has for itself, one call at a time; as `Client.apply`."""
-        return self._own.apply(line, timeout)
+        """Executes a line as `Client.apply`, with a client that the map keeps for these calls. They wait for each other."""
+        return self._client.apply(line, timeout)
 
     def moc(self, timeout: float | None = None) -> MOC:
-        """The set as it is; as `Client.moc`."""
-        return self._own.moc(timeout)
+        """Returns the set of the map as `Client.moc`, with the client that the map keeps."""
+        return self._client.moc(timeout)
 
 
-def _until_free(call: Callable[[], Outcome], timeout: float | None) -> Outcome:
-    """What the call answers once no other client holds what it wants."""
-    pause, ends = _SHORT, None if timeout is None else time.monotonic() + timeout
+def _retry_while_busy(call: Callable[[], Result], timeout: float | None) -> Result:
+    """Returns the result of a call. Repeats the call after a pause if it raises MocError `Busy` and the timeout has not passed."""
+    pause, ends = _MIN_PAUSE, None if timeout is None else time.monotonic() + timeout
     while True:
         try:
             return call()
@@ -119,19 +182,19 @@ def _until_free(call: Callable[[], Outcome], timeout: float | None) -> Outcome:
             if error.code != BUSY or (ends is not None and time.monotonic() >= ends):
                 raise
         time.sleep(pause)
-        pause = min(2 * pause, _LONG)
+        pause = min(2 * pause, _MAX_PAUSE)
 
 
-def _answer(seat: Seat) -> str:
-    """The answer to the last line that was done on the seat."""
-    room = _ROOM
+def _read_replies(handle: ClientHandle) -> str:
+    """Returns the replies to the last line that the client of a handle executed."""
+    size = _REPLY_BUFFER_SIZE
     while True:
-        buffer = ctypes.create_string_buffer(room)
+        buffer = ctypes.create_string_buffer(size)
         try:
-            length = on_seat("map_answer", seat, buffer, room).first
+            length = call_with_client("map_answer", handle, buffer, size).first
         except MocError as error:
-            if error.name != "NoRoom":
+            if error.name != "BufferTooShort":
                 raise
-            room, = error.place
+            size, = error.place
         else:
             return ctypes.string_at(buffer, length).decode("ascii").removesuffix("\n")

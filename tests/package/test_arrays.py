@@ -34,7 +34,7 @@ class WithoutNumpy(TestCase):
             result = nest2ring(2, argument)
             self.assertEqual((result, type(result)), (expected, type(expected)))
         for argument in ([], MOC()._bounds(), *([numpy.zeros(0, "int64")] if numpy else [])):
-            address, count = _arrays.numbers_of(argument).as_passed
+            address, count = _arrays.as_array(argument).c_arguments
             self.assertEqual((address != 0, count), (True, 0))
         self.assertIs(MOC.full().contains(7), True)
         self.assertEqual(MOC.full().contains([7]), [True])
@@ -67,7 +67,7 @@ class WithNumpy(TestCase):
         self.assertArray(ring2nest(2**29, records["cell"]), expected, "int64")
         shifted = numpy.frombuffer(b"." + cells.tobytes(), "i8", offset=1)
         self.assertArray(ring2nest(2**29, shifted), expected, "int64")
-        self.assertTrue(_arrays.numbers_of(shifted).numbers.flags.aligned)
+        self.assertTrue(_arrays.as_array(shifted).numbers.flags.aligned)
         bits = numpy.frombuffer(b"." + cells.tobytes(), numpy.uint8)[1:].view(numpy.uint64)
         self.assertFalse(bits.flags.aligned)
         self.assertArray(ring2nest(2**29, bits), expected, "int64")

@@ -8,15 +8,14 @@ import subprocess
 from collections.abc import Sequence
 from typing import Any, Optional
 
-from ploverchaise import MOC, _library, errors
+from ploverchaise import MOC, _codes, _library, _signatures
 
 from .common import TestCase
 
-HEADER = os.path.join(os.path.dirname(os.path.dirname(os.path.dirname(os.path.abspath(__file__)))), "crates", "moc_c", "include", "moc.h")
-NO_ROOM, NO_SUCH_SET, NO_SUCH_ORDER, LENGTHS_DIFFER, NO_SUCH_CELL, NULL, MISALIGNED, OVERLAP = 2, 3, 4, 5, 6, 9, 80, 81
+TOP = os.path.dirname(os.path.dirname(os.path.dirname(os.path.abspath(__file__))))
+HEADER = os.path.join(TOP, "crates", "moc_c", "include", "ploverchaise.h")
+BUFFER_TOO_SHORT, NO_SUCH_SET, NO_SUCH_ORDER, LENGTHS_DIFFER, NO_SUCH_CELL, NULL, MISALIGNED, OVERLAP = 2, 3, 4, 5, 6, 9, 80, 81
 NO_ID = 2**64 - 1
-# The parts of names of the header that the names of errors do not have.
-PREFIX = re.compile("^(ASCII|JSON|UNIQ|RANGE|LINE)_")
 
 
 def read_header() -> str:
@@ -30,17 +29,24 @@ def make_array(*numbers: int) -> Any:
     return (ctypes.c_uint64 * len(numbers))(*numbers)
 
 
+# The types of an array, which are those of its address and its length.
+ARRAY = (ctypes.c_void_p, ctypes.c_size_t)
+# The functions that take an order and numbers of cells, and write a number or a row for each, and those that list something of a set.
+CONVERSIONS = [name for name, types in _signatures.NUMBER_CALLS.items() if types == (ctypes.c_uint32, *ARRAY, *ARRAY)]
+LISTS = [name for name, types in _signatures.STORE_CALLS.items() if types == (ctypes.c_uint64, *ARRAY)]
+
+
 class Header(TestCase):
     """The functions that the package imports, and the exports of the library."""
 
     def test_functions_are_those_of_the_header(self) -> None:
-        desk, seat = _library._DESK, _library._SEAT
-        handles = {"moc_desk": desk, "moc_seat": seat}
-        types: dict[str, Any] = {**handles, "uint8_t": ctypes.c_uint8, "uint64_t": ctypes.c_uint64, "size_t": ctypes.c_size_t}
-        declared = dict(re.findall(r"\bmoc_outcome moc_(\w+)\(([^;]*)\);", read_header()))
-        imported: dict[str, tuple[Any, ...]] = {**{name: (desk, *kinds) for name, kinds in _library.DESK_CALLS.items()},
-                                                **{name: (seat, *kinds) for name, kinds in _library.SEAT_CALLS.items()},
-                                                **_library.NUMBER_CALLS}
+        store, handle = _signatures.STORE, _signatures.CLIENT
+        handles = {"moc_store": store, "moc_client": handle}
+        types: dict[str, Any] = {**handles, "uint32_t": ctypes.c_uint32, "uint64_t": ctypes.c_uint64, "size_t": ctypes.c_size_t}
+        declared = dict(re.findall(r"\bmoc_result moc_(\w+)\(([^;]*)\);", read_header()))
+        imported: dict[str, tuple[Any, ...]] = {**{name: (store, *kinds) for name, kinds in _signatures.STORE_CALLS.items()},
+                                                **{name: (handle, *kinds) for name, kinds in _signatures.CLIENT_CALLS.items()},
+                                                **_signatures.NUMBER_CALLS}
         self.assertEqual(sorted(declared), sorted(imported))
         for name, arguments in declared.items():
             expected = []
@@ -52,7 +58,7 @@ class Header(TestCase):
     def test_the_library_exports_nothing_else(self) -> None:
         path = _library.library._name
         exported = subprocess.run(["nm", "-D", "--defined-only", path], check=True, stdout=subprocess.PIPE, text=True).stdout
-        declared = re.findall(r"\b(?:moc_outcome|bool|void) (moc_\w+)\(", read_header())
+        declared = re.findall(r"\b(?:moc_result |bool |void |const char \*)(moc_\w+)\(", read_header())
         self.assertEqual(sorted(re.findall(r" T (\w+)$", exported, re.MULTILINE)), sorted(declared))
         self.assertEqual(len(exported.splitlines()), len(declared))
         dynamic = subprocess.run(["readelf", "-d", path], check=True, stdout=subprocess.PIPE, text=True).stdout
@@ -60,20 +66,27 @@ class Header(TestCase):
         self.assertEqual(re.findall(r"Shared library: \[(.*)\]", dynamic), ["libc.so.6"])
 
     def test_errors_are_those_of_the_header(self) -> None:
-        expected = {int(code): "".join(word.capitalize() for word in PREFIX.sub("", name).split("_"))
-                    for name, code in re.findall(r"\bMOC_(\w+) = (\d+)", read_header())}
-        errors_by_code = {code: kind.name for code, kind in errors.KINDS.items()}
-        self.assertEqual({0: "Done", errors.MEMORY: "Memory", **errors_by_code}, expected)
+        in_header = {int(code): name for name, code in re.findall(r"\bMOC_(\w+) = (\d+)", read_header())}
+        errors = {0: "Ok", _codes.MEMORY: "Memory", **{code: kind.name for code, kind in _codes.KINDS.items()}}
+        self.assertEqual(sorted(errors), sorted(in_header))
+        for code, name in in_header.items():
+            # The first word of some names of the header is that of a group of errors, such as ASCII.
+            words = [word.capitalize() for word in name.split("_")]
+            self.assertIn(errors[code], ("".join(words), "".join(words[1:])))
 
 
 class InvalidArguments(TestCase):
     """Arguments that the package never passes."""
 
     def call(self, name: str, *arguments: Any) -> tuple[int, int, int]:
-        """Calls a function of the library, and returns its result."""
-        desk = (_library._at,) if name in _library.DESK_CALLS else ()
-        functions = _library._on_desk if desk else _library._on_numbers
-        result = functions[name](*desk, *arguments)
+        """Calls a function of the library, and returns its result. An error of a call that returns an id has its position as the first
+        number, where the call returns no id."""
+        store = (_library._store_pointer,) if name in _signatures.STORE_CALLS else ()
+        functions = _library._store_functions if store else _library._number_functions
+        result = functions[name](*store, *arguments)
+        if result.code and name in _signatures.ID_CALLS:
+            self.assertEqual(result.first, NO_ID, name)
+            return result.code, result.second, 0
         return result.code, result.first, result.second
 
     def make_arguments(self, types: Sequence[Any], set_id: Optional[int] = None, order: int = 3) -> list[Any]:
@@ -84,10 +97,10 @@ class InvalidArguments(TestCase):
                 arguments.append(make_array(*[0] * 8))
             elif previous is ctypes.c_void_p:
                 arguments.append(1)
-            elif kind is ctypes.c_uint8:
+            elif kind is ctypes.c_uint32:
                 arguments.append(order)
             else:
-                arguments.append(self.moc._key if set_id is None else set_id)
+                arguments.append(self.moc._id if set_id is None else set_id)
         return arguments
 
     def setUp(self) -> None:
@@ -95,97 +108,103 @@ class InvalidArguments(TestCase):
 
     def test_identifiers_without_a_set(self) -> None:
         freed = MOC()
-        stale = freed._key
+        stale = freed._id
         del freed
         for set_id in (stale, NO_ID):
-            for name, types in _library.DESK_CALLS.items():
+            for name, types in _signatures.STORE_CALLS.items():
                 if types[:1] == (ctypes.c_uint64,):
                     with self.subTest(name=name, set_id=set_id):
                         self.assertEqual(self.call(name, *self.make_arguments(types, set_id=set_id)), (NO_SUCH_SET, set_id, 0))
-        for name in ("union", "intersection", "difference", "symmetric", "count_common", "meets", "covers", "same"):
-            self.assertEqual(self.call(name, self.moc._key, NO_ID), (NO_SUCH_SET, NO_ID, 0))
+        for name in re.findall(r"moc_(\w+)\((?:const )?moc_store \*store, uint64_t a, uint64_t b\);", read_header()):
+            self.assertEqual(self.call(name, self.moc._id, NO_ID), (NO_SUCH_SET, NO_ID, 0))
 
     def test_identifiers_are_not_reused(self) -> None:
         first = MOC()
-        key = first._key
+        set_id = first._id
         del first
-        self.assertNotEqual(MOC()._key, key)
-        self.assertEqual(self.call("free", key), (NO_SUCH_SET, key, 0))
+        self.assertNotEqual(MOC()._id, set_id)
+        self.assertEqual(self.call("free", set_id), (NO_SUCH_SET, set_id, 0))
 
     def test_invalid_orders(self) -> None:
-        for name, types in {**_library.DESK_CALLS, **_library.NUMBER_CALLS}.items():
-            if ctypes.c_uint8 in types:
-                for order in (30, 31, 254, 255):
-                    if order == _library.NONE and name in ("write_ascii", "write_json", "describe"):
+        for name, types in {**_signatures.STORE_CALLS, **_signatures.NUMBER_CALLS}.items():
+            if ctypes.c_uint32 in types:
+                for order in (30, 31, 254, 255, 256, 259, 2**32 - 1):
+                    if order == _library.NO_ORDER and name in ("write_ascii", "write_json", "describe"):
                         continue
                     with self.subTest(name=name, order=order):
-                        self.assertEqual(self.call(name, *self.make_arguments(types, order=order)), (NO_SUCH_ORDER, order, 0))
+                        # An order above 255 is reported as 254.
+                        reported = order if order < 256 else 254
+                        self.assertEqual(self.call(name, *self.make_arguments(types, order=order)), (NO_SUCH_ORDER, reported, 0))
 
     def test_lengths_that_differ(self) -> None:
         one, two, out = make_array(0), make_array(0, 0), make_array(*[0] * 16)
-        for name in ("nest_to_ring", "ring_to_nest", "nest_to_uniq", "touching", "neighbours"):
+        for name in CONVERSIONS:
             for array, length in ((two, 1), (one, 2), (one, 0)):
                 self.assertEqual(self.call(name, 1, array, len(array), out, length), (LENGTHS_DIFFER, 0, 0), name)
         for first, second in ((0, 1), (1, 0), (2, 1), (1, 2)):
             self.assertEqual(self.call("uniq_to_nest", make_array(4), 1, out, first, make_array(0, 0), second), (LENGTHS_DIFFER, 0, 0))
             pixels = make_array(*[0] * first)
-            self.assertEqual(self.call("contains_all", self.moc._key, pixels, first, out, second), (LENGTHS_DIFFER, 0, 0))
+            self.assertEqual(self.call("contains_all", self.moc._id, pixels, first, out, second), (LENGTHS_DIFFER, 0, 0))
         for lengths in ((0, 1, 1), (1, 0, 1), (1, 1, 0), (2, 1, 1)):
             faces, xs, ys = (part for length in lengths for part in [(make_array(0, 0), length)])
             self.assertEqual(self.call("nest_to_face_xy", 1, one, 1, *faces, *xs, *ys), (LENGTHS_DIFFER, 0, 0))
 
     def test_short_buffers(self) -> None:
-        key = self.moc._key
+        set_id = self.moc._id
         buffer = make_array(*[7] * 64)
+        for name in LISTS:
+            code, length, _ = self.call(name, set_id, None, 0)
+            self.assertEqual((code, length > 0), (BUFFER_TOO_SHORT, True), name)
+            self.assertEqual(self.call(name, set_id, buffer, length - 1), (BUFFER_TOO_SHORT, length, 0), name)
+            self.assertEqual(self.call(name, set_id, make_array(*[7] * 64), length), (0, length, 0), name)
         # The set has nine cells in five ranges.
-        self.assertEqual(self.call("cells", key, buffer, 8), (NO_ROOM, 9, 0))
-        self.assertEqual(self.call("ranges", key, buffer, 4), (NO_ROOM, 5, 0))
-        code, length, _ = self.call("write_ascii", key, _library.NONE)
+        self.assertEqual([self.call(name, set_id, None, 0)[1] for name in ("cells", "ranges")], [9, 5])
+        code, length, _ = self.call("write_ascii", set_id, _library.NO_ORDER)
         self.assertEqual((code, length), (0, len("1/1-2 4 2/12-14 21 23 25\n")))
-        self.assertEqual(self.call("text", buffer, length - 1), (NO_ROOM, length, 0))
+        self.assertEqual(self.call("text", buffer, length - 1), (BUFFER_TOO_SHORT, length, 0))
         self.assertEqual(list(buffer), [7] * 64)
         self.assertEqual(self.call("text", buffer, length), (0, length, 0))
 
     def test_empty_arrays(self) -> None:
         none = make_array()
-        for name in ("nest_to_ring", "ring_to_nest", "nest_to_uniq", "touching", "neighbours"):
+        for name in CONVERSIONS:
             self.assertEqual(self.call(name, 1, none, 0, none, 0), (0, 0, 0))
         self.assertEqual(self.call("uniq_to_nest", none, 0, none, 0, none, 0), (0, 0, 0))
         empty = MOC()
         for name in ("ranges", "cells"):
-            self.assertEqual(self.call(name, empty._key, none, 0), (0, 0, 0))
-        self.assertEqual(self.call("contains_all", self.moc._key, none, 0, none, 0), (0, 0, 0))
+            self.assertEqual(self.call(name, empty._id, none, 0), (0, 0, 0))
+        self.assertEqual(self.call("contains_all", self.moc._id, none, 0, none, 0), (0, 0, 0))
 
     def test_null_pointers(self) -> None:
-        for name, types in {**_library.DESK_CALLS, **_library.NUMBER_CALLS}.items():
+        for name, types in {**_signatures.STORE_CALLS, **_signatures.NUMBER_CALLS}.items():
             for place, kind in enumerate(types):
                 if kind is ctypes.c_void_p:
                     arguments = self.make_arguments(types)
                     arguments[place] = None
                     with self.subTest(name=name, argument=place):
-                        self.assertEqual(self.call(name, *arguments), (NULL, place + (name in _library.DESK_CALLS), 0))
-        handles = (_library._DESK, _library._SEAT)
-        for name, call in {**_library._on_desk, **_library._on_seat}.items():
+                        self.assertEqual(self.call(name, *arguments), (NULL, place + (name in _signatures.STORE_CALLS), 0))
+        handles = (_signatures.STORE, _signatures.CLIENT)
+        for name, call in {**_library._store_functions, **_library._client_functions}.items():
             with self.subTest(name=name):
                 result = call(*(None if kind in handles else 0 for kind in call.argtypes))
-                self.assertEqual((result.code, result.first, result.second), (NULL, 0, 0))
+                self.assertEqual((result.code, result.first, result.second), (NULL, NO_ID if name in _signatures.ID_CALLS else 0, 0))
 
     def test_misaligned_pointers(self) -> None:
         misaligned = ctypes.addressof(out := make_array(0, 0)) + 1
-        for name in ("nest_to_ring", "ring_to_nest", "nest_to_uniq", "touching", "neighbours"):
+        for name in CONVERSIONS:
             self.assertEqual(self.call(name, 1, misaligned, 1, make_array(*[0] * 8), 1), (MISALIGNED, 1, 0), name)
             self.assertEqual(self.call(name, 1, make_array(0), 1, misaligned, 1), (MISALIGNED, 3, 0), name)
-        self.assertEqual(self.call("cells", self.moc._key, misaligned, 1), (MISALIGNED, 2, 0))
+        self.assertEqual(self.call("cells", self.moc._id, misaligned, 1), (MISALIGNED, 2, 0))
         self.assertEqual(list(out), [0, 0])
 
     def test_overlapping_arrays(self) -> None:
         out = make_array(*[0] * 16)
-        for name in ("nest_to_ring", "ring_to_nest", "nest_to_uniq", "touching", "neighbours"):
+        for name in CONVERSIONS:
             self.assertEqual(self.call(name, 1, out, 1, out, 1), (OVERLAP, 3, 0), name)
-        self.assertEqual(self.call("contains_all", self.moc._key, out, 1, out, 1), (OVERLAP, 4, 0))
+        self.assertEqual(self.call("contains_all", self.moc._id, out, 1, out, 1), (OVERLAP, 4, 0))
         self.assertEqual(list(out), [0] * 16)
 
     def test_numbers_without_a_cell(self) -> None:
         out = make_array(*[0] * 32)
-        for name in ("nest_to_ring", "ring_to_nest", "nest_to_uniq", "touching", "neighbours"):
+        for name in CONVERSIONS:
             self.assertEqual(self.call(name, 1, make_array(0, 48, 49), 3, out, 3), (NO_SUCH_CELL, 1, 0))

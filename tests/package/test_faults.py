@@ -130,7 +130,7 @@ class Errors(TestCase):
         with self.assertRaises(MocError) as caught:
             MOC.from_json('{"1":[0,48]}')
         error = caught.exception
-        self.assertEqual(str(error), "CellTooLarge: an item is no cell of its order (name 0, item 1)")
+        self.assertEqual(str(error), "CellTooLarge: an item is not the number of a cell of its order (name 0, item 1)")
         copy = pickle.loads(pickle.dumps(error))
         self.assertIsInstance(copy, MocError)
         self.assertEqual((copy.code, copy.name, copy.place, str(copy)), (error.code, error.name, error.place, str(error)))

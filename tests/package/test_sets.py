@@ -205,6 +205,7 @@ class Random(TestCase):
                 self.assertEqual(cells, sorted(cells))
                 self.assertEqual({cell for depth, first in cells for shift in [2 * (order - depth)]
                                   for cell in range(first << shift, (first + 1) << shift)}, a)
+                self.assertEqual(moc.cell_count_by_order(), [sum(depth == each for depth, _ in cells) for each in range(30)])
                 cell_set = set(cells)
                 for depth, cell in cells:
                     self.assertFalse(depth and all((depth, cell // 4 * 4 + at) in cell_set for at in range(4)), "four siblings")

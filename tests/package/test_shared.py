@@ -44,7 +44,7 @@ class OneThread(TestCase):
             with self.subTest(line=line):
                 self.assertFault(name, (), shared.apply, line)
                 self.assertFault(name, (), shared.apply, f"invert ; {line}" if line.strip("; ") else line)
-        self.assertEqual(shared._own.answer(), answer)
+        self.assertEqual(shared._client.answer(), answer)
         self.assertEqual(str(shared.moc()), "0/4")
         invalid: list[Any] = [5, None, ["invert"]]
         for line in invalid:
@@ -79,18 +79,18 @@ class OneThread(TestCase):
         self.assertEqual(client.apply("count 0/0"), "total 0")
 
     def test_handles_without_and_with_a_client(self) -> None:
-        free, other = _library.seat_opened(), _library.seat_opened()
-        used = getattr(SharedMap(clients=1)._own, "_seat")
+        free, other = _library.open_client(), _library.open_client()
+        used = getattr(SharedMap(clients=1)._client, "_handle")
         calls: list[tuple[str, tuple[Any, ...]]] = [("map_apply", (b"invert",)), ("map_join", (other,))]
         for name, arguments in calls:
-            self.assertFault("NoMap", (), _library.on_seat, name, free, *arguments)
-        self.assertFault("NoMap", (), _library.on_seat_and_desk, "map_set", free)
-        self.assertFault("SeatTaken", (), _library.on_seat, "map_join", free, used)
-        self.assertFault("SeatTaken", (), _library.on_seat_and_desk, "map_begin", used, 2**64 - 1, 65)
-        self.assertFault("NoSuchSet", (2**64 - 1,), _library.on_seat_and_desk, "map_begin", free, 2**64 - 1, 65)
+            self.assertFault("NoMap", (), _library.call_with_client, name, free, *arguments)
+        self.assertFault("NoMap", (), _library.call_with_client_and_store, "map_set", free)
+        self.assertFault("ClientInUse", (), _library.call_with_client, "map_join", free, used)
+        self.assertFault("ClientInUse", (), _library.call_with_client_and_store, "map_begin", used, 2**64 - 1, 65)
+        self.assertFault("NoSuchSet", (2**64 - 1,), _library.call_with_client_and_store, "map_begin", free, 2**64 - 1, 65)
         moc = MOC()
         for clients in (0, 65, 255):
-            self.assertFault("BadCount", (clients,), _library.on_seat_and_desk, "map_begin", free, moc._key, clients)
+            self.assertFault("BadCount", (clients,), _library.call_with_client_and_store, "map_begin", free, moc._id, clients)
 
 
 class Threads(TestCase):
@@ -130,8 +130,8 @@ class Threads(TestCase):
         for call, arguments in calls:
             # The list ends after about five seconds. Then the call ends with another error.
             busy = [MocError(74, 3, 5)] * 5000
-            with mock.patch("ploverchaise.shared.on_seat", side_effect=busy) as line, \
-                    mock.patch("ploverchaise.shared.on_seat_and_desk", side_effect=busy) as read:
+            with mock.patch("ploverchaise.shared.call_with_client", side_effect=busy) as line, \
+                    mock.patch("ploverchaise.shared.call_with_client_and_store", side_effect=busy) as read:
                 self.assertFault("Busy", (3, 5), call, *arguments, timeout=0)
                 self.assertEqual(line.call_count + read.call_count, 1)
                 self.assertFault("Busy", (3, 5), call, *arguments, timeout=0.02)
@@ -151,4 +151,4 @@ class Threads(TestCase):
     def test_busy_is_reported(self) -> None:
         error = MocError(74, 3, 5)
         self.assertEqual((error.name, error.place), ("Busy", (3, 5)))
-        self.assertEqual(str(error), "Busy: another client holds a part of the sky (part 3, client 5)")
+        self.assertEqual(str(error), "Busy: another client holds a part of the map (part 3, client 5)")

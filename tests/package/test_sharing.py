@@ -74,22 +74,22 @@ class DeletedSets(TestCase):
 
     def test_their_identifiers_are_invalid(self) -> None:
         moc = MOC.from_string("0/0")
-        key = moc._key
-        self.assertEqual(_library.on_desk("count", key).first, 4**29)
+        set_id = moc._id
+        self.assertEqual(_library.call_with_store("count", set_id).first, 4**29)
         del moc
         gc.collect()
         with self.assertRaises(MocError) as caught:
-            _library.on_desk("count", key)
-        self.assertEqual((caught.exception.name, caught.exception.place), ("NoSuchSet", (key,)))
+            _library.call_with_store("count", set_id)
+        self.assertEqual((caught.exception.name, caught.exception.place), ("NoSuchSet", (set_id,)))
 
     def test_in_a_cycle_of_references(self) -> None:
         cycle: list[Any] = [MOC.from_string("0/0")]
         cycle.append(cycle)
-        key, reference = cycle[0]._key, weakref.ref(cycle[0])
+        set_id, reference = cycle[0]._id, weakref.ref(cycle[0])
         del cycle
         gc.collect()
         self.assertIsNone(reference())
-        self.assertRaises(MocError, _library.on_desk, "count", key)
+        self.assertRaises(MocError, _library.call_with_store, "count", set_id)
 
     def test_their_memory_is_freed(self) -> None:
         moc = MOC.from_healpix_cells(range(0, 40_000, 2), 8)

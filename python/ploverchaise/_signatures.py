@@ -1,0 +1,110 @@
+"""The functions of the library, with the types of their arguments. Made by `tools/signatures.py` from `crates/moc_c/include/ploverchaise.h`."""
+from __future__ import annotations
+
+import ctypes
+from ctypes import c_size_t, c_uint8, c_uint32, c_uint64, c_void_p
+from typing import Any
+
+
+class StoreHandle(ctypes.Structure):
+    """`moc_store`."""
+
+    _fields_ = [("at", c_void_p)]
+
+
+class ClientHandle(ctypes.Structure):
+    """`moc_client`."""
+
+    _fields_ = [("at", c_void_p)]
+
+
+class Result(ctypes.Structure):
+    """`moc_result`."""
+
+    _fields_ = [("code", c_uint32), ("first", c_uint64), ("second", c_uint64)]
+
+
+STORE = ctypes.POINTER(StoreHandle)
+CLIENT = ctypes.POINTER(ClientHandle)
+
+# The functions of a store, each with the types of its arguments after the store.
+STORE_CALLS: dict[str, tuple[Any, ...]] = {
+    "empty": (),
+    "full": (),
+    "from_ranges": (c_void_p, c_size_t),
+    "from_cells": (c_uint32, c_void_p, c_size_t),
+    "from_uniqs": (c_void_p, c_size_t),
+    "read_ascii": (c_void_p, c_size_t),
+    "read_json": (c_void_p, c_size_t),
+    "read_uniq": (c_void_p, c_size_t),
+    "union": (c_uint64, c_uint64),
+    "intersection": (c_uint64, c_uint64),
+    "difference": (c_uint64, c_uint64),
+    "symmetric": (c_uint64, c_uint64),
+    "complement": (c_uint64,),
+    "degrade": (c_uint64, c_uint32),
+    "free": (c_uint64,),
+    "count": (c_uint64,),
+    "count_common": (c_uint64, c_uint64),
+    "range_count": (c_uint64,),
+    "deepest_order": (c_uint64,),
+    "is_empty": (c_uint64,),
+    "contains": (c_uint64, c_uint64),
+    "meets": (c_uint64, c_uint64),
+    "covers": (c_uint64, c_uint64),
+    "same": (c_uint64, c_uint64),
+    "contains_all": (c_uint64, c_void_p, c_size_t, c_void_p, c_size_t),
+    "ranges": (c_uint64, c_void_p, c_size_t),
+    "cells": (c_uint64, c_void_p, c_size_t),
+    "cell_count_by_order": (c_uint64, c_void_p, c_size_t),
+    "write_ascii": (c_uint64, c_uint32),
+    "write_json": (c_uint64, c_uint32),
+    "write_uniq": (c_uint64,),
+    "describe": (c_uint64, c_uint32),
+    "draw": (c_uint64,),
+    "text": (c_void_p, c_size_t),
+}
+
+# The functions of a client handle, each with the types of its arguments after the handle.
+CLIENT_CALLS: dict[str, tuple[Any, ...]] = {
+    "map_begin": (STORE, c_uint64, c_uint32),
+    "map_join": (CLIENT,),
+    "map_apply": (c_void_p, c_size_t),
+    "map_answer": (c_void_p, c_size_t),
+    "map_execute": (c_void_p, c_size_t, c_void_p, c_size_t),
+    "map_add": (c_uint32, c_void_p, c_size_t),
+    "map_remove": (c_uint32, c_void_p, c_size_t),
+    "map_claim": (c_uint32, c_void_p, c_size_t),
+    "map_count": (c_uint32, c_void_p, c_size_t),
+    "map_set": (STORE,),
+}
+
+# The functions without a store and a client handle, each with the types of its arguments.
+NUMBER_CALLS: dict[str, tuple[Any, ...]] = {
+    "nest_to_ring": (c_uint32, c_void_p, c_size_t, c_void_p, c_size_t),
+    "ring_to_nest": (c_uint32, c_void_p, c_size_t, c_void_p, c_size_t),
+    "nest_to_uniq": (c_uint32, c_void_p, c_size_t, c_void_p, c_size_t),
+    "uniq_to_nest": (c_void_p, c_size_t, c_void_p, c_size_t, c_void_p, c_size_t),
+    "nest_to_face_xy": (c_uint32, c_void_p, c_size_t, c_void_p, c_size_t, c_void_p, c_size_t, c_void_p, c_size_t),
+    "touching": (c_uint32, c_void_p, c_size_t, c_void_p, c_size_t),
+    "neighbours": (c_uint32, c_void_p, c_size_t, c_void_p, c_size_t),
+}
+
+# The functions that return the id of a new coverage.
+ID_CALLS = frozenset([
+    "empty",
+    "full",
+    "from_ranges",
+    "from_cells",
+    "from_uniqs",
+    "read_ascii",
+    "read_json",
+    "read_uniq",
+    "union",
+    "intersection",
+    "difference",
+    "symmetric",
+    "complement",
+    "degrade",
+    "map_set",
+])
