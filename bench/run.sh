@@ -1,7 +1,7 @@
 #!/usr/bin/env bash
 # Times the library and the program, and Healpix_cxx 3.80, cds.moc 5.0 with cdshealpix 0.30.2 and healpix.essentials 3.60 on the same input.
 # Prints a table of the common operations (`peers.py`), then one line for each other operation. Needs Debian's libhealpix-cxx-dev,
-# libcds-moc-java, libcds-healpix-java and libhealpix-java. Writes its input into bench/data once (150 MB).
+# libcds-moc-java, libcds-healpix-java and libhealpix-java. Writes its input into bench/data once (150 MB), and the library for C each time.
 set -euo pipefail
 cd "$(dirname "$0")"
 jars=/usr/share/java/cds.moc.jar:/usr/share/java/cdshealpix.jar:/usr/share/java/healpix.jar
@@ -58,3 +58,7 @@ done
 ./crews.py
 # Calls of the shared map, by one client and by several threads.
 ../crates/moc_bench/out/moc_bench clients 20000
+# Calls of a service in C++, by the shared map through the functions of ploverchaise.h, and by sorted vectors with locks.
+../moc library data/library 2> data/library.log
+g++ -O2 -march=x86-64-v2 -std=c++17 -Idata/library service.cpp data/library/libploverchaise.a -lpthread -o service
+./service 2
