@@ -48,14 +48,14 @@ class Body(NamedTuple):
 
 OUT_OF_MEMORY = "Err(Memory)"
 OUT_OF_MEMORY_AT_LINE = "Err(RunError::Memory { line: 0 })"
-INPUT_OUT_OF_MEMORY = "Err(InputDiagnostic::from(moc_ranges::Memory))"
+INPUT_OUT_OF_MEMORY = "Err(InputError::Memory)"
 BODIES = [
     Body("moc_text", "ascii/reading", "read_ascii", "Err(TextError::Memory)", "coverage_tests"),
     Body("moc_text", "json_format/reading", "read_json", "Err(JsonError::Memory)", "coverage_tests"),
     Body("moc_text", "uniq", "read_uniq", "Err(UniqError::Memory)", "coverage_tests"),
     Body("moc_text", "ascii/writing", "write_ascii", "Err(WriteError::Memory)", "coverage_tests"),
     Body("moc_text", "json_format/writing", "write_json", "Err(WriteError::Memory)", "coverage_tests"),
-    Body("moc_text", "uniq", "write_uniq", "Err(MemoryRefused)", "coverage_tests"),
+    Body("moc_text", "uniq", "write_uniq", "Err(OutOfMemory)", "coverage_tests"),
     Body("moc_steps", "schedule", "replay", "Err(ReplayError { at: 0, why: StepError::Memory })", "map_tests"),
     Body("moc_steps", "world", "new", OUT_OF_MEMORY, "map_tests"),
     Body("moc_steps", "world", "step", "Err(StepError::Memory)", "map_tests"),
@@ -65,6 +65,8 @@ BODIES = [
     Body("moc_shared", "map/batches", "try_apply", "Err(TryError::Busy(Busy { part: moc_parts::Part::of(0), holder: 0 }))", "map_tests"),
     Body("moc_shared", "map/batches", "apply", OUT_OF_MEMORY, "map_tests"),
     Body("moc_shared", "map/commands", "answer", OUT_OF_MEMORY, "map_tests"),
+    Body("moc_shared", "map/commands", "try_answer", "Err(TryError::Memory)", "map_tests"),
+    Body("moc_shared", "map/commands", "try_answer", "Err(TryError::Busy(Busy { part: Part::of(0), holder: 0 }))", "map_tests"),
     Body("moc_shared", "map/batches", "finish", "(self.let_go(holding), Err(Memory))", "map_tests"),
     Body("moc_shared", "map/batches", "snapshot", "Err(SnapshotError::Memory(self.let_go(holding)))", "map_tests"),
     Body("moc_shared", "snapshot", "answer", OUT_OF_MEMORY, "map_tests"),
@@ -76,25 +78,25 @@ BODIES = [
     Body("moc_parts", "prepared", "prepare", OUT_OF_MEMORY, "map_tests"),
     Body("moc_parts", "prepared", "prepare_changes", OUT_OF_MEMORY, "map_tests"),
     Body("moc_parts", "prepared", "reply_of", OUT_OF_MEMORY, "map_tests"),
-    Body("moc_forms", "checking", "check", "Err(Diagnostic { error: FormatError::Memory, place: None })", "coverage_tests"),
+    Body("moc_forms", "diagnostic", "new", OUT_OF_MEMORY, "coverage_tests"),
     Body("moc_forms", "statistics", "describe", OUT_OF_MEMORY, "coverage_tests"),
     Body("moc_forms", "drawing", "draw", OUT_OF_MEMORY, "coverage_tests"),
     Body("moc_forms", "combining", "combine", OUT_OF_MEMORY, "coverage_tests"),
-    Body("moc_conversion", "conversion", "convert_input", INPUT_OUT_OF_MEMORY, "program_tests"),
-    Body("moc_conversion", "conversion", "describe_input", INPUT_OUT_OF_MEMORY, "program_tests"),
-    Body("moc_conversion", "drawing", "draw_input", INPUT_OUT_OF_MEMORY, "program_tests"),
-    Body("moc_conversion", "conversion", "change_input", INPUT_OUT_OF_MEMORY, "program_tests"),
-    Body("moc_conversion", "conversion", "check_input", INPUT_OUT_OF_MEMORY, "program_tests"),
-    Body("moc_conversion", "combination", "combine_input", INPUT_OUT_OF_MEMORY, "program_tests"),
-    Body("moc_program", "action", "from_matches", "None", "program_tests"),
-    Body("moc_lines", "language", "read_commands", "Err(ReadError::Memory)", "script_tests"),
-    Body("moc_lines", "reading", "read_all", "Err(ScriptInputError::Memory { line: 0 })", "script_tests"),
+    Body("moc_conversion", "conversion", "convert_input", INPUT_OUT_OF_MEMORY, "moc_cli"),
+    Body("moc_conversion", "conversion", "describe_input", INPUT_OUT_OF_MEMORY, "moc_cli"),
+    Body("moc_conversion", "drawing", "draw_input", INPUT_OUT_OF_MEMORY, "moc_cli"),
+    Body("moc_conversion", "conversion", "change_input", INPUT_OUT_OF_MEMORY, "moc_cli"),
+    Body("moc_conversion", "conversion", "check_input", INPUT_OUT_OF_MEMORY, "moc_cli"),
+    Body("moc_conversion", "combination", "combine_input", INPUT_OUT_OF_MEMORY, "moc_cli"),
+    Body("moc_cli", "action", "from_matches", "None", "moc_cli"),
+    Body("moc_lines", "language", "read_commands", "Err(LineError::Memory)", "script_tests"),
+    Body("moc_lines", "reading", "read_all", "Err(RunError::Memory { line: 0 })", "script_tests"),
     Body("moc_lines", "runner", "answer_all_lines", OUT_OF_MEMORY_AT_LINE, "script_tests"),
     Body("moc_lines", "renumbering", "renumber", OUT_OF_MEMORY_AT_LINE, "script_tests"),
     Body("moc_lines", "script", "run", OUT_OF_MEMORY_AT_LINE, "script_tests"),
     Body("moc_script", "schedule", "play", OUT_OF_MEMORY_AT_LINE, "script_tests"),
-    Body("moc_script", "crews", "crew", "Err(CrewError::Run(RunError::Memory { line: 0 }))", "script_tests"),
-    Body("moc_script", "crews", "crew", "Err(CrewError::Spawn)", "script_tests"),
+    Body("moc_script", "crews", "crew", "Err(RunError::Memory { line: 0 })", "script_tests"),
+    Body("moc_script", "crews", "crew", "Err(RunError::Spawn)", "script_tests"),
 ]
 
 

@@ -22,6 +22,9 @@ from collections.abc import Iterator
 from tally import Tally
 
 TOP = os.path.dirname(os.path.dirname(os.path.abspath(__file__)))
+sys.path.insert(0, os.path.join(TOP, "tools"))
+from generated import read  # noqa: E402
+
 PAGE = os.path.join("docs", "DEFINITIONS.md")
 TOOL = os.path.join("tools", "definitions.py")
 # The most columns of a line of code or of a definition.
@@ -33,12 +36,6 @@ PUBLIC = re.compile(r"^ *(?:abbrev pub|unfoldable pub|pub record|pub data) (\S+)
 # A file of definitions as a heading of the page, and a definition in its list.
 FILE = re.compile(r"^### \[`([^`]+)`\]")
 ENTRY = re.compile(r"^- `([^`]+)` \(")
-
-
-def read(path: str) -> str:
-    """Returns the text of a file of the project."""
-    with open(os.path.join(TOP, path), encoding="utf-8") as file:
-        return file.read()
 
 
 def public_definitions() -> Iterator[tuple[str, str]]:
@@ -75,9 +72,9 @@ def main() -> int:
     tool = subprocess.run([sys.executable, os.path.join(TOP, TOOL)], capture_output=True, encoding="utf-8",
                           env={**os.environ, "PYTHONIOENCODING": "utf-8"})
     tally.check(tool.returncode == 0, f"{TOOL} fails:\n{tool.stderr}")
-    page = read(PAGE)
+    page, generated = read(PAGE), tool.stdout.removeprefix(f"=== {PAGE}\n")
     difference = list(itertools.islice(
-        difflib.unified_diff(page.splitlines(), tool.stdout.splitlines(), PAGE, TOOL, lineterm="", n=0), MAX_DIFFERENCES))
+        difflib.unified_diff(page.splitlines(), generated.splitlines(), PAGE, TOOL, lineterm="", n=0), MAX_DIFFERENCES))
     tally.check(not difference, "\n".join([*difference, f"{PAGE} is out of date; run {TOOL} --write"]))
     public, entries = list(public_definitions()), list(page_entries(page))
     for file, name in public:

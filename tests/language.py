@@ -80,8 +80,8 @@ GROUPS = (
     Group("comments of the crates", ("crates/*/src/**/*.rt", "crates/*/specs/**/*.antt", "crates/*/proofs/**/*.antt"), 1.0),
     Group("scripts", ("tests/**/*.py", "tools/*.py", "bench/*.py", "bench/*.sh", "moc", ".ci/run"), 1.0),
     Group("pages", ("*.md", "docs/*.md", "docs/reference/*.md", "bench/*.md", "crates/*/CALLING.md", "python/*.md"), 2.0),
-    Group("the package for Python", ("python/**/*.py",), 31.0),
-    Group("C", ("crates/moc_c/include/*.h", "tests/**/*.c", "tests/**/*.h"), 31.0),
+    Group("the package for Python", ("python/**/*.py",), 2.0),
+    Group("C and C++", ("crates/moc_c/include/*.h", "tests/**/*.c", "tests/**/*.h", "bench/*.cpp"), 1.0),
 )
 
 
@@ -128,7 +128,7 @@ def prose_lines(path: str) -> Iterator[Line]:
         lines = file.read().splitlines()
     if path.endswith(".md"):
         prose = page_lines(lines)
-    elif path.endswith((".h", ".c")):
+    elif path.endswith((".h", ".c", ".cpp")):
         prose = enclosed_lines(lines, "/*", "*/")
     elif path.endswith(".py"):
         prose = iter(sorted({**dict(comment_lines(path, lines)), **dict(enclosed_lines(lines, '"""', '"""'))}.items()))

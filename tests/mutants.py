@@ -46,7 +46,7 @@ from tally import Tally
 
 TOP = os.path.dirname(os.path.dirname(os.path.abspath(__file__)))
 sys.path.insert(0, os.path.join(TOP, "tools"))
-from crates import folder_of, libraries_of_crates, make_workspace, read_crates  # noqa: E402
+from crates import folder_of, libraries_of_crates, make_workspace, read_crates, root_of  # noqa: E402
 
 # The maximal number of mutants of a check. The memory of a check grows with its mutants.
 MAX_MUTANTS = 24
@@ -449,11 +449,10 @@ def group_mutants(crate: str, mutants: list[Mutant]) -> list[Group]:
 def public_functions(crate: str) -> Iterator[str]:
     """Returns the public functions of a crate, each as `CRATE NAME` or `CRATE TYPE::NAME`.
 
-    A function is public if `src/lib.rt` exports it or the type of its impl block, or if C can call it. A program exports nothing."""
+    A function is public if the root file of the crate exports it or the type of its impl block, or if C can call it."""
     folder = folder_of(crate)
-    root = os.path.join(folder, "src", "lib.rt")
     exported = set()
-    for several, one in EXPORTS.findall(read_text(root) if os.path.exists(root) else ""):
+    for several, one in EXPORTS.findall(read_text(root_of(crate))):
         exported.update(re.findall(r"\w+", several or one))
     for path in sorted(glob.glob(os.path.join(folder, "src", "**", "*.rt"), recursive=True)):
         blank = blank_quiet_text(read_text(path))

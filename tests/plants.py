@@ -68,13 +68,13 @@ DEFECTS = [
     Defect("last_line_without_a_line_feed_is_not_counted", "moc_lines", "src/reading.rt",
            "        Some(_) => whole + 2,", "        Some(_) => whole + 1,", "prove"),
     Defect("crew_reports_spawn_as_memory", "moc_script", "src/crews/threads.rt",
-           "return Err(LanesError::Spawn);", "return Err(LanesError::Memory { line: 0 });", "script", "program"),
+           "return Err(RunError::Spawn);", "return Err(RunError::Memory { line: 0 });", "script", "program"),
     # devices
     Defect("input_is_read_again_after_an_error", "moc_conversion", "src/reading.rt",
            "        return Err(InputError::Read);\n    };\n    text.extend",
-           "        let _ = input.read(buffer);\n        return Err(InputError::Read);\n    };\n    text.extend", "test", "program_tests"),
-    Defect("error_is_never_reported", "moc_program", "src/status.rt",
-           "    let _ = fault.report(errors);", "    let _ = &errors;", "prove"),
+           "        let _ = input.read(buffer);\n        return Err(InputError::Read);\n    };\n    text.extend", "test", "moc_cli"),
+    Defect("error_is_never_reported", "moc_cli", "src/status.rt",
+           "    let _ = error.report(errors);", "    let _ = &errors;", "prove"),
     Defect("longest_input_is_rejected", "moc_conversion", "src/reading.rt",
            "    while text.len() <= INPUT_LIMIT {", "    while text.len() < INPUT_LIMIT {", "prove"),
     # pages
@@ -86,9 +86,9 @@ DEFECTS = [
            "coverage_tests"),
     # clients on threads
     Defect("query_gives_its_parts_back_while_it_takes_them", "moc_shared", "src/calls/footprint.rt",
-           "            Ok(pointer) => put_at(&mut previous, part, pointer),",
+           "            Ok(pointer) => put_at(&mut slots, part, pointer),",
            "            Ok(pointer) => { let Ok(copy) = std::sync::Arc::try_clone(&pointer) else { unreachable!() }; "
-           "put_at(&mut previous, part, copy); "
+           "put_at(&mut slots, part, copy); "
            "if batch.is_update() { drop(pointer); } else { give_part(table, seat, part, pointer); } }", "test", "map_tests"),
     Defect("waiting_client_takes_the_highest_part_first", "moc_shared", "src/calls/waiting.rt",
            "    for part in batch.footprint(alloc) {",
@@ -104,9 +104,10 @@ DEFECTS = [
            "        gate.pass(lane, number);",
            "test", "script_tests crews::more_than_a_million_lines_of_a_crew"),
     # time and memory
-    Defect("blocks_after_the_seventh_node_have_65_ranges", "moc_lists", "src/builder_state.rt",
+    Defect("blocks_after_the_seventh_node_have_65_ranges", "moc_lists", "src/builder.rt",
            "        if self.ranges.len() < MAX_BLOCK_RANGES {\n            return Ok(());",
-           "        if self.ranges.len() < (if self.nodes.len() < 7 { MAX_BLOCK_RANGES } else { 65 }) {\n            return Ok(());",
+           "        if self.ranges.len() < (if self.blocks.nodes.len() < 7 { MAX_BLOCK_RANGES } else { 65 }) {\n"
+           "            return Ok(());",
            "test", "coverage_tests ranges::numbers_of_chunks"),
     Defect("steps_in_a_block_are_not_counted", "moc_lists", "src/steps.rt",
            "        steps.step();\n        if pixel < range.0 {", "        if pixel < range.0 {", "test",
@@ -122,11 +123,11 @@ DEFECTS = [
            "        let _scratch = Vec::<u8>::with_capacity(self.alloc, 4096);\n"
            "        match self.refusal(step) {\n            Some(why) => Err(why),", "script", "program"),
     Defect("answers_are_written_one_by_one", "moc_lines", "src/runner.rt",
-           "        if self.lines.has_line() && self.pending.len() < FLUSH_THRESHOLD {",
+           "        if self.lines.has_line() && self.pending.len() < BUFFER_SIZE {",
            "        if self.lines.has_line() && self.pending.is_empty() {", "test", "script_tests scripts::writes_of_a_short_script"),
     Defect("input_is_read_byte_by_byte", "moc_conversion", "src/reading.rt",
            "    let Ok(count) = input.read(buffer) else {", "    let Ok(count) = input.read(&mut buffer[..1]) else {", "test",
-           "program_tests inputs::reads_of_an_input"),
+           "moc_cli tests::inputs::reads_of_an_input"),
     # values that no contract defines
     Defect("default_cell_is_29_7", "moc_sphere", "src/cell.rt",
            "Debug, Default, PartialEq, Eq, PartialOrd, Ord, Hash)]\npub struct Cell {\n    order: Order,\n    index: u64,\n}\n",
@@ -141,18 +142,18 @@ DEFECTS = [
     Defect("timeout_never_ends", "", "python/ploverchaise/shared.py",
            "if error.code != BUSY or (ends is not None and time.monotonic() >= ends):", "if error.code != BUSY:", "package"),
     Defect("map_drops_the_timeout", "", "python/ploverchaise/shared.py",
-           "        return self._own.apply(line, timeout)", "        return self._own.apply(line)", "package"),
+           "        return self._client.apply(line, timeout)", "        return self._client.apply(line)", "package"),
     Defect("cells_of_several_orders_are_not_degraded", "", "python/ploverchaise/moc.py",
-           "            made = cls._of_orders(numbers_of(ipix), numbers_of(depth))",
-           "            return cls._of_orders(numbers_of(ipix), numbers_of(depth))", "package"),
+           "            moc = cls._from_cells_of_orders(as_array(ipix), as_array(depth))",
+           "            return cls._from_cells_of_orders(as_array(ipix), as_array(depth))", "package"),
     Defect("forked_child_keeps_the_lock", "", "python/ploverchaise/_library.py",
            "after_in_parent=_lock.release, after_in_child=_lock.release)", "after_in_parent=_lock.release)", "package"),
     Defect("call_with_handle_and_store_takes_no_lock", "", "python/ploverchaise/_library.py",
-           "    with _lock:\n        outcome = _on_seat[name](ctypes.byref(seat), _at, *arguments)\n",
-           "    outcome = _on_seat[name](ctypes.byref(seat), _at, *arguments)\n", "package"),
+           "    with _lock:\n        result = _client_functions[name](ctypes.byref(handle), _store_pointer, *arguments)\n",
+           "    result = _client_functions[name](ctypes.byref(handle), _store_pointer, *arguments)\n", "package"),
     Defect("generators_are_sorted", "", "python/ploverchaise/_arrays.py",
-           "given if isinstance(given, (list, tuple, range, array)) else list(given)",
-           "given if isinstance(given, (list, tuple, range, array)) else sorted(given)", "package"),
+           "numbers if isinstance(numbers, (list, tuple, range, array)) else list(numbers)",
+           "numbers if isinstance(numbers, (list, tuple, range, array)) else sorted(numbers)", "package"),
 ]
 
 

@@ -2,7 +2,7 @@
 """Compares the pages in docs/reference with the sources.
 
 The pages have to be the output of tools/reference.py. Each crate of the product that has a library needs a page, except those of
-WITHOUT_PAGE. Each name that `src/lib.rt` of a crate exports has one entry on the page of the crate, and each public method of an exported
+WITHOUT_PAGE. Each name that the root file of a crate exports has one entry on the page of the crate, and each public method of an exported
 type has one heading. The script finds the names and methods without the parser of tools/reference.py.
 
 usage: tests/reference.py
@@ -23,10 +23,13 @@ from collections.abc import Iterator
 from tally import Tally
 
 TOP = os.path.dirname(os.path.dirname(os.path.abspath(__file__)))
+sys.path.insert(0, os.path.join(TOP, "tools"))
+from generated import read  # noqa: E402
+
 FOLDER = os.path.join("docs", "reference")
 TOOL = os.path.join("tools", "reference.py")
-# Crates without a page: three that only other crates of the project call, and the one for C, which docs/C.md describes.
-WITHOUT_PAGE = ("moc_blocks", "moc_lists", "moc_operations", "moc_c")
+# Crates without a page: three that only other crates of the project call, the one for C, which docs/C.md describes, and the program.
+WITHOUT_PAGE = ("moc_blocks", "moc_lists", "moc_operations", "moc_c", "moc_cli")
 # The most differing lines of a page that are printed.
 MAX_DIFFERENCES = 20
 # The line before a page in the output of the tool.
@@ -42,25 +45,16 @@ METHODS_OF = re.compile(r"^impl(?:<[^>]*>)? (\w+)(?:<[^>]*>)? \{$")
 PUBLIC_METHOD = re.compile(r"^ {4}pub (?:const )?fn (\w+)")
 
 
-def read(path: str) -> str:
-    """Returns the text of a file of the project, or an empty text if the file does not exist."""
-    name = os.path.join(TOP, path)
-    if not os.path.isfile(name):
-        return ""
-    with open(name, encoding="utf-8") as file:
-        return file.read()
-
-
 def crates() -> list[str]:
-    """Returns the crates of the product that have a library, except those without a page."""
+    """Returns the crates of the product that export something, except those without a page."""
     names = [line.split(":")[0].split()[0] for line in read("crates.txt").splitlines() if line.startswith("moc_")]
-    return [name for name in names if name not in WITHOUT_PAGE and read(f"crates/{name}/src/lib.rt")]
+    return [name for name in names if name not in WITHOUT_PAGE and exported_names(name)]
 
 
 def exported_names(crate: str) -> list[str]:
     """Returns the names that a crate exports."""
     names = []
-    for path in EXPORT.findall(read(f"crates/{crate}/src/lib.rt")):
+    for path in EXPORT.findall(read(f"crates/{crate}/src/lib.rt") or read(f"crates/{crate}/src/main.rt")):
         names += re.findall(r"\w+", path.partition("{")[2]) if "{" in path else [path.split("::")[-1]]
     return names
 

@@ -26,6 +26,10 @@ import plants
 from tally import Tally
 
 TOP = os.path.dirname(os.path.dirname(os.path.abspath(__file__)))
+sys.path.insert(0, os.path.join(TOP, "tools"))
+import codes  # noqa: E402
+import signatures  # noqa: E402
+
 # The maximal number of columns of a line of a page, and of a cell of a table.
 MAX_COLUMNS, MAX_CELL_COLUMNS = 140, 120
 PAGES = ("*.md", "docs/*.md", "docs/reference/*.md", "bench/*.md", "crates/*/CALLING.md", "python/*.md")
@@ -67,6 +71,18 @@ def check_replaced_lines() -> Iterator[Check]:
     for defect in plants.DEFECTS:
         source = read_file(plants.path_of(TOP, defect))
         yield f"{defect.crate}/{defect.file}: the line that {defect.name} replaces is there once", source.count(defect.old) == 1
+
+
+def check_codes() -> Iterator[Check]:
+    """Checks that the tables of result codes are those that `tools/codes.py` makes."""
+    for path, text in codes.generated_files().items():
+        yield f"{path}: its codes are those of {codes.TABLE}", read_file(path) == text
+
+
+def check_signatures() -> Iterator[Check]:
+    """Checks that the table of the functions that the Python package calls is that which `tools/signatures.py` makes."""
+    for path, text in signatures.generated_files().items():
+        yield f"{path}: its functions are those of {codes.HEADER}", read_file(path) == text
 
 
 def page_names() -> list[str]:
@@ -196,8 +212,9 @@ def check_shown_program() -> Iterator[Check]:
 def main() -> int:
     """Runs all checks."""
     tally = Tally()
-    for statement, holds in (*check_replaced_functions(), *check_replaced_lines(), *check_line_lengths(), *check_cell_lengths(),
-                             *check_links(), *check_names_of_pages(), *check_shown_program(), *check_first_output()):
+    for statement, holds in (*check_replaced_functions(), *check_replaced_lines(), *check_codes(), *check_signatures(),
+                             *check_line_lengths(), *check_cell_lengths(), *check_links(), *check_names_of_pages(),
+                             *check_shown_program(), *check_first_output()):
         tally.check(holds, f"does not hold: {statement}")
     return tally.finish()
 

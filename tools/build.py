@@ -9,7 +9,8 @@ and Python (`library.py`) instead of the program, and puts it into the folder, w
 Each crate is proved as soon as its libraries are, in a separate workspace (`crates.py`), at the same time as other crates. The crates that
 the longest chains of crates depend on have priority, and the others use the processors that these leave idle. With more jobs than
 processors, checks take up to twice the processor time. The program reports its progress on standard error. A report has the number of
-checked functions, and the finished part of the work, measured by the sizes of files.
+checked functions, and the finished part of the work. The work of a crate is estimated by the sizes of its files, for the proofs, and of its
+libraries, which a check reads before it ends.
 
 environment: MOC_JOBS is the maximal number of jobs of all checks together. The default is the number of processors, if memory suffices.
 MOC_CHECK_JOBS is the maximal number of jobs of one check. The default is 4; fewer jobs take less processor time, and take longer if
@@ -40,6 +41,8 @@ PRIORITY_SHARE = 0.8
 MAX_NICENESS = 19
 # The memory that a job of a check may use, in bytes.
 JOB_MEMORY = 2_500_000_000
+# The work of reading the libraries of a crate at the end of its check, as a part of the work of their proofs.
+READING_SHARE = 0.15
 # The time between two reports of progress, in seconds.
 REPORT_INTERVAL = 10
 # The file that a check writes for the proof of a function.
@@ -72,8 +75,12 @@ class Progress:
 
     Attributes
     ----------
-    sizes : dict of str to int
-        The size of each crate.
+    proof_work : dict of str to float
+        The work of the proofs of each crate.
+    reading_work : dict of str to float
+        The work of reading the libraries of each crate, at the end of its check.
+    ended : set of str
+        The crates whose checks have ended.
     totals : dict of str to int
         The number of functions of each crate, if it is known.
     checked : dict of str to int
@@ -82,8 +89,10 @@ class Progress:
         The crates that are being proved, and the folders of the results of their checks.
     """
 
-    def __init__(self, sizes: dict[str, int]) -> None:
-        self.sizes = sizes
+    def __init__(self, sizes: dict[str, int], libraries: dict[str, list[str]]) -> None:
+        self.proof_work = {crate: float(size) for crate, size in sizes.items()}
+        self.reading_work = {crate: READING_SHARE * sum(sizes[library] for library in libraries[crate]) for crate in sizes}
+        self.ended: set[str] = set()
         self.totals: dict[str, int] = {}
         self.checked: dict[str, int] = {}
         self.active: dict[str, str] = {}
@@ -107,26 +116,41 @@ class Progress:
                 self.count()
                 del self.active[crate]
                 self.totals[crate] = self.checked[crate]
+                self.ended.add(crate)
 
     def count(self) -> None:
         """Counts the files of functions that the active checks wrote."""
         for crate, results in self.active.items():
             self.checked[crate] = sum(bool(FUNCTION_FILE.search(name)) for _, _, names in os.walk(results) for name in names)
 
-    def finished_share(self, crate: str) -> float:
-        """Returns the finished part of a crate, from 0 to 1."""
+    def skip(self, crate: str) -> None:
+        """Counts a crate that needs no proof as finished."""
+        self.totals[crate] = 0
+        self.ended.add(crate)
+
+    def checked_share(self, crate: str) -> float:
+        """Returns the checked part of the functions of a crate, from 0 to 1."""
         checked, total = self.checked.get(crate, 0), self.totals.get(crate)
-        if total is None:
-            return 0
-        return 1 if checked >= total else checked / total
+        if crate in self.ended:
+            return 1
+        return min(1, checked / total) if total else 0
+
+    def finished_share(self) -> float:
+        """Returns the finished part of the work, from 0 to 1."""
+        finished = sum(work * self.checked_share(crate) for crate, work in self.proof_work.items())
+        finished += sum(self.reading_work[crate] for crate in self.ended)
+        return finished / (sum(self.proof_work.values()) + sum(self.reading_work.values()))
+
+    def stage_of(self, crate: str) -> str:
+        """Returns the name of an active crate, with the stage of its check if that is not a proof."""
+        return f"{crate} (reading its libraries)" if self.checked_share(crate) == 1 else crate
 
     def report(self) -> None:
-        """Reports the progress."""
+        """Reports the progress. The share is rounded down, so that it is 100% only at the end."""
         with self.lock:
             self.count()
-            finished = sum(size * self.finished_share(crate) for crate, size in self.sizes.items()) / sum(self.sizes.values())
-            report(f"{sum(self.checked.values())} functions checked, {finished:.0%} of the work, {self.elapsed()}: "
-                   f"{', '.join(self.active)}")
+            report(f"{sum(self.checked.values())} functions checked, {math.floor(100 * self.finished_share())}% of the work, "
+                   f"{self.elapsed()}: {', '.join(map(self.stage_of, self.active))}")
 
     @contextlib.contextmanager
     def reports(self) -> Iterator[None]:
@@ -203,7 +227,7 @@ class Build:
         for crate in reversed(self.libraries):
             dependents = (self.chain_work[other] for other in self.chain_work if crate in self.libraries[other])
             self.chain_work[crate] = sizes[crate] + max(dependents, default=0)
-        self.progress = Progress(sizes)
+        self.progress = Progress(sizes, self.libraries)
         self.running: dict[str, int] = {}
         self.finished: set[str] = set()
         self.failed = False
@@ -211,7 +235,7 @@ class Build:
             if self.finished.issuperset(libraries[crate]) and is_current(crate, libraries[crate]):
                 self.remaining.remove(crate)
                 self.finished.add(crate)
-                self.progress.totals[crate] = 0
+                self.progress.skip(crate)
         self.changed = threading.Condition()
         processors = len(os.sched_getaffinity(0))
         self.max_jobs = int(os.environ.get("MOC_JOBS") or min(processors, max(1, available_memory() // JOB_MEMORY)))

@@ -17,6 +17,12 @@ def folder_of(crate: str, top: str = TOP) -> str:
     return os.path.join(top, "crates", crate)
 
 
+def root_of(crate: str, top: str = TOP) -> str:
+    """Returns the path of the root file of a crate: `src/lib.rt` of a library, `src/main.rt` of a program."""
+    library = os.path.join(folder_of(crate, top), "src", "lib.rt")
+    return library if os.path.exists(library) else os.path.join(folder_of(crate, top), "src", "main.rt")
+
+
 def stat_files(crate: str, *folders: str) -> list[os.stat_result]:
     """Returns the status of each file in these folders of a crate."""
     paths = [os.path.join(folder_of(crate), folder) for folder in folders]

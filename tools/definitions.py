@@ -11,7 +11,6 @@ usage: tools/definitions.py [--write]
 Without `--write` it prints the page. The exit status is 1 if a definition has no comment, or an example belongs to no definition."""
 from __future__ import annotations
 
-import argparse
 import glob
 import itertools
 import os
@@ -21,7 +20,9 @@ import textwrap
 from collections.abc import Iterator
 from typing import NamedTuple
 
-TOP = os.path.dirname(os.path.dirname(os.path.abspath(__file__)))
+from crates import root_of
+from generated import TOP, read, write_or_print
+
 PAGE = os.path.join("docs", "DEFINITIONS.md")
 HEAD = os.path.join("docs", "DEFINITIONS.head.md")
 EXAMPLES = os.path.join("docs", "definitions_examples.tsv")
@@ -83,12 +84,6 @@ class SpecFile(NamedTuple):
     def is_lemmas(self) -> bool:
         """Returns whether the file has lemmas with proofs, which state nothing that a reader must trust."""
         return self.name == "Lemmas" or self.name.startswith("Lemmas/")
-
-
-def read(path: str) -> str:
-    """Returns the text of a file of the project."""
-    with open(os.path.join(TOP, path), encoding="utf-8") as file:
-        return file.read()
 
 
 def is_comment(line: str) -> bool:
@@ -171,10 +166,7 @@ def public_contracts(crate: str) -> Iterator[tuple[str, str]]:
     """Yields the sources of a crate, each with the contracts of its public functions.
 
     A function is public if it or the type of its methods is exported at the top of the crate."""
-    library = os.path.join("crates", crate, "src", "lib.rt")
-    if not os.path.exists(os.path.join(TOP, library)):
-        return
-    exported = {word for names in EXPORT.findall(read(library)) for word in re.findall(r"\w+", names)}
+    exported = {word for names in EXPORT.findall(read(os.path.relpath(root_of(crate), TOP))) for word in re.findall(r"\w+", names)}
     for path in sorted(glob.glob(f"crates/{crate}/src/**/*.rt", root_dir=TOP, recursive=True)):
         text = read(path)
         contracts, is_public_type, is_contract = [], False, False
@@ -336,18 +328,7 @@ def failures() -> list[str]:
 
 def main() -> int:
     """Prints or writes the page."""
-    parser = argparse.ArgumentParser(description="Writes docs/DEFINITIONS.md from the definitions.")
-    parser.add_argument("--write", action="store_true", help="write docs/DEFINITIONS.md instead of printing it")
-    given = parser.parse_args()
-    if given.write:
-        with open(os.path.join(TOP, PAGE), "w", encoding="utf-8") as file:
-            file.write(page())
-    else:
-        sys.stdout.write(page())
-    wrong = failures()
-    for failure in wrong:
-        print(failure, file=sys.stderr)
-    return 1 if wrong else 0
+    return write_or_print("Writes docs/DEFINITIONS.md from the definitions.", lambda: {PAGE: page()}, failures)
 
 
 if __name__ == "__main__":

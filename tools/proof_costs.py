@@ -18,7 +18,7 @@ import subprocess
 import sys
 import tempfile
 
-from crates import SOURCE_FOLDERS, folder_of, libraries_of_crates, read_crates
+from crates import SOURCE_FOLDERS, folder_of, libraries_of_crates, read_crates, root_of
 
 # The modules of a function or of a derived impl block, after its name.
 PARTS = re.compile(
@@ -56,8 +56,7 @@ def check_command(crate: str, dependencies: list[str], libraries: list[str], res
     """
     program, toolchain = find_prover()
     archives = {library: os.path.join(folder_of(library), "out", "rlib", f"{library}.rlib") for library in libraries}
-    root = "lib" if os.path.exists(os.path.join(folder_of(crate), "src", "lib.rt")) else "main"
-    command = [program, "check", "--crate-name", crate, f"src/{root}.rt"]
+    command = [program, "check", "--crate-name", crate, os.path.relpath(root_of(crate), folder_of(crate))]
     for name in ["std", *dependencies]:
         command += ["--extern", f"{name}={archives.get(name, f'{toolchain}/rlibs/{name}.rlib')}"]
     command += ["-L", f"dependency={toolchain}/rlibs"]

@@ -1,7 +1,7 @@
 #!/usr/bin/env python3
 """Writes docs/reference/*.md, the reference of the public API, from the sources of the crates.
 
-Each crate of CRATES has a page, with what its `src/lib.rt` exports: types with their variants, fields, error texts and traits, and
+Each crate of CRATES has a page, with what its root file exports: types with their variants, fields, error texts and traits, and
 functions and methods with their contracts as they are in the source. The text is that of the doc comments. An item of a crate of INTERNAL
 is on the page of the crate that exports it again; an item of another crate is a link. docs/reference/README.md has the text INDEX, and then
 a line for each crate.
@@ -12,7 +12,6 @@ Without `--write` it prints the pages, each after a line with its path. The exit
 not in UNDOCUMENTED, or if an entry of UNDOCUMENTED is documented or does not exist."""
 from __future__ import annotations
 
-import argparse
 import os
 import re
 import sys
@@ -22,11 +21,13 @@ from functools import lru_cache
 from glob import glob
 from typing import NamedTuple
 
-TOP = os.path.dirname(os.path.dirname(os.path.abspath(__file__)))
+from crates import root_of
+from generated import TOP, read, write_or_print
+
 FOLDER = os.path.join("docs", "reference")
 # The crates with a page, each after the crates that it uses.
 CRATES = ("moc_devices", "moc_sphere", "moc_ranges", "moc_text", "moc_forms", "moc_conversion", "moc_parts", "moc_steps", "moc_shared",
-          "moc_lines", "moc_script", "moc_command_line", "moc_program")
+          "moc_lines", "moc_script", "moc_command_line")
 # The crates that only other crates of the project call.
 INTERNAL = ("moc_blocks", "moc_lists", "moc_operations")
 # Exported items without a doc comment. The list may only shrink.
@@ -136,19 +137,9 @@ class Implementation(NamedTuple):
     lines: list[str]
 
 
-@lru_cache(maxsize=None)
-def read(path: str) -> str:
-    """Returns the text of a file of the project, or an empty text if the file does not exist."""
-    name = os.path.join(TOP, path)
-    if not os.path.isfile(name):
-        return ""
-    with open(name, encoding="utf-8") as file:
-        return file.read()
-
-
 def module_path(crate: str, module: str) -> str:
     """Returns the path of the file of a module, which is given as `a::b`, or of the crate if it is empty."""
-    return f"crates/{crate}/src/{module.replace('::', '/') or 'lib'}.rt"
+    return f"crates/{crate}/src/{module.replace('::', '/')}.rt" if module else os.path.relpath(root_of(crate), TOP)
 
 
 def exports(crate: str, module: str = "") -> Iterator[tuple[str, str]]:
@@ -621,19 +612,7 @@ def failures() -> list[str]:
 
 def main() -> int:
     """Prints or writes the pages."""
-    parser = argparse.ArgumentParser(description="Writes docs/reference/*.md from the sources of the crates.")
-    parser.add_argument("--write", action="store_true", help="write the pages instead of printing them")
-    given = parser.parse_args()
-    for path, text in pages().items():
-        if given.write:
-            with open(os.path.join(TOP, path), "w", encoding="utf-8") as file:
-                file.write(text)
-        else:
-            sys.stdout.write(f"=== {path}\n{text}")
-    wrong = failures()
-    for failure in wrong:
-        print(failure, file=sys.stderr)
-    return 1 if wrong else 0
+    return write_or_print("Writes docs/reference/*.md from the sources of the crates.", pages, failures)
 
 
 if __name__ == "__main__":
