@@ -2,16 +2,20 @@
 
 One store has all coverages of the process, because both operands of a set operation must be in the same store. A lock protects the store,
 which may be in one call at a time. During a call, ctypes lets other threads of Python run. They may also call functions that need no store.
+
+A finalizer of a coverage only queues its id, so that it neither waits for the lock nor loses an exception of a signal handler. The next call
+with the store frees the queued ids.
 """
 from __future__ import annotations
 
 import ctypes
 import os
 import threading
+from collections import deque
 from ctypes import c_bool
 
 from ._arrays import Array
-from ._codes import KINDS
+from ._codes import BUFFER_TOO_SHORT, KINDS
 from ._signatures import CLIENT, CLIENT_CALLS, ID_CALLS, NUMBER_CALLS, STORE, STORE_CALLS, ClientHandle, Result, StoreHandle
 from .errors import MEMORY, MocError
 
@@ -55,6 +59,10 @@ if not declare_function(library, "store_open", c_bool, STORE)(_store_pointer):
 _lock = threading.RLock()
 # The process forks only while no other thread calls the store.
 os.register_at_fork(before=_lock.acquire, after_in_parent=_lock.release, after_in_child=_lock.release)
+# The ids of deleted coverages, which the next call with the store frees.
+deleted_ids: deque[int] = deque()
+# The length of the buffer for a text before its length is known.
+_TEXT_LENGTH = 256
 # The number of texts that the process has requested. The store keeps the last text.
 _text_count = 0
 
@@ -93,10 +101,21 @@ def _c_arguments(arguments):
             yield argument
 
 
+def _free_deleted() -> None:
+    """Frees the coverages of the queue. The caller has the lock. An id is removed after its coverage is freed, so that an exception of a
+    signal handler loses none. To free an id again has no effect."""
+    free = _store_functions["free"]
+    while deleted_ids:
+        free(_store_pointer, deleted_ids[0])
+        deleted_ids.popleft()
+
+
 def call_with_store(name: str, *arguments) -> Result:
     """Calls `moc_NAME` with the store, and returns its result. Raises as `check_result`."""
+    function, converted = _store_functions[name], tuple(_c_arguments(arguments))
     with _lock:
-        result = _store_functions[name](_store_pointer, *_c_arguments(arguments))
+        _free_deleted()
+        result = function(_store_pointer, *converted)
     return check_result(result, name)
 
 
@@ -129,28 +148,30 @@ def call_with_client(name: str, handle: ClientHandle, *arguments) -> Result:
 
 def call_with_client_and_store(name: str, handle: ClientHandle, *arguments) -> Result:
     """Calls `moc_NAME` with a client handle and the store, and returns its result. Raises as `check_result`."""
+    function, pointer = _client_functions[name], ctypes.byref(handle)
     with _lock:
-        result = _client_functions[name](ctypes.byref(handle), _store_pointer, *arguments)
+        _free_deleted()
+        result = function(pointer, _store_pointer, *arguments)
     return check_result(result, name)
 
 
 def make_text(name: str, *arguments) -> str:
     """Returns the text that `moc_NAME` makes in the store. Raises as `check_result`.
 
-    A finalizer or a signal handler may replace the text in the store before it is copied. In this case the call is repeated."""
+    The text is made and copied while the lock is held. Both are repeated if the buffer is too short, or if a signal handler has made
+    another text in between."""
     global _text_count
-    with _lock:
-        while True:
+    make, copy = _store_functions[name], _store_functions["text"]
+    length = _TEXT_LENGTH
+    while True:
+        buffer = ctypes.create_string_buffer(length)
+        with _lock:
+            _free_deleted()
             _text_count += 1
             number = _text_count
-            length = check_result(_store_functions[name](_store_pointer, *arguments)).first
-            buffer = ctypes.create_string_buffer(length + 1)
-            result = _store_functions["text"](_store_pointer, buffer, length)
-            if number == _text_count:
-                return ctypes.string_at(buffer, check_result(result).first).decode("utf-8")
-
-
-def free_coverage(coverage_id: int, free=_store_functions["free"], store=_store_pointer, lock=_lock) -> None:
-    """Frees the coverage with an id. The default arguments exist also at the end of the process, when modules may be deleted."""
-    with lock:
-        free(store, coverage_id)
+            made = make(_store_pointer, *arguments)
+            copied = copy(_store_pointer, buffer, length)
+            is_own = number == _text_count
+        length = check_result(made).first
+        if is_own and copied.code != BUFFER_TOO_SHORT:
+            return buffer.raw[:check_result(copied).first].decode("utf-8")

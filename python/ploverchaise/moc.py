@@ -7,7 +7,7 @@ from array import array
 from typing import TYPE_CHECKING, Iterable
 
 from ._arrays import Array, Numbers, PlainArray, as_array, as_pairs
-from ._library import NO_ORDER, call_with_store, free_coverage, make_text
+from ._library import NO_ORDER, call_with_store, deleted_ids, make_text
 from .errors import MocError, check_order
 
 if TYPE_CHECKING:
@@ -49,13 +49,13 @@ class MOC:
     def __init__(self) -> None:
         self._id = call_with_store("empty").first
 
-    def __del__(self, free=free_coverage) -> None:
+    def __del__(self, queue=deleted_ids.append) -> None:
         try:
             coverage_id = self._id
         except AttributeError:
             # The store did not return an id.
             return
-        free(coverage_id)
+        queue(coverage_id)
 
     @classmethod
     def _from_call(cls, function: str, *arguments) -> MOC:

@@ -110,6 +110,8 @@ class InvalidArguments(TestCase):
         freed = MOC()
         stale = freed._id
         del freed
+        # The next call with the store frees the coverage.
+        MOC()
         for set_id in (stale, NO_ID):
             for name, types in _signatures.STORE_CALLS.items():
                 if types[:1] == (ctypes.c_uint64,):
