@@ -198,10 +198,10 @@ bool moc_store_open(moc_store *out);
 /* Closes a store with all its coverages, and zeroes it. Does nothing if it is zeroed, or if the pointer is null or not aligned. */
 void moc_store_close(moc_store *store);
 
-/* ---- Making coverages. Each function stores a coverage and returns its id as `first`. Ids are 0, 1, 2 and so on, and no id is used twice.
-   For an error, `first` is UINT64_MAX, which is no id, and `second` is what the code states of `first`. If a code has two numbers, `second`
-   is `(uint32_t)first | second << 32` of them. MOC_MEMORY if an allocation fails. n cells or ranges, also those of a text, take O(n log n),
-   or O(n) if they are ascending. A set operation is linear in the ranges of its operands. */
+/* ---- Making coverages. Each function stores a coverage and returns its id as `first`. Ids are 0, 1, 2 and so on, and no id is used
+   twice. For an error, `first` is UINT64_MAX, which is not an id, and `second` is what the code states of `first`. If a code has two
+   numbers, `second` is `(uint32_t)first | second << 32` of them. MOC_MEMORY if an allocation fails. n cells or ranges, also those of a
+   text, take O(n log n), or O(n) if they are ascending. A set operation is linear in the ranges of its operands. */
 
 /* The empty coverage. */
 MOC_CHECKED moc_result moc_empty(moc_store *store);
