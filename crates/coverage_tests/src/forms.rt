@@ -27,8 +27,8 @@ const NOT_OPERATION: InvalidName = InvalidName {
 };
 
 /// Checks what a text has led to.
-fn is(rt: &impl Abort, text: &str, seen: &str, told: &str) {
-    assert_eq!(rt; seen, told, "{text:?}");
+fn assert_text(rt: &impl Abort, text: &str, seen: &str, expected_text: &str) {
+    assert_eq!(rt; seen, expected_text, "{text:?}");
 }
 
 /// Returns the diagnostic of a text, or `None` if the text is valid.
@@ -46,7 +46,7 @@ fn has_position(rt: &impl Abort, alloc: Global, format: Format, text: &str, posi
             write!(line, "{place}").expect(rt, "memory");
         }
     }
-    is(rt, text, line.as_str(), position);
+    assert_text(rt, text, line.as_str(), position);
 }
 
 /// Returns the statistics of a text.
@@ -75,12 +75,12 @@ fn places_in_ascii(rt: HostRuntime) {
 #[test]
 fn places_of_bytes(rt: HostRuntime) {
     let text = b"1/0\n5-".as_slice();
-    for (at, told) in [
+    for (at, expected_text) in [
         (3, "byte 3, line 1, byte 3 of it"),
         (4, "byte 4, line 2, byte 0 of it"),
         (6, "byte 6, line 2, byte 2 of it"),
     ] {
-        is_shown(&rt, rt.alloc(), &Place::of_byte(text, at), told);
+        is_shown(&rt, rt.alloc(), &Place::of_byte(text, at), expected_text);
     }
 }
 
@@ -152,18 +152,18 @@ fn blank_texts(rt: HostRuntime) {
 }
 
 /// Checks the quote of a text; empty if the text is valid, or if there is no position.
-fn is_quoted(rt: &impl Abort, alloc: Global, format: Format, text: &[u8], told: &str) {
+fn is_quoted(rt: &impl Abort, alloc: Global, format: Format, text: &[u8], expected_text: &str) {
     let mut seen = None;
     if let Some(diagnostic) = diagnose(rt, alloc, format, text) {
         seen = quote(alloc, text, diagnostic.error).expect(rt, "memory");
         assert_eq!(rt; seen.as_deref(), diagnostic.quote.as_deref());
     }
-    assert_eq!(rt; seen.as_deref().unwrap_or(""), told);
+    assert_eq!(rt; seen.as_deref().unwrap_or(""), expected_text);
 }
 
 #[test]
 fn quotes(rt: HostRuntime) {
-    for (format, text, told) in [
+    for (format, text, expected_text) in [
         (Format::Ascii, b"1/0-3".as_slice(), ""),
         (Format::Ascii, b"1/0,2/7-5\n3".as_slice(), "`2/7-5`"),
         (Format::Ascii, b"1/0 5-\t".as_slice(), "`5-`"),
@@ -184,7 +184,7 @@ fn quotes(rt: HostRuntime) {
         (Format::Json, b"{\"1\":[0,48]}".as_slice(), "`48`"),
         (Format::Json, b"[".as_slice(), ""),
     ] {
-        is_quoted(&rt, rt.alloc(), format, text, told);
+        is_quoted(&rt, rt.alloc(), format, text, expected_text);
     }
 }
 
@@ -208,7 +208,7 @@ fn formats_that_are_detected(rt: HostRuntime) {
 
 #[test]
 fn hints(rt: HostRuntime) {
-    for (format, text, told) in [
+    for (format, text, expected_text) in [
         (Format::Ascii, " {", "this looks like JSON\n"),
         (Format::Json, "s3/", "this looks like ASCII\n"),
         (Format::Json, "\n4\n5", "this looks like a NUNIQ list\n"),
@@ -220,7 +220,7 @@ fn hints(rt: HostRuntime) {
             Some(format) => hint_line(format),
             None => "",
         };
-        is(&rt, text, seen, told);
+        assert_text(&rt, text, seen, expected_text);
     }
 }
 
@@ -266,7 +266,7 @@ fn forms(rt: HostRuntime) {
     ] {
         let format = Format::from_str(word).expect(&rt, "a form");
         let written = parse_and_write(&rt, alloc, format, text);
-        is(&rt, word, written.as_str(), text);
+        assert_text(&rt, word, written.as_str(), text);
         is_shown(&rt, alloc, &format, word);
     }
     assert!(&rt; Format::from_str("fits") == Err(NOT_FORMAT));
@@ -303,7 +303,7 @@ fn figures_of_sets(rt: HostRuntime) {
         ),
     ] {
         let seen = statistics(&rt, alloc, format, text);
-        is(&rt, text, seen.as_str(), lines);
+        assert_text(&rt, text, seen.as_str(), lines);
     }
 }
 
@@ -391,7 +391,7 @@ fn operations(rt: HostRuntime) {
     ] {
         let operation = Operation::from_str(name).expect(&rt, "an operation");
         let seen = combine_texts(&rt, rt.alloc(), operation, "0/0 1/4-5", "1/3-4 6-7 2/20 32");
-        is(&rt, name, seen.as_str(), text);
+        assert_text(&rt, name, seen.as_str(), text);
         is_shown(&rt, rt.alloc(), &operation, name);
     }
     assert!(&rt; Operation::from_str("minus") == Err(NOT_OPERATION));
@@ -493,7 +493,7 @@ fn picture_of_text(rt: &impl Abort, alloc: Global, text: &str) -> String {
 fn is_drawn(rt: &impl Abort, alloc: Global, text: &str, shades: [&str; 4]) {
     let seen = picture_of_text(rt, alloc, text);
     let wanted = picture_with_shades(rt, alloc, shades);
-    is(rt, text, seen.as_str(), wanted.as_str());
+    assert_text(rt, text, seen.as_str(), wanted.as_str());
 }
 
 /// The diamonds are worked out by hand from the rows and columns of the cells.

@@ -23,7 +23,7 @@ fn error_of_pairs(alloc: Global, pairs: &[(u64, u64)]) -> Option<RangesError> {
 }
 
 /// Checks the ranges of a set.
-fn has(rt: &impl Abort, set: &Coverage, ranges: &[(u64, u64)]) {
+fn assert_ranges(rt: &impl Abort, set: &Coverage, ranges: &[(u64, u64)]) {
     let mut seen = set.ranges();
     for range in ranges {
         assert_eq!(rt; seen.next(), Some(*range));
@@ -49,7 +49,7 @@ fn has_cells(
 #[test]
 fn pairs(rt: HostRuntime) {
     let set = set_of(&rt, rt.alloc(), &[(4, 8), (8, 9), (0, 4)]);
-    has(&rt, &set, &[(0, 9)]);
+    assert_ranges(&rt, &set, &[(0, 9)]);
     assert_eq!(rt; set.count(), 9);
     assert!(rt; set.contains(8) && !set.contains(9));
 }
@@ -113,9 +113,9 @@ fn two_sets(rt: HostRuntime) {
     let a = set_of(&rt, rt.alloc(), &[(0, 8)]);
     let b = set_of(&rt, rt.alloc(), &[(4, 12)]);
     let either = a.union(rt.alloc(), &b).expect(&rt, "memory");
-    has(&rt, &either, &[(0, 12)]);
+    assert_ranges(&rt, &either, &[(0, 12)]);
     let both = a.intersection(rt.alloc(), &b).expect(&rt, "memory");
-    has(&rt, &both, &[(4, 8)]);
+    assert_ranges(&rt, &both, &[(4, 8)]);
     assert!(rt; either.covers(&a) && !a.covers(&either));
 }
 
@@ -124,9 +124,9 @@ fn differences_of_two_sets(rt: HostRuntime) {
     let a = set_of(&rt, rt.alloc(), &[(0, 8)]);
     let b = set_of(&rt, rt.alloc(), &[(4, 12)]);
     let first = a.difference(rt.alloc(), &b).expect(&rt, "memory");
-    has(&rt, &first, &[(0, 4)]);
+    assert_ranges(&rt, &first, &[(0, 4)]);
     let one = a.symmetric(rt.alloc(), &b).expect(&rt, "memory");
-    has(&rt, &one, &[(0, 4), (8, 12)]);
+    assert_ranges(&rt, &one, &[(0, 4), (8, 12)]);
 }
 
 #[test]
@@ -151,14 +151,14 @@ fn a_part_of_the_sky(rt: HostRuntime) {
         .expect(&rt, "memory")
         .part(rt.alloc(), 3)
         .expect(&rt, "memory");
-    has(&rt, &third, &[(864691128455135232, 1152921504606846976)]);
+    assert_ranges(&rt, &third, &[(864691128455135232, 1152921504606846976)]);
     is_in_base_pixels(&rt, &third, &[(3, true, true), (2, false, false)]);
 }
 
 #[test]
 fn no_part_of_the_sky(rt: HostRuntime) {
     let sky = Coverage::full(rt.alloc()).expect(&rt, "memory");
-    has(&rt, &sky.part(rt.alloc(), 12).expect(&rt, "memory"), &[]);
+    assert_ranges(&rt, &sky.part(rt.alloc(), 12).expect(&rt, "memory"), &[]);
     is_in_base_pixels(&rt, &sky, &[(12, false, true), (11, true, true)]);
 }
 
@@ -185,14 +185,14 @@ fn a_set_of_a_coarser_order(rt: HostRuntime) {
     let wide = set_of(&rt, rt.alloc(), &[(3, 4)])
         .degrade(rt.alloc(), Order::of(28))
         .expect(&rt, "memory");
-    has(&rt, &wide, &[(0, 4)]);
+    assert_ranges(&rt, &wide, &[(0, 4)]);
 }
 
 #[test]
 fn the_set_of_a_cell(rt: HostRuntime) {
     let last = Cell::new(Order::of(1), 47).expect(&rt, "a cell");
     let one = Coverage::from_cell(rt.alloc(), last).expect(&rt, "memory");
-    has(&rt, &one, &[(3386706919782612992, 3458764513820540928)]);
+    assert_ranges(&rt, &one, &[(3386706919782612992, 3458764513820540928)]);
     assert!(rt; copy_of(&rt, rt.alloc(), &one).same(&one));
 }
 
@@ -255,7 +255,7 @@ fn cells_of_a_builder(rt: HostRuntime) {
         .expect(&rt, "memory");
     builder.add_cells(deepest, 9, 10).expect(&rt, "memory");
     let set = builder.build().expect(&rt, "memory");
-    has(&rt, &set, &[(0, 4), (8, 11)]);
+    assert_ranges(&rt, &set, &[(0, 4), (8, 11)]);
 }
 
 #[test]
@@ -268,7 +268,7 @@ fn lists_of_cells_of_a_builder(rt: HostRuntime) {
     builder.extend(two.iter().copied()).expect(&rt, "memory");
     builder.extend(cells).expect(&rt, "memory");
     let set = builder.build().expect(&rt, "memory");
-    has(&rt, &set, &[(0, 4), (8, 11), (20, 24)]);
+    assert_ranges(&rt, &set, &[(0, 4), (8, 11), (20, 24)]);
 }
 
 #[test]
@@ -282,9 +282,9 @@ fn the_set_of_some_cells(rt: HostRuntime) {
         Cell::of(deepest, 9),
     ];
     let set = Coverage::from_cells(rt.alloc(), &cells).expect(&rt, "memory");
-    has(&rt, &set, &[(0, 4), (8, 10)]);
+    assert_ranges(&rt, &set, &[(0, 4), (8, 10)]);
     let none = Coverage::from_cells(rt.alloc(), &[]).expect(&rt, "memory");
-    has(&rt, &none, &[]);
+    assert_ranges(&rt, &none, &[]);
 }
 
 // Each first cell comes after the third, and is buffered. A buffer of 512 cells is merged with the others: 39 times.
@@ -493,7 +493,7 @@ fn merged_chunks(rt: HostRuntime) {
     let whole = dots(&rt, rt.alloc(), 12800)
         .union(rt.alloc(), &sky)
         .expect(&rt, "memory");
-    has(&rt, &whole, &[(0, 25600)]);
+    assert_ranges(&rt, &whole, &[(0, 25600)]);
     has_chunks(&rt, &whole, &[1]);
     assert_eq!(rt; whole.ranges().size_hint(), (1, Some(1)));
 }
@@ -659,4 +659,97 @@ fn all_of_a_set_is_inserted(rt: HostRuntime) {
     insert_all(&rt, alloc, &mut both, &whole, 3002);
     assert!(rt; both.same(&whole));
     insert_all(&rt, alloc, &mut both, &half, 0);
+}
+
+/// Removes a range, and checks how many of its pixels were in the set.
+fn remove(rt: &impl Abort, alloc: Global, set: &mut Coverage, from: u64, to: u64, old: u64)
+    requires { to ≤ 12006 }
+{
+    assert_eq!(rt;
+        set.remove_range(alloc, from, to),
+        Ok(old),
+        "{from} to {to}"
+    );
+}
+
+/// Removes ranges that `insert_turns` inserts: those with an index from one up to, not including, another.
+fn remove_turns(rt: &impl Abort, alloc: Global, set: &mut Coverage, first: u64, end: u64)
+    requires { end ≤ 3001 }
+{
+    for turn in first..end {
+        let from = turn * 1009 % 3001 * 4;
+        remove(rt, alloc, set, from, from + 2, 2);
+    }
+}
+
+#[test]
+fn ranges_removed_one_by_one(rt: HostRuntime) {
+    let alloc = rt.alloc();
+    let mut set = insert_ranges(&rt, alloc, 3001);
+    remove_turns(&rt, alloc, &mut set, 1000, 3001);
+    assert_eq!(rt; (set.range_count(), set.count()), (1000, 2000));
+    assert!(rt; set.same(&insert_ranges(&rt, alloc, 1000)));
+    remove_turns(&rt, alloc, &mut set, 0, 1000);
+    assert!(rt; set.is_empty());
+}
+
+// A range inside one range cuts it into two; so does a range inside each of many. A pixel that is not in the set is not
+// counted.
+#[test]
+fn ranges_cut_into_two(rt: HostRuntime) {
+    let alloc = rt.alloc();
+    let mut set = set_of(&rt, alloc, &[(0, 12004)]);
+    for turn in 0..3001 {
+        let from = turn * 1009 % 3001 * 4 + 2;
+        remove(&rt, alloc, &mut set, from, from + 2, 2);
+    }
+    assert!(rt; set.same(&insert_ranges(&rt, alloc, 3001)));
+    remove(&rt, alloc, &mut set, 0, 1, 1);
+    remove(&rt, alloc, &mut set, 401, 406, 3);
+    remove(&rt, alloc, &mut set, 402, 404, 0);
+    remove(&rt, alloc, &mut set, 9, 9, 0);
+    assert_eq!(rt; (set.range_count(), set.count()), (3000, 5998));
+    let near = set_of(&rt, alloc, &[(0, 8), (396, 410)]);
+    let near = set.intersection(alloc, &near).expect(&rt, "memory");
+    assert_ranges(
+        &rt,
+        &near,
+        &[(1, 2), (4, 6), (396, 398), (400, 401), (408, 410)],
+    );
+    remove(&rt, alloc, &mut set, 1, 12001, 5997);
+    assert_ranges(&rt, &set, &[(12001, 12002)]);
+}
+
+#[test]
+fn a_copy_stays_while_ranges_are_removed(rt: HostRuntime) {
+    let alloc = rt.alloc();
+    let mut set = insert_ranges(&rt, alloc, 3001);
+    let copy = copy_of(&rt, alloc, &set);
+    remove_turns(&rt, alloc, &mut set, 1500, 3001);
+    assert_eq!(rt; copy.count(), 6002);
+    assert!(rt; copy.covers(&set) && !set.covers(&copy));
+    assert!(rt; set.same(&insert_ranges(&rt, alloc, 1500)));
+}
+
+/// Removes a whole set, and checks how many of its pixels were in the other.
+fn remove_all(rt: &impl Abort, alloc: Global, set: &mut Coverage, other: &Coverage, old: u64) {
+    assert_eq!(rt; set.remove_all(alloc, other), Ok(old));
+}
+
+#[test]
+fn all_of_a_set_is_removed(rt: HostRuntime) {
+    let alloc = rt.alloc();
+    let half = insert_ranges(&rt, alloc, 1500);
+    let mut set = insert_ranges(&rt, alloc, 3001);
+    remove_all(&rt, alloc, &mut set, &half, 3000);
+    assert!(rt; !set.meets(&half));
+    remove_all(&rt, alloc, &mut set, &half, 0);
+    remove_all(
+        &rt,
+        alloc,
+        &mut set,
+        &set_of(&rt, alloc, &[(0, 12006)]),
+        3002,
+    );
+    assert!(rt; set.is_empty());
 }

@@ -18,14 +18,14 @@ const Q1: u64 = 72057594037927936;
 const Q2: u64 = 18014398509481984;
 
 /// Checks the pixels and the MOC order of a text.
-fn says(
+fn assert_set(
     rt: &impl Abort,
     alloc: Global,
-    said: &(Coverage, Option<Order>),
+    parsed_set: &(Coverage, Option<Order>),
     ranges: &[(u64, u64)],
     deepest: Option<u8>,
 ) {
-    let (set, found) = said;
+    let (set, found) = parsed_set;
     let wanted = Coverage::from_ranges(alloc, ranges).expect(rt, "ranges");
     assert!(rt; set.same(&wanted));
     assert_eq!(rt; *found, deepest.and_then(Order::new));

@@ -8,7 +8,7 @@ use Rattle.moc_ranges.specs.Lemmas.Members.{contains-part_of}
 use Rattle.moc_ranges.specs.Operations.{base_pixel_size, part_of}
 use Rattle.moc_parts.specs.Parts.{AreWithinParts}
 use Rattle.moc_parts.proofs.Members.{has-empty}
-use Rattle.moc_parts.proofs.Drafting.{part_lies}
+use Rattle.moc_parts.proofs.Drafting.{part_of_part_same}
 
 part-empty : (b : ℕ) → part_of set.empty b ≡ set.empty
 part-empty b = same_members _ _ (λ q. contains-part_of set.empty b q ∙ ap (λ t. t && nat_eq (q / base_pixel_size) b) (has-empty q) ∙ sym (has-empty q))
@@ -24,7 +24,7 @@ first_alone a lies = record { twelve = refl; own = go }
         ap (λ s. part_of s (suc b)) none ∙ part-empty (suc b) ∙ sym none
 
 -- part 0 of a set is in its base pixel
-pub found_part : (whole part : NumberSet) (b : ℕ) → part ≡ part_of whole b → b ≡ 0 → part_of part 0 ≡ part
-found_part whole part b is zero_is =
+pub part_of_first_part : (whole part : NumberSet) (b : ℕ) → part ≡ part_of whole b → b ≡ 0 → part_of part 0 ≡ part
+part_of_first_part whole part b is zero_is =
     let e : part ≡ part_of whole 0 = is ∙ ap (λ n. part_of whole n) zero_is in
-    ap (λ p. part_of p 0) e ∙ part_lies whole 0 ∙ sym e
+    ap (λ p. part_of p 0) e ∙ part_of_part_same whole 0 ∙ sym e

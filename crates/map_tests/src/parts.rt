@@ -104,12 +104,12 @@ fn parts_of_a_set_rise(rt: HostRuntime) {
     for number in [11u8, 0, 5] {
         parts.insert(Part::of(number));
     }
-    let mut rising = parts.into_iter();
+    let mut ascending = parts.into_iter();
     for number in [0u8, 5, 11] {
-        assert!(rt; rising.next() == Some(Part::of(number)));
+        assert!(rt; ascending.next() == Some(Part::of(number)));
     }
     for _ in 0..2 {
-        assert!(rt; rising.next().is_none());
+        assert!(rt; ascending.next().is_none());
     }
     assert!(rt; PartSet::none().into_iter().next().is_none());
 }

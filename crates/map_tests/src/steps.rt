@@ -72,9 +72,9 @@ fn end(rt: &impl Abort, world: &mut World, client: u32) -> Option<u64> {
 
 /// Checks the error of a step.
 fn fails_with(rt: &impl Abort, world: &mut World, step: Step, why: StepError) {
-    let told = world.permits(&step).err();
-    assert_eq!(rt; world.step(step).err(), told);
-    assert_eq!(rt; told, Some(why));
+    let permission_error = world.permits(&step).err();
+    assert_eq!(rt; world.step(step).err(), permission_error);
+    assert_eq!(rt; permission_error, Some(why));
 }
 
 /// Returns the number of pixels in the first reply.

@@ -27,9 +27,9 @@ first_item (y ∷ ys) d some =
     let whole : take (suc (length ys) - 1) ys ≡ ys = ap (λ n. take n ys) e ∙ take_all (length ys) ys (omega arith) in
     λ i. y ∷ sym whole i
 
-pub none_ended : (limit q : ℕ) (rs : List (ℕ × ℕ)) → EndsBy limit rs → limit ≤ q → in_ranges rs q ≡ false
-none_ended limit q [] e le = refl
-none_ended limit q (r ∷ rs) e le = let rest = none_ended limit q rs e.1 le in let here = e.0 in grind (arith, nat_tests)
+pub none_after_limit : (limit q : ℕ) (rs : List (ℕ × ℕ)) → EndsBy limit rs → limit ≤ q → in_ranges rs q ≡ false
+none_after_limit limit q [] e le = refl
+none_after_limit limit q (r ∷ rs) e le = let rest = none_after_limit limit q rs e.1 le in let here = e.0 in grind (arith, nat_tests)
 
 pub common_same : (kept kept' : List (ℕ × ℕ)) (from to from' to' q : ℕ) → kept' ≡ kept ++ (from', to') ∷ [] → from' ≡ from → to' ≡ to → in_ranges kept' q ≡ (in_ranges kept q || in_range (from, to) q)
 common_same kept kept' from to from' to' q is ef et =

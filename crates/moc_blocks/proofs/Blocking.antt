@@ -12,19 +12,19 @@ pub concat-append : {X : Type 0} (xs ys : List (List X)) → concat (xs ++ ys) �
 concat-append {X} [] ys = refl
 concat-append {X} (x ∷ xs) ys = ap (λ (l : List X). x ++ l) (concat-append xs ys) ∙ sym (append_assoc x (concat xs) (concat ys))
 
-pub nothing_more : {X : Type 0} (xs : List X) → xs ++ [] ≡ xs
-nothing_more {X} [] = refl
-nothing_more {X} (x ∷ xs) = ap (λ (l : List X). x ∷ l) (nothing_more xs)
+pub append_empty : {X : Type 0} (xs : List X) → xs ++ [] ≡ xs
+append_empty {X} [] = refl
+append_empty {X} (x ∷ xs) = ap (λ (l : List X). x ∷ l) (append_empty xs)
 
 pub concat-last : {X : Type 0} (xs : List (List X)) (last : List X) → concat (xs ++ last ∷ []) ≡ concat xs ++ last
-concat-last {X} xs last = concat-append xs (last ∷ []) ∙ ap (λ (l : List X). concat xs ++ l) (nothing_more last)
+concat-last {X} xs last = concat-append xs (last ∷ []) ∙ ap (λ (l : List X). concat xs ++ l) (append_empty last)
 
 -- a node that was entered
-pub begun_node : (node : List (List (ℕ × ℕ))) (nodes : List (List (List (ℕ × ℕ)))) → rest_of [] [] (node ∷ nodes) ≡ concat node ++ concat (concat nodes)
-begun_node node nodes = concat-append node (concat nodes)
+pub rest_of_first_node : (node : List (List (ℕ × ℕ))) (nodes : List (List (List (ℕ × ℕ)))) → rest_of [] [] (node ∷ nodes) ≡ concat node ++ concat (concat nodes)
+rest_of_first_node node nodes = concat-append node (concat nodes)
 
-pub begun_block : (block : List (ℕ × ℕ)) (blocks : List (List (ℕ × ℕ))) (nodes : List (List (List (ℕ × ℕ)))) → rest_of [] (block ∷ blocks) nodes ≡ block ++ rest_of [] blocks nodes
-begun_block block blocks nodes = append_assoc block (concat blocks) (concat (concat nodes))
+pub rest_of_first_block : (block : List (ℕ × ℕ)) (blocks : List (List (ℕ × ℕ))) (nodes : List (List (List (ℕ × ℕ)))) → rest_of [] (block ∷ blocks) nodes ≡ block ++ rest_of [] blocks nodes
+rest_of_first_block block blocks nodes = append_assoc block (concat blocks) (concat (concat nodes))
 
 begins_prefix : (x : ℕ) (rs ss : List (ℕ × ℕ)) → BeginsAfter x (rs ++ ss) → BeginsAfter x rs
 begins_prefix x [] ss after = tt
@@ -55,8 +55,8 @@ width_bounded rs normal = omega (arith, len_bounded rs normal, len-set_of rs nor
 pub width-append : (rs ss : List (ℕ × ℕ)) → width_of (rs ++ ss) ≡ width_of rs + width_of ss
 width-append rs ss = sum_by-append (λ range. range.1 - range.0) rs ss
 
-width_taken : (bs : List (List (ℕ × ℕ))) (i : ℕ) (b : List (ℕ × ℕ)) → i < length bs → b ≡ get_or bs i b → width_of (concat (take (i + 1) bs)) ≡ width_of (concat (take i bs)) + width_of b
-width_taken bs i b lt is =
+width_next : (bs : List (List (ℕ × ℕ))) (i : ℕ) (b : List (ℕ × ℕ)) → i < length bs → b ≡ get_or bs i b → width_of (concat (take (i + 1) bs)) ≡ width_of (concat (take i bs)) + width_of b
+width_next bs i b lt is =
     ap (λ (l : List (List (ℕ × ℕ))). width_of (concat l)) (take_more bs i b lt)
     ∙ ap width_of (concat-last (take i bs) (get_or bs i b))
     ∙ width-append (concat (take i bs)) (get_or bs i b)
@@ -70,13 +70,13 @@ width_part bs i =
 
 pub count_step : (bs : List (List (ℕ × ℕ))) (i : ℕ) (b : List (ℕ × ℕ)) → IsNormal (concat bs) → i < length bs → b ≡ get_or bs i b → (width_of (concat (take (i + 1) bs)) ≡ width_of (concat (take i bs)) + width_of b) × (width_of (concat (take i bs)) + width_of b ≤ pixel_count)
 count_step bs i b normal lt is =
-    let more = width_taken bs i b lt is in
+    let more = width_next bs i b lt is in
     let part = width_part bs (i + 1) in
     let all = width_bounded (concat bs) normal in
     (more, omega arith)
 
-pub count_done : (bs : List (List (ℕ × ℕ))) (i : ℕ) → length bs ≤ i → width_of (concat (take i bs)) ≡ width_of (concat bs)
-count_done bs i le = ap (λ (l : List (List (ℕ × ℕ))). width_of (concat l)) (take_all i bs le)
+pub width_complete : (bs : List (List (ℕ × ℕ))) (i : ℕ) → length bs ≤ i → width_of (concat (take i bs)) ≡ width_of (concat bs)
+width_complete bs i le = ap (λ (l : List (List (ℕ × ℕ))). width_of (concat l)) (take_all i bs le)
 
 pub first_of-get : (rs : List (ℕ × ℕ)) (d : ℕ × ℕ) → 0 < length rs → first_of rs ≡ (get_or rs 0 d).0
 first_of-get [] d lt = absurd (omega arith)
@@ -111,7 +111,7 @@ first_of-concat (b ∷ bs) d some filled = first_of-append b (concat bs) filled
 
 pub last_of-concat : (bs : List (List (ℕ × ℕ))) (d : List (ℕ × ℕ)) (i : ℕ) → i + 1 ≡ length bs → 0 < length (get_or bs i d) → last_of (concat bs) ≡ last_of (get_or bs i d)
 last_of-concat [] d i e filled = absurd (omega arith)
-last_of-concat (b ∷ []) d zero e filled = ap last_of (nothing_more b)
+last_of-concat (b ∷ []) d zero e filled = ap last_of (append_empty b)
 last_of-concat (b ∷ []) d (suc i) e filled = absurd (omega arith)
 last_of-concat (b ∷ (b' ∷ bs)) d zero e filled = absurd (omega arith)
 last_of-concat (b ∷ (b' ∷ bs)) d (suc i) e filled = last_of-append b (concat (b' ∷ bs)) (length_last (b' ∷ bs) d i (omega arith) filled) ∙ last_of-concat (b' ∷ bs) d i (omega arith) filled
@@ -127,20 +127,20 @@ split_first {X} (y ∷ ys) x some is =
 pub node_split : (nodes : List (List (List (ℕ × ℕ)))) (node : List (List (ℕ × ℕ))) → 1 ≤ length nodes → node ≡ get_or nodes 0 node → concat (concat nodes) ≡ concat node ++ concat (concat (take (length nodes - 1) (drop 1 nodes)))
 node_split nodes node some is =
     ap (λ (l : List (List (List (ℕ × ℕ)))). concat (concat l)) (split_first nodes node some is)
-    ∙ begun_node node (take (length nodes - 1) (drop 1 nodes))
+    ∙ rest_of_first_node node (take (length nodes - 1) (drop 1 nodes))
 
 pub block_split : (blocks : List (List (ℕ × ℕ))) (nodes : List (List (List (ℕ × ℕ)))) (block : List (ℕ × ℕ)) → 1 ≤ length blocks → block ≡ get_or blocks 0 block → rest_of [] blocks nodes ≡ block ++ rest_of [] (take (length blocks - 1) (drop 1 blocks)) nodes
 block_split blocks nodes block some is =
     ap (λ (l : List (List (ℕ × ℕ))). rest_of [] l nodes) (split_first blocks block some is)
-    ∙ begun_block block (take (length blocks - 1) (drop 1 blocks)) nodes
+    ∙ rest_of_first_block block (take (length blocks - 1) (drop 1 blocks)) nodes
 
 pub none_there : {X : Type 0} (xs : List X) → length xs ≡ 0 → xs ≡ []
 none_there {X} [] e = refl
 none_there {X} (x ∷ xs) e = absurd (omega arith)
 
 -- sizes of nodes
-all_taken : (ns : List (List (List (ℕ × ℕ)))) (i : ℕ) (n : List (List (ℕ × ℕ))) → i < length ns → n ≡ get_or ns i n → concat (concat (take (i + 1) ns)) ≡ concat (concat (take i ns)) ++ concat n
-all_taken ns i n lt is =
+concat_nodes_next : (ns : List (List (List (ℕ × ℕ)))) (i : ℕ) (n : List (List (ℕ × ℕ))) → i < length ns → n ≡ get_or ns i n → concat (concat (take (i + 1) ns)) ≡ concat (concat (take i ns)) ++ concat n
+concat_nodes_next ns i n lt is =
     ap (λ (l : List (List (List (ℕ × ℕ)))). concat (concat l)) (take_more ns i n lt)
     ∙ ap concat (concat-last (take i ns) (get_or ns i n))
     ∙ concat-append (concat (take i ns)) (get_or ns i n)
@@ -148,23 +148,23 @@ all_taken ns i n lt is =
 
 pub node_step : (ns : List (List (List (ℕ × ℕ)))) (i : ℕ) (n : List (List (ℕ × ℕ))) → IsNormal (concat (concat ns)) → i < length ns → n ≡ get_or ns i n → (width_of (concat (concat (take (i + 1) ns))) ≡ width_of (concat (concat (take i ns))) + width_of (concat n)) × (width_of (concat (concat (take i ns))) + width_of (concat n) ≤ pixel_count)
 node_step ns i n normal lt is =
-    let more = ap width_of (all_taken ns i n lt is) ∙ width-append (concat (concat (take i ns))) (concat n) in
+    let more = ap width_of (concat_nodes_next ns i n lt is) ∙ width-append (concat (concat (take i ns))) (concat n) in
     let parts : concat (concat (take (i + 1) ns)) ++ concat (concat (drop (i + 1) ns)) ≡ concat (concat ns) =
     sym (concat-append (concat (take (i + 1) ns)) (concat (drop (i + 1) ns))) ∙ ap concat (sym (concat-append (take (i + 1) ns) (drop (i + 1) ns))) ∙ ap (λ (l : List (List (List (ℕ × ℕ)))). concat (concat l)) (take-append-drop (i + 1) ns) in
     let whole = width-append (concat (concat (take (i + 1) ns))) (concat (concat (drop (i + 1) ns))) in
     let all = width_bounded (concat (concat ns)) normal in
     (more, omega (arith, more, whole, ap width_of parts, all))
 
-pub nodes_done : (ns : List (List (List (ℕ × ℕ)))) (i : ℕ) → length ns ≤ i → width_of (concat (concat (take i ns))) ≡ width_of (concat (concat ns))
-nodes_done ns i le = ap (λ (l : List (List (List (ℕ × ℕ)))). width_of (concat (concat l))) (take_all i ns le)
+pub node_widths_complete : (ns : List (List (List (ℕ × ℕ)))) (i : ℕ) → length ns ≤ i → width_of (concat (concat (take i ns))) ≡ width_of (concat (concat ns))
+node_widths_complete ns i le = ap (λ (l : List (List (List (ℕ × ℕ)))). width_of (concat (concat l))) (take_all i ns le)
 
 -- the number of ranges
 length_bounded : (rs : List (ℕ × ℕ)) → IsNormal rs → length rs ≤ width_of rs
 length_bounded [] normal = omega arith
 length_bounded (r ∷ rs) normal = omega (arith, length_bounded rs normal.3, normal.0, sum_by-cons (λ (range : ℕ × ℕ). range.1 - range.0) r rs)
 
-pub few_ranges : (rs : List (ℕ × ℕ)) → IsNormal rs → length rs ≤ pixel_count
-few_ranges rs normal = omega (arith, length_bounded rs normal, width_bounded rs normal)
+pub range_count_bounded : (rs : List (ℕ × ℕ)) → IsNormal rs → length rs ≤ pixel_count
+range_count_bounded rs normal = omega (arith, length_bounded rs normal, width_bounded rs normal)
 
 pub length_step : (bs : List (List (ℕ × ℕ))) (i : ℕ) (b : List (ℕ × ℕ)) → IsNormal (concat bs) → i < length bs → b ≡ get_or bs i b → (length (concat (take (i + 1) bs)) ≡ length (concat (take i bs)) + length b) × (length (concat (take i bs)) + length b ≤ pixel_count)
 length_step bs i b normal lt is =
@@ -175,27 +175,27 @@ length_step bs i b normal lt is =
     ∙ ap (λ (l : List (ℕ × ℕ)). length (concat (take i bs)) + length l) (sym is) in
     let parts : length (concat (take (i + 1) bs)) + length (concat (drop (i + 1) bs)) ≡ length (concat bs) =
     sym (length-append (concat (take (i + 1) bs)) (concat (drop (i + 1) bs))) ∙ ap length (sym (concat-append (take (i + 1) bs) (drop (i + 1) bs))) ∙ ap (λ (l : List (List (ℕ × ℕ))). length (concat l)) (take-append-drop (i + 1) bs) in
-    (more, omega (arith, more, parts, few_ranges (concat bs) normal))
+    (more, omega (arith, more, parts, range_count_bounded (concat bs) normal))
 
 -- the length of a concatenation with one list more
-pub joined_step : {X : Type 0} (ls : List (List X)) (i : ℕ) (l : List X) → i < length ls → l ≡ get_or ls i l → length (concat (take (i + 1) ls)) ≡ length (concat (take i ls)) + length l
-joined_step {X} ls i l lt is =
+pub concat_length_next : {X : Type 0} (ls : List (List X)) (i : ℕ) (l : List X) → i < length ls → l ≡ get_or ls i l → length (concat (take (i + 1) ls)) ≡ length (concat (take i ls)) + length l
+concat_length_next {X} ls i l lt is =
     ap (λ (k : List (List X)). length (concat k)) (take_more ls i l lt) ∙ ap length (concat-last (take i ls) (get_or ls i l))
     ∙ length-append (concat (take i ls)) (get_or ls i l) ∙ ap (λ (k : List X). length (concat (take i ls)) + length k) (sym is)
 
-pub length_done : (bs : List (List (ℕ × ℕ))) (i : ℕ) → length bs ≤ i → length (concat (take i bs)) ≡ length (concat bs)
-length_done bs i le = ap (λ (l : List (List (ℕ × ℕ))). length (concat l)) (take_all i bs le)
+pub length_complete : (bs : List (List (ℕ × ℕ))) (i : ℕ) → length bs ≤ i → length (concat (take i bs)) ≡ length (concat bs)
+length_complete bs i le = ap (λ (l : List (List (ℕ × ℕ))). length (concat l)) (take_all i bs le)
 
 pub length_node_step : (ns : List (List (List (ℕ × ℕ)))) (i : ℕ) (n : List (List (ℕ × ℕ))) → IsNormal (concat (concat ns)) → i < length ns → n ≡ get_or ns i n → (length (concat (concat (take (i + 1) ns))) ≡ length (concat (concat (take i ns))) + length (concat n)) × (length (concat (concat (take i ns))) + length (concat n) ≤ pixel_count)
 length_node_step ns i n normal lt is =
-    let more = ap length (all_taken ns i n lt is) ∙ length-append (concat (concat (take i ns))) (concat n) in
+    let more = ap length (concat_nodes_next ns i n lt is) ∙ length-append (concat (concat (take i ns))) (concat n) in
     let parts : concat (concat (take (i + 1) ns)) ++ concat (concat (drop (i + 1) ns)) ≡ concat (concat ns) =
     sym (concat-append (concat (take (i + 1) ns)) (concat (drop (i + 1) ns))) ∙ ap concat (sym (concat-append (take (i + 1) ns) (drop (i + 1) ns))) ∙ ap (λ (l : List (List (List (ℕ × ℕ)))). concat (concat l)) (take-append-drop (i + 1) ns) in
     let whole = length-append (concat (concat (take (i + 1) ns))) (concat (concat (drop (i + 1) ns))) in
-    (more, omega (arith, more, whole, ap length parts, few_ranges (concat (concat ns)) normal))
+    (more, omega (arith, more, whole, ap length parts, range_count_bounded (concat (concat ns)) normal))
 
-pub length_nodes_done : (ns : List (List (List (ℕ × ℕ)))) (i : ℕ) → length ns ≤ i → length (concat (concat (take i ns))) ≡ length (concat (concat ns))
-length_nodes_done ns i le = ap (λ (l : List (List (List (ℕ × ℕ)))). length (concat (concat l))) (take_all i ns le)
+pub node_lengths_complete : (ns : List (List (List (ℕ × ℕ)))) (i : ℕ) → length ns ≤ i → length (concat (concat (take i ns))) ≡ length (concat (concat ns))
+node_lengths_complete ns i le = ap (λ (l : List (List (List (ℕ × ℕ)))). length (concat (concat l))) (take_all i ns le)
 
 -- the parts of the remaining ranges of a traversal
 pub rest_blocks : (rs : List (ℕ × ℕ)) (bs : List (List (ℕ × ℕ))) (ns : List (List (List (ℕ × ℕ)))) → IsNormal (rest_of rs bs ns) → IsNormal (concat bs)

@@ -12,8 +12,8 @@ use Rattle.moc_blocks.specs.Blocks.{concat, AreBlocks}
 use Rattle.moc_blocks.specs.Private.Blocks.{last_of}
 use Rattle.moc_blocks.specs.Private.Built.{GrowingList, ranges_of, IsBuilderState, AreGrouped, CanMerge, EndsBelow, BeginsBy}
 use Rattle.moc_blocks.specs.Private.Built.{builder_ranges, first_length, last_length}
-use Rattle.moc_blocks.proofs.Filling.{last_length-append, filled_longer, filled_append, some_blocks}
-use Rattle.moc_blocks.proofs.Blocking.{IsNormal-prefix, IsNormal-suffix, nothing_more, concat-append, concat-last}
+use Rattle.moc_blocks.proofs.Filling.{last_length-append, fill_rule_longer, fill_rule_append, some_blocks}
+use Rattle.moc_blocks.proofs.Blocking.{IsNormal-prefix, IsNormal-suffix, append_empty, concat-append, concat-last}
 use Rattle.moc_blocks.proofs.Blocking.{last_of-get}
 use Rattle.moc_blocks.proofs.Merging.{ends_by_last, normal_append, EndsBelow-append, EndsBelow-first}
 use Rattle.moc_blocks.proofs.Merging.{EndsBelow-more, ends_second, begins_of_ends, ends_next}
@@ -25,21 +25,21 @@ length_in (n ∷ ns) d (suc i) lt filled = omega (arith, length-append n (concat
 
 pub last_length-nodes : (ns : List (List (List (ℕ × ℕ)))) (d : List (List (ℕ × ℕ))) (i : ℕ) → i + 1 ≡ length ns → 0 < length (get_or ns i d) → last_length (concat ns) ≡ last_length (get_or ns i d)
 last_length-nodes [] d i e filled = absurd (omega arith)
-last_length-nodes (n ∷ []) d zero e filled = ap last_length (nothing_more n)
+last_length-nodes (n ∷ []) d zero e filled = ap last_length (append_empty n)
 last_length-nodes (n ∷ []) d (suc i) e filled = absurd (omega arith)
 last_length-nodes (n ∷ (m ∷ ns)) d zero e filled = absurd (omega arith)
 last_length-nodes (n ∷ (m ∷ ns)) d (suc i) e filled = last_length-append n (concat (m ∷ ns)) (length_in (m ∷ ns) d i (omega arith) filled) ∙ last_length-nodes (m ∷ ns) d i (omega arith) filled
 
 -- the last block was merged with another
-pub joined_sized : (node init bs bs' : List (List (ℕ × ℕ))) (stack : List (List (ℕ × ℕ))) (last block : List (ℕ × ℕ)) → node ++ bs ≡ stack → AreBlocks stack → bs ≡ init ++ last ∷ [] → bs' ≡ init ++ (last ++ block) ∷ [] → last_length stack + length block ≤ 128 → AreBlocks (node ++ bs')
-joined_sized node init bs bs' stack last block same ok old new capacity =
+pub blocks_after_append_to_last : (node init bs bs' : List (List (ℕ × ℕ))) (stack : List (List (ℕ × ℕ))) (last block : List (ℕ × ℕ)) → node ++ bs ≡ stack → AreBlocks stack → bs ≡ init ++ last ∷ [] → bs' ≡ init ++ (last ++ block) ∷ [] → last_length stack + length block ≤ 128 → AreBlocks (node ++ bs')
+blocks_after_append_to_last node init bs bs' stack last block same ok old new capacity =
     let whole : stack ≡ (node ++ init) ++ last ∷ [] = sym same ∙ ap (λ (l : List (List (ℕ × ℕ))). node ++ l) old ∙ sym (append_assoc node init (last ∷ [])) in
     let len : last_length stack ≡ length last = ap last_length whole ∙ last_length-append (node ++ init) (last ∷ []) (omega arith) in
     let made : node ++ bs' ≡ (node ++ init) ++ (last ++ block) ∷ [] = ap (λ (l : List (List (ℕ × ℕ))). node ++ l) new ∙ sym (append_assoc node init ((last ++ block) ∷ [])) in
-    subst AreBlocks (sym made) (filled_longer 128 (node ++ init) last (last ++ block) (subst AreBlocks whole ok) (omega (arith, length-append last block)) (omega (arith, length-append last block)))
+    subst AreBlocks (sym made) (fill_rule_longer 128 (node ++ init) last (last ++ block) (subst AreBlocks whole ok) (omega (arith, length-append last block)) (omega (arith, length-append last block)))
 
-pub joined_all : (node init bs bs' : List (List (ℕ × ℕ))) (stack : List (List (ℕ × ℕ))) (last block : List (ℕ × ℕ)) → node ++ bs ≡ stack → bs ≡ init ++ last ∷ [] → bs' ≡ init ++ (last ++ block) ∷ [] → concat (node ++ bs') ≡ concat stack ++ block
-joined_all node init bs bs' stack last block same old new =
+pub concat_after_append_to_last : (node init bs bs' : List (List (ℕ × ℕ))) (stack : List (List (ℕ × ℕ))) (last block : List (ℕ × ℕ)) → node ++ bs ≡ stack → bs ≡ init ++ last ∷ [] → bs' ≡ init ++ (last ++ block) ∷ [] → concat (node ++ bs') ≡ concat stack ++ block
+concat_after_append_to_last node init bs bs' stack last block same old new =
     let whole : stack ≡ (node ++ init) ++ last ∷ [] = sym same ∙ ap (λ (l : List (List (ℕ × ℕ))). node ++ l) old ∙ sym (append_assoc node init (last ∷ [])) in
     let made : node ++ bs' ≡ (node ++ init) ++ (last ++ block) ∷ [] = ap (λ (l : List (List (ℕ × ℕ))). node ++ l) new ∙ sym (append_assoc node init ((last ++ block) ∷ [])) in
     ap concat made ∙ concat-last (node ++ init) (last ++ block) ∙ sym (append_assoc (concat (node ++ init)) last block)
@@ -83,8 +83,8 @@ pub longer_range : (a b from to q : ℕ) (k : Bool) → a ≤ from → from ≤ 
 longer_range a b from to q true af fb ab ft = refl
 longer_range a b from to q false af fb ab ft = grind (arith, nat_tests)
 
-pub last_filled : (rs : List (ℕ × ℕ)) (last : ℕ × ℕ) → IsNormal (rs ++ last ∷ []) → last.0 < last.1
-last_filled rs last normal = (IsNormal-suffix rs (last ∷ []) normal).0
+pub last_range_nonempty : (rs : List (ℕ × ℕ)) (last : ℕ × ℕ) → IsNormal (rs ++ last ∷ []) → last.0 < last.1
+last_range_nonempty rs last normal = (IsNormal-suffix rs (last ∷ []) normal).0
 
 -- the last range was merged with one that begins in it
 pub longer_same : (all init rs rs' : List (ℕ × ℕ)) (last : ℕ × ℕ) (from to : ℕ) → IsNormal (all ++ rs) → rs ≡ init ++ last ∷ [] → rs' ≡ init ++ (last.0, max last.1 to) ∷ [] → BeginsBy from rs → from ≤ last_of rs → from < to → (q : ℕ) → in_ranges (all ++ rs') q ≡ (in_ranges (all ++ rs) q || in_range (from, to) q)
@@ -94,14 +94,14 @@ longer_same all init rs rs' last from to normal old new begins reached filled q 
     let a : last.0 ≤ from = last_begins from init last (subst (λ (l : List (ℕ × ℕ)). BeginsBy from l) old begins) in
     let end : last_of rs ≡ last.1 = ap last_of old ∙ last_of-last init last in
     let b : from ≤ last.1 = omega arith in
-    let ab : last.0 < last.1 = last_filled (all ++ init) last (subst IsNormal whole normal) in
+    let ab : last.0 < last.1 = last_range_nonempty (all ++ init) last (subst IsNormal whole normal) in
     ap (λ (l : List (ℕ × ℕ)). in_ranges l q) made
     ∙ in_ranges-append (all ++ init) ((last.0, max last.1 to) ∷ []) q
     ∙ longer_range last.0 last.1 from to q (in_ranges (all ++ init) q) a b ab filled
     ∙ ap (λ x. x || in_range (from, to) q) (sym (in_ranges-append (all ++ init) (last ∷ []) q) ∙ ap (λ (l : List (ℕ × ℕ)). in_ranges l q) (sym whole))
 
-pub longer_built : (ns : List (List (List (ℕ × ℕ)))) (bs : List (List (ℕ × ℕ))) (rs rs' init : List (ℕ × ℕ)) (last : ℕ × ℕ) (to : ℕ) → IsBuilderState ns bs rs → rs ≡ init ++ last ∷ [] → rs' ≡ init ++ (last.0, max last.1 to) ∷ [] → to ≤ pixel_count → IsBuilderState ns bs rs'
-longer_built ns bs rs rs' init last to built old new within =
+pub builder_state_after_extension : (ns : List (List (List (ℕ × ℕ)))) (bs : List (List (ℕ × ℕ))) (rs rs' init : List (ℕ × ℕ)) (last : ℕ × ℕ) (to : ℕ) → IsBuilderState ns bs rs → rs ≡ init ++ last ∷ [] → rs' ≡ init ++ (last.0, max last.1 to) ∷ [] → to ≤ pixel_count → IsBuilderState ns bs rs'
+builder_state_after_extension ns bs rs rs' init last to built old new within =
     let all : List (ℕ × ℕ) = concat (concat ns ++ bs) in
     let whole : all ++ rs ≡ (all ++ init) ++ last ∷ [] = ap (λ (l : List (ℕ × ℕ)). all ++ l) old ∙ sym (append_assoc all init (last ∷ [])) in
     let made : all ++ rs' ≡ (all ++ init) ++ (last.0, max last.1 to) ∷ [] = ap (λ (l : List (ℕ × ℕ)). all ++ l) new ∙ sym (append_assoc all init ((last.0, max last.1 to) ∷ [])) in
@@ -125,8 +125,8 @@ begins_append f [] ss all more = more
 begins_append f (r ∷ rs) ss all more = (all.0, begins_append f rs ss all.1 more)
 
 -- ranges that can be merged in after a range was pushed
-pub pushed_can : (u : GrowingList) (init : List (ℕ × ℕ)) (range : ℕ × ℕ) → IsNormal (ranges_of u) → u.loose ≡ init ++ range ∷ [] → CanMerge u range.0
-pushed_can u init range built is =
+pub can_merge_after_push : (u : GrowingList) (init : List (ℕ × ℕ)) (range : ℕ × ℕ) → IsNormal (ranges_of u) → u.loose ≡ init ++ range ∷ [] → CanMerge u range.0
+can_merge_after_push u init range built is =
     let whole : ranges_of u ≡ (u.closed ++ init) ++ range ∷ [] = ap (λ (l : List (ℕ × ℕ)). u.closed ++ l) is ∙ sym (append_assoc u.closed init (range ∷ [])) in
     let normal : IsNormal ((u.closed ++ init) ++ range ∷ []) = subst IsNormal whole built in
     let below = ends_next (u.closed ++ init) (range ∷ []) normal in
@@ -137,8 +137,8 @@ pushed_can u init range built is =
     }
 
 -- the first k ranges were appended to those in no block, which had room for k
-pub filled_built : (ns : List (List (List (ℕ × ℕ)))) (bs : List (List (ℕ × ℕ))) (rs rs' kept ranges : List (ℕ × ℕ)) (k : ℕ) → IsBuilderState ns bs rs → builder_ranges ns bs rs ≡ kept → rs' ≡ rs ++ take k ranges → length rs + k ≤ 128 → IsNormal (kept ++ ranges) → IsBuilderState ns bs rs'
-filled_built ns bs rs rs' kept ranges k built same new capacity normal =
+pub fill_rule_of_builder : (ns : List (List (List (ℕ × ℕ)))) (bs : List (List (ℕ × ℕ))) (rs rs' kept ranges : List (ℕ × ℕ)) (k : ℕ) → IsBuilderState ns bs rs → builder_ranges ns bs rs ≡ kept → rs' ≡ rs ++ take k ranges → length rs + k ≤ 128 → IsNormal (kept ++ ranges) → IsBuilderState ns bs rs'
+fill_rule_of_builder ns bs rs rs' kept ranges k built same new capacity normal =
     let all : List (ℕ × ℕ) = concat (concat ns ++ bs) in
     let made : builder_ranges ns bs rs' ≡ kept ++ take k ranges = ap (λ (l : List (ℕ × ℕ)). all ++ l) new ∙ sym (append_assoc all rs (take k ranges)) ∙ ap (λ (l : List (ℕ × ℕ)). l ++ take k ranges) same in
     let parts : kept ++ ranges ≡ (kept ++ take k ranges) ++ drop k ranges = ap (λ (l : List (ℕ × ℕ)). kept ++ l) (sym (take-append-drop k ranges)) ∙ sym (append_assoc kept (take k ranges) (drop k ranges)) in
@@ -150,8 +150,8 @@ filled_built ns bs rs rs' kept ranges k built same new capacity normal =
     }
 
 -- a range was pushed, and there was room for it
-pub pushed_built : (ns : List (List (List (ℕ × ℕ)))) (bs : List (List (ℕ × ℕ))) (rs rs' kept : List (ℕ × ℕ)) (range : ℕ × ℕ) → IsBuilderState ns bs rs → builder_ranges ns bs rs ≡ kept → length rs < 128 → rs' ≡ rs ++ range ∷ [] → range.0 < range.1 → range.1 ≤ pixel_count → EndsBelow range.0 kept → IsBuilderState ns bs rs'
-pushed_built ns bs rs rs' kept range built same capacity new filled within below =
+pub builder_state_after_push : (ns : List (List (List (ℕ × ℕ)))) (bs : List (List (ℕ × ℕ))) (rs rs' kept : List (ℕ × ℕ)) (range : ℕ × ℕ) → IsBuilderState ns bs rs → builder_ranges ns bs rs ≡ kept → length rs < 128 → rs' ≡ rs ++ range ∷ [] → range.0 < range.1 → range.1 ≤ pixel_count → EndsBelow range.0 kept → IsBuilderState ns bs rs'
+builder_state_after_push ns bs rs rs' kept range built same capacity new filled within below =
     let made : builder_ranges ns bs rs' ≡ builder_ranges ns bs rs ++ range ∷ [] = ap (λ (l : List (ℕ × ℕ)). concat (concat ns ++ bs) ++ l) new ∙ sym (append_assoc (concat (concat ns ++ bs)) rs (range ∷ [])) in
     record {
       sized = built.sized;
@@ -161,26 +161,26 @@ pushed_built ns bs rs rs' kept range built same capacity new filled within below
     }
 
 -- a node was appended
-pub stack_noded : (ns ns' : List (List (List (ℕ × ℕ)))) (node bs bs' stack : List (List (ℕ × ℕ))) → concat ns ++ bs ≡ stack → bs ≡ [] → concat ns' ++ bs' ≡ concat ns ++ node → concat ns' ++ bs' ≡ stack ++ node
-stack_noded ns ns' node bs bs' stack same none new =
-    let all : concat ns ≡ stack = sym (nothing_more (concat ns)) ∙ ap (λ (l : List (List (ℕ × ℕ))). concat ns ++ l) (sym none) ∙ same in
+pub stack_with_node : (ns ns' : List (List (List (ℕ × ℕ)))) (node bs bs' stack : List (List (ℕ × ℕ))) → concat ns ++ bs ≡ stack → bs ≡ [] → concat ns' ++ bs' ≡ concat ns ++ node → concat ns' ++ bs' ≡ stack ++ node
+stack_with_node ns ns' node bs bs' stack same none new =
+    let all : concat ns ≡ stack = sym (append_empty (concat ns)) ∙ ap (λ (l : List (List (ℕ × ℕ))). concat ns ++ l) (sym none) ∙ same in
     new ∙ ap (λ (l : List (List (ℕ × ℕ))). l ++ node) all
 
-pub node_kept : (ns : List (List (List (ℕ × ℕ)))) (bs stack node : List (List (ℕ × ℕ))) (rs kept : List (ℕ × ℕ)) → concat ns ++ bs ≡ stack ++ node → rs ≡ [] → concat stack ≡ kept → builder_ranges ns bs rs ≡ kept ++ concat node
-node_kept ns bs stack node rs kept same none is =
-    (λ i. concat (same i) ++ none i) ∙ nothing_more (concat (stack ++ node)) ∙ concat-append stack node ∙ ap (λ (l : List (ℕ × ℕ)). l ++ concat node) is
+pub builder_ranges_after_node : (ns : List (List (List (ℕ × ℕ)))) (bs stack node : List (List (ℕ × ℕ))) (rs kept : List (ℕ × ℕ)) → concat ns ++ bs ≡ stack ++ node → rs ≡ [] → concat stack ≡ kept → builder_ranges ns bs rs ≡ kept ++ concat node
+builder_ranges_after_node ns bs stack node rs kept same none is =
+    (λ i. concat (same i) ++ none i) ∙ append_empty (concat (stack ++ node)) ∙ concat-append stack node ∙ ap (λ (l : List (ℕ × ℕ)). l ++ concat node) is
 
-pub node_built : (ns : List (List (List (ℕ × ℕ)))) (bs stack node : List (List (ℕ × ℕ))) (rs kept : List (ℕ × ℕ)) → concat ns ++ bs ≡ stack ++ node → rs ≡ [] → concat stack ≡ kept → AreBlocks stack → AreBlocks node → (0 < last_length stack → 128 < last_length stack + first_length node) → AreGrouped ns bs → IsNormal (kept ++ concat node) → IsBuilderState ns bs rs
-node_built ns bs stack node rs kept same none is ok more seam wide normal = record {
+pub builder_state_after_node : (ns : List (List (List (ℕ × ℕ)))) (bs stack node : List (List (ℕ × ℕ))) (rs kept : List (ℕ × ℕ)) → concat ns ++ bs ≡ stack ++ node → rs ≡ [] → concat stack ≡ kept → AreBlocks stack → AreBlocks node → (0 < last_length stack → 128 < last_length stack + first_length node) → AreGrouped ns bs → IsNormal (kept ++ concat node) → IsBuilderState ns bs rs
+builder_state_after_node ns bs stack node rs kept same none is ok more seam wide normal = record {
   wide = wide;
-  sized = subst AreBlocks (sym same) (filled_append 128 stack node ok more seam);
+  sized = subst AreBlocks (sym same) (fill_rule_append 128 stack node ok more seam);
   fits = omega (arith, ap length none);
-  normal = subst IsNormal (sym (node_kept ns bs stack node rs kept same none is)) normal;
+  normal = subst IsNormal (sym (builder_ranges_after_node ns bs stack node rs kept same none is)) normal;
 }
 
 -- after sealing, all ranges are in blocks
-pub sealed_all : (all rs kept : List (ℕ × ℕ)) → all ++ rs ≡ kept → rs ≡ [] → all ≡ kept
-sealed_all all rs kept same none = sym (nothing_more all) ∙ ap (λ (l : List (ℕ × ℕ)). all ++ l) (sym none) ∙ same
+pub all_without_rest : (all rs kept : List (ℕ × ℕ)) → all ++ rs ≡ kept → rs ≡ [] → all ≡ kept
+all_without_rest all rs kept same none = sym (append_empty all) ∙ ap (λ (l : List (ℕ × ℕ)). all ++ l) (sym none) ∙ same
 
 -- one more of the blocks
 pub each_more : (blocks : List (List (ℕ × ℕ))) (i : ℕ) (b : List (ℕ × ℕ)) (all now next : List (ℕ × ℕ)) → i < length blocks → b ≡ get_or blocks i b → now ≡ all ++ concat (take i blocks) → next ≡ now ++ b → next ≡ all ++ concat (take (i + 1) blocks)
@@ -196,14 +196,14 @@ each_normal blocks i b all now lt is before normal =
     subst IsNormal (sym next) (IsNormal-prefix (all ++ concat (take (i + 1) blocks)) (concat (drop (i + 1) blocks)) (subst IsNormal whole normal))
 
 -- blocks became a node
-pub noded : (ns ns' : List (List (List (ℕ × ℕ)))) (node blocks rest : List (List (ℕ × ℕ))) → ns' ≡ ns ++ node ∷ [] → node ≡ blocks → rest ≡ [] → concat ns' ++ rest ≡ concat ns ++ blocks
-noded ns ns' node blocks rest new is none =
-    (λ i. concat (new i) ++ none i) ∙ nothing_more (concat (ns ++ node ∷ [])) ∙ concat-last ns node ∙ ap (λ (l : List (List (ℕ × ℕ))). concat ns ++ l) is
+pub concat_with_node : (ns ns' : List (List (List (ℕ × ℕ)))) (node blocks rest : List (List (ℕ × ℕ))) → ns' ≡ ns ++ node ∷ [] → node ≡ blocks → rest ≡ [] → concat ns' ++ rest ≡ concat ns ++ blocks
+concat_with_node ns ns' node blocks rest new is none =
+    (λ i. concat (new i) ++ none i) ∙ append_empty (concat (ns ++ node ∷ [])) ∙ concat-last ns node ∙ ap (λ (l : List (List (ℕ × ℕ))). concat ns ++ l) is
 
 -- a node was reopened to blocks
-pub reopened : (ns ns' : List (List (List (ℕ × ℕ)))) (node blocks blocks' : List (List (ℕ × ℕ))) → ns ≡ ns' ++ node ∷ [] → blocks' ≡ node → blocks ≡ [] → concat ns' ++ blocks' ≡ concat ns ++ blocks
-reopened ns ns' node blocks blocks' old is none =
-    ap (λ (l : List (List (ℕ × ℕ))). concat ns' ++ l) is ∙ sym (concat-last ns' node) ∙ ap concat (sym old) ∙ sym (nothing_more (concat ns)) ∙ ap (λ (l : List (List (ℕ × ℕ))). concat ns ++ l) (sym none)
+pub concat_reopened_node : (ns ns' : List (List (List (ℕ × ℕ)))) (node blocks blocks' : List (List (ℕ × ℕ))) → ns ≡ ns' ++ node ∷ [] → blocks' ≡ node → blocks ≡ [] → concat ns' ++ blocks' ≡ concat ns ++ blocks
+concat_reopened_node ns ns' node blocks blocks' old is none =
+    ap (λ (l : List (List (ℕ × ℕ))). concat ns' ++ l) is ∙ sym (concat-last ns' node) ∙ ap concat (sym old) ∙ sym (append_empty (concat ns)) ∙ ap (λ (l : List (List (ℕ × ℕ))). concat ns ++ l) (sym none)
 
 pub test_below : (f : ℕ) (rs : List (ℕ × ℕ)) (d : ℕ × ℕ) (i : ℕ) → IsNormal rs → i + 1 ≡ length rs → OnTrue (nat_lt (get_or rs i d).1 f) (EndsBelow f rs)
 test_below f rs d i normal e =
@@ -232,11 +232,11 @@ pub open_longer-same : (kept : List (ℕ × ℕ)) (last range : ℕ × ℕ) (end
 open_longer-same kept last range end q normal is later reached filled =
     ap (λ t. in_ranges (kept ++ (last.0, t) ∷ []) q) is
     ∙ in_ranges-append kept ((last.0, max last.1 range.1) ∷ []) q
-    ∙ longer_range last.0 last.1 range.0 range.1 q (in_ranges kept q) later reached (last_filled kept last normal) filled
+    ∙ longer_range last.0 last.1 range.0 range.1 q (in_ranges kept q) later reached (last_range_nonempty kept last normal) filled
     ∙ ap (λ x. x || in_range range q) (sym (in_ranges-append kept (last ∷ []) q))
 
-pub open_filled : (kept : List (ℕ × ℕ)) (last : ℕ × ℕ) → IsNormal (kept ++ last ∷ []) → last.0 < last.1
-open_filled kept last normal = last_filled kept last normal
+pub last_open_nonempty : (kept : List (ℕ × ℕ)) (last : ℕ × ℕ) → IsNormal (kept ++ last ∷ []) → last.0 < last.1
+last_open_nonempty kept last normal = last_range_nonempty kept last normal
 
 pub open_within : (kept : List (ℕ × ℕ)) (last : ℕ × ℕ) → IsNormal (kept ++ last ∷ []) → last.1 ≤ pixel_count
 open_within kept last normal = (IsNormal-suffix kept (last ∷ []) normal).1
@@ -246,7 +246,7 @@ open_after kept last normal = ends_next kept (last ∷ []) normal
 
 pub open_next : (kept kept' : List (ℕ × ℕ)) (last range : ℕ × ℕ) → IsNormal (kept ++ last ∷ []) → IsNormal kept' → kept' ≡ kept ++ last ∷ [] → last.1 < range.0 → range.0 < range.1 → range.1 ≤ pixel_count → IsNormal (kept' ++ range ∷ [])
 open_next kept kept' last range opened built' is apart filled within =
-    let filled_last = last_filled kept last opened in
+    let fill_rule_last = last_range_nonempty kept last opened in
     let below = EndsBelow-append range.0 kept (last ∷ []) (EndsBelow-more last.0 range.0 kept (ends_next kept (last ∷ []) opened) (omega arith)) (apart, tt) in
     pushed_normal kept' range built' filled within (subst (λ (l : List (ℕ × ℕ)). EndsBelow range.0 l) (sym is) below)
 
@@ -259,8 +259,8 @@ pub ranges_normal : (ns : List (List (List (ℕ × ℕ)))) (bs : List (List (ℕ
 ranges_normal ns bs rs built = IsNormal-suffix (concat (concat ns ++ bs)) rs built.normal
 
 -- ranges were removed at the end
-pub prefix_built : (ns : List (List (List (ℕ × ℕ)))) (bs : List (List (ℕ × ℕ))) (rs rs' removed : List (ℕ × ℕ)) → IsBuilderState ns bs rs → rs ≡ rs' ++ removed → IsBuilderState ns bs rs'
-prefix_built ns bs rs rs' removed built old =
+pub builder_state_of_prefix : (ns : List (List (List (ℕ × ℕ)))) (bs : List (List (ℕ × ℕ))) (rs rs' removed : List (ℕ × ℕ)) → IsBuilderState ns bs rs → rs ≡ rs' ++ removed → IsBuilderState ns bs rs'
+builder_state_of_prefix ns bs rs rs' removed built old =
     let all : List (ℕ × ℕ) = concat (concat ns ++ bs) in
     record {
       sized = built.sized;

@@ -1,7 +1,8 @@
-pub mod Adding
+pub mod Editing
 pub mod Basics
 pub mod Blocking
 pub mod Building
+pub mod Cutting
 pub mod Filling
 pub mod Inserting
 pub mod Merging

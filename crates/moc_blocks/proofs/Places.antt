@@ -12,7 +12,7 @@ use Rattle.std.specs.List.Sorted.{IsNonDecreasingBy, IsPartitionPoint, IsPartiti
 use Rattle.moc_blocks.specs.RangeList.{pixel_count}
 use Rattle.moc_blocks.specs.Blocks.{concat}
 use Rattle.moc_blocks.specs.Private.Blocks.{starts_from, shift_starts, AreStored, IsCountStarted, IsStored}
-use Rattle.moc_blocks.proofs.Stepping.{nodes_taken, blocks_done, few_blocks}
+use Rattle.moc_blocks.proofs.Stepping.{concat_lengths_next, concat_length_complete, block_count_bounded}
 
 -- there are as many starts as lists
 pub starts_length : {X : Type 0} (n : ℕ) (xs : List (List X)) → length (starts_from n xs) ≡ length xs
@@ -45,25 +45,25 @@ starts_set n (z ∷ xs) (suc i) x y is e = ap (λ l. n ∷ l) (starts_set (n + l
 
 -- ---- the node of a block
 
-ascending : (ns : List (List (List (ℕ × ℕ)))) (i j : ℕ) → i ≤ j → length (concat (take i ns)) ≤ length (concat (take j ns))
-ascending [] zero j le = omega arith
-ascending [] (suc i) j le = omega arith
-ascending (n ∷ ns) zero j le = omega arith
-ascending (n ∷ ns) (suc i) zero le = absurd (omega arith)
-ascending (n ∷ ns) (suc i) (suc j) le = omega (arith, ascending ns i j (omega arith), length-append n (concat (take i ns)), length-append n (concat (take j ns)))
+lengths_ascend : (ns : List (List (List (ℕ × ℕ)))) (i j : ℕ) → i ≤ j → length (concat (take i ns)) ≤ length (concat (take j ns))
+lengths_ascend [] zero j le = omega arith
+lengths_ascend [] (suc i) j le = omega arith
+lengths_ascend (n ∷ ns) zero j le = omega arith
+lengths_ascend (n ∷ ns) (suc i) zero le = absurd (omega arith)
+lengths_ascend (n ∷ ns) (suc i) (suc j) le = omega (arith, lengths_ascend ns i j (omega arith), length-append n (concat (take i ns)), length-append n (concat (take j ns)))
 
-pub starts_rise : (ns : List (List (List (ℕ × ℕ)))) → IsNonDecreasingBy (λ (x : ℕ). x) (starts_from 0 ns)
-starts_rise ns = λ i j d le lt.
+pub starts_ascend : (ns : List (List (List (ℕ × ℕ)))) → IsNonDecreasingBy (λ (x : ℕ). x) (starts_from 0 ns)
+starts_ascend ns = λ i j d le lt.
     let many = starts_length 0 ns in
     let inside : j < length ns = omega arith in
     let low : i < length ns = omega arith in
-    omega (arith, starts_at 0 ns i d low, starts_at 0 ns j d inside, ascending ns i j le)
+    omega (arith, starts_at 0 ns i d low, starts_at 0 ns j d inside, lengths_ascend ns i j le)
 
-pub starts_parted : (ns : List (List (List (ℕ × ℕ)))) (starts : List ℕ) (place : ℕ) → starts ≡ starts_from 0 ns → IsPartitionedBy (λ x. leb x place) starts
-starts_parted ns starts place is = IsPartitionedBy-leb (λ (x : ℕ). x) starts place (subst (λ (l : List ℕ). IsNonDecreasingBy (λ (x : ℕ). x) l) (sym is) (starts_rise ns))
+pub starts_partitioned : (ns : List (List (List (ℕ × ℕ)))) (starts : List ℕ) (place : ℕ) → starts ≡ starts_from 0 ns → IsPartitionedBy (λ x. leb x place) starts
+starts_partitioned ns starts place is = IsPartitionedBy-leb (λ (x : ℕ). x) starts place (subst (λ (l : List ℕ). IsNonDecreasingBy (λ (x : ℕ). x) l) (sym is) (starts_ascend ns))
 
-pub begun_at : (ns : List (List (List (ℕ × ℕ)))) (starts : List ℕ) (place begun : ℕ) → starts ≡ starts_from 0 ns → begun ≤ length starts → IsPartitionPoint (λ y. leb y place ≡ true) (λ y. leb y place ≡ false) starts begun → IsCountStarted ns place begun
-begun_at ns starts place begun is bound point =
+pub count_started_at_partition_point : (ns : List (List (List (ℕ × ℕ)))) (starts : List ℕ) (place begun : ℕ) → starts ≡ starts_from 0 ns → begun ≤ length starts → IsPartitionPoint (λ y. leb y place ≡ true) (λ y. leb y place ≡ false) starts begun → IsCountStarted ns place begun
+count_started_at_partition_point ns starts place begun is bound point =
     let many : length starts ≡ length ns = ap length is ∙ starts_length 0 ns in
     let at = λ (k : ℕ) (lt : k < length ns). ap (λ (l : List ℕ). get_or l k 0) is ∙ starts_at 0 ns k 0 lt in
     record {
@@ -80,14 +80,14 @@ begun_at ns starts place begun is bound point =
 -- ---- what the code reads of the starts
 
 -- a start is the number of blocks before a node
-count_here : (ns : List (List (List (ℕ × ℕ)))) (starts : List ℕ) (i start : ℕ) → starts ≡ starts_from 0 ns → i < length ns → start ≡ get_or starts i start → start ≡ length (concat (take i ns))
-count_here ns starts i start is lt at = at ∙ ap (λ (l : List ℕ). get_or l i start) is ∙ starts_at 0 ns i start lt ∙ omega arith
+start_is_count : (ns : List (List (List (ℕ × ℕ)))) (starts : List ℕ) (i start : ℕ) → starts ≡ starts_from 0 ns → i < length ns → start ≡ get_or starts i start → start ≡ length (concat (take i ns))
+start_is_count ns starts i start is lt at = at ∙ ap (λ (l : List ℕ). get_or l i start) is ∙ starts_at 0 ns i start lt ∙ omega arith
 
-pub start_here : (ns value : List (List (List (ℕ × ℕ)))) (starts : List ℕ) (place begun start : ℕ) → starts ≡ starts_from 0 ns → ns ≡ value → IsCountStarted value place begun → (begun ≡ 0 → ⊥) → start ≡ get_or starts (begun - 1) start → (start ≡ length (concat (take (begun - 1) value))) × (start ≤ place)
-start_here ns value starts place begun start is same b some at =
+pub start_of_count : (ns value : List (List (List (ℕ × ℕ)))) (starts : List ℕ) (place begun start : ℕ) → starts ≡ starts_from 0 ns → ns ≡ value → IsCountStarted value place begun → (begun ≡ 0 → ⊥) → start ≡ get_or starts (begun - 1) start → (start ≡ length (concat (take (begun - 1) value))) × (start ≤ place)
+start_of_count ns value starts place begun start is same b some at =
     let bound = b.bound in
     let inside : begun - 1 < length ns = omega (arith, ap length same) in
-    let here = count_here ns starts (begun - 1) start is inside at ∙ ap (λ (l : List (List (List (ℕ × ℕ)))). length (concat (take (begun - 1) l))) same in
+    let here = start_is_count ns starts (begun - 1) start is inside at ∙ ap (λ (l : List (List (List (ℕ × ℕ)))). length (concat (take (begun - 1) l))) same in
     (here, omega (arith, here, b.before (omega arith)))
 
 pub inside_starts : (ns value : List (List (List (ℕ × ℕ)))) (starts : List ℕ) (place begun : ℕ) → starts ≡ starts_from 0 ns → ns ≡ value → IsCountStarted value place begun → (begun ≡ 0 → ⊥) → (begun - 1 < length starts) × (begun - 1 < length ns) × (begun - 1 < length value)
@@ -101,42 +101,42 @@ inside_starts ns value starts place begun is same b some =
 pub count_all : (ns : List (List (List (ℕ × ℕ)))) (starts : List ℕ) (count start : ℕ) (node : List (List (ℕ × ℕ))) → starts ≡ starts_from 0 ns → count ≡ length ns → 0 < count → start ≡ get_or starts (count - 1) start → node ≡ get_or ns (count - 1) node → start + length node ≡ length (concat ns)
 count_all ns starts count start node is many some at there =
     let inside : count - 1 < length ns = omega arith in
-    let here = count_here ns starts (count - 1) start is inside at in
-    let taken = nodes_taken ns (count - 1) node inside there in
-    let done = blocks_done ns (count - 1 + 1) (omega arith) in
+    let here = start_is_count ns starts (count - 1) start is inside at in
+    let taken = concat_lengths_next ns (count - 1) node inside there in
+    let done = concat_length_complete ns (count - 1 + 1) (omega arith) in
     omega (arith, here, taken.0, done)
 
 -- no node begins at or before the position, because the list is empty
-pub none_begun : (ns : List (List (List (ℕ × ℕ)))) (place begun : ℕ) → IsCountStarted ns place begun → begun ≡ 0 → length (concat ns) ≤ place
-none_begun [] place begun b none = omega arith
-none_begun (n ∷ ns) place begun b none = let more = b.after (omega arith) in absurd (omega (arith, more, ap (λ k. length (concat (take k (n ∷ ns)))) none))
+pub start_count_zero : (ns : List (List (List (ℕ × ℕ)))) (place begun : ℕ) → IsCountStarted ns place begun → begun ≡ 0 → length (concat ns) ≤ place
+start_count_zero [] place begun b none = omega arith
+start_count_zero (n ∷ ns) place begun b none = let more = b.after (omega arith) in absurd (omega (arith, more, ap (λ k. length (concat (take k (n ∷ ns)))) none))
 
 -- if a node begins at or before the position and has too few blocks, it is the last
 pub none_left : (ns : List (List (List (ℕ × ℕ)))) (place begun start : ℕ) (node : List (List (ℕ × ℕ))) → IsCountStarted ns place begun → 0 < begun → node ≡ get_or ns (begun - 1) node → start ≡ length (concat (take (begun - 1) ns)) → length node ≤ place - start → length (concat ns) ≤ place
 none_left ns place begun start node b some there at short =
     let bound = b.bound in
     let inside : begun - 1 < length ns = omega arith in
-    let taken = nodes_taken ns (begun - 1) node inside there in
+    let taken = concat_lengths_next ns (begun - 1) node inside there in
     let next : begun - 1 + 1 ≡ begun = omega arith in
     let upto = ap (λ k. length (concat (take k ns))) next in
     let low = b.before some in
     let high = b.after in
-    let all = blocks_done ns begun in
+    let all = concat_length_complete ns begun in
     grind arith
 
 -- ---- starts after a node that was replaced
 
 -- if as many blocks are removed as added, no start changes
-pub moved_none : (less more : ℕ) (ns : List ℕ) → less ≡ more → ((k : ℕ) → k < length ns → (less ≤ get_or ns k 0) × (get_or ns k 0 + more ≤ 18446744073709551615)) → ns ≡ shift_starts less more ns
-moved_none less more [] e fit = refl
-moved_none less more (n ∷ ns) e fit =
+pub shift_by_zero : (less more : ℕ) (ns : List ℕ) → less ≡ more → ((k : ℕ) → k < length ns → (less ≤ get_or ns k 0) × (get_or ns k 0 + more ≤ 18446744073709551615)) → ns ≡ shift_starts less more ns
+shift_by_zero less more [] e fit = refl
+shift_by_zero less more (n ∷ ns) e fit =
     let here : n ≡ n - less + more = omega (arith, (fit 0 (omega arith)).0) in
-    let rest = moved_none less more ns e (λ k lt. fit (suc k) (omega arith)) in
+    let rest = shift_by_zero less more ns e (λ k lt. fit (suc k) (omega arith)) in
     λ i. here i ∷ rest i
 
 -- one more start is adjusted
-pub moved_step : (less more : ℕ) (ns starts : List ℕ) (i : ℕ) → i < length ns → starts ≡ take i (shift_starts less more ns) ++ drop i ns → slice_set starts i (get_or starts i 0 - less + more) ≡ take (i + 1) (shift_starts less more ns) ++ drop (i + 1) ns
-moved_step less more ns starts i lt is =
+pub shift_next_start : (less more : ℕ) (ns starts : List ℕ) (i : ℕ) → i < length ns → starts ≡ take i (shift_starts less more ns) ++ drop i ns → slice_set starts i (get_or starts i 0 - less + more) ≡ take (i + 1) (shift_starts less more ns) ++ drop (i + 1) ns
+shift_next_start less more ns starts i lt is =
     let next : suc i ≡ i + 1 = omega arith in
     ap (λ (l : List ℕ). slice_set l i (get_or l i 0 - less + more)) is ∙ step less more ns i lt ∙ ap (λ k. take k (shift_starts less more ns) ++ drop k ns) next
   where
@@ -145,16 +145,16 @@ moved_step less more ns starts i lt is =
     step less more (n ∷ ns) zero lt = refl
     step less more (n ∷ ns) (suc i) lt = ap (λ (l : List ℕ). (n - less + more) ∷ l) (step less more ns i (omega arith))
 
-pub moved_here : (less more : ℕ) (ns starts : List ℕ) (i : ℕ) → i < length ns → starts ≡ take i (shift_starts less more ns) ++ drop i ns → get_or starts i 0 ≡ get_or ns i 0
-moved_here less more ns starts i lt is = ap (λ (l : List ℕ). get_or l i 0) is ∙ here less more ns i lt
+pub start_before_shift : (less more : ℕ) (ns starts : List ℕ) (i : ℕ) → i < length ns → starts ≡ take i (shift_starts less more ns) ++ drop i ns → get_or starts i 0 ≡ get_or ns i 0
+start_before_shift less more ns starts i lt is = ap (λ (l : List ℕ). get_or l i 0) is ∙ here less more ns i lt
   where
     here : (less more : ℕ) (ns : List ℕ) (i : ℕ) → i < length ns → get_or (take i (shift_starts less more ns) ++ drop i ns) i 0 ≡ get_or ns i 0
     here less more [] i lt = absurd (omega arith)
     here less more (n ∷ ns) zero lt = refl
     here less more (n ∷ ns) (suc i) lt = here less more ns i (omega arith)
 
-pub moved_all : (less more : ℕ) (ns starts : List ℕ) (i : ℕ) → length ns ≤ i → starts ≡ take i (shift_starts less more ns) ++ drop i ns → starts ≡ shift_starts less more ns
-moved_all less more ns starts i le is = is ∙ all less more ns i le
+pub all_starts_shifted : (less more : ℕ) (ns starts : List ℕ) (i : ℕ) → length ns ≤ i → starts ≡ take i (shift_starts less more ns) ++ drop i ns → starts ≡ shift_starts less more ns
+all_starts_shifted less more ns starts i le is = is ∙ all less more ns i le
   where
     all : (less more : ℕ) (ns : List ℕ) (i : ℕ) → length ns ≤ i → take i (shift_starts less more ns) ++ drop i ns ≡ shift_starts less more ns
     all less more [] zero le = refl
@@ -162,38 +162,38 @@ moved_all less more ns starts i le is = is ∙ all less more ns i le
     all less more (n ∷ ns) zero le = absurd (omega arith)
     all less more (n ∷ ns) (suc i) le = ap (λ (l : List ℕ). (n - less + more) ∷ l) (all less more ns i (omega arith))
 
-starts_moved : {X : Type 0} (n m less more : ℕ) (xs : List (List X)) → m ≡ n + less → starts_from (n + more) xs ≡ shift_starts less more (starts_from m xs)
-starts_moved n m less more [] e = refl
-starts_moved n m less more (x ∷ xs) e =
+starts_from_shifted : {X : Type 0} (n m less more : ℕ) (xs : List (List X)) → m ≡ n + less → starts_from (n + more) xs ≡ shift_starts less more (starts_from m xs)
+starts_from_shifted n m less more [] e = refl
+starts_from_shifted n m less more (x ∷ xs) e =
     let here : n + more ≡ m - less + more = omega arith in
-    let rest = ap (λ k. starts_from k xs) (omega arith) ∙ starts_moved (n + length x) (m + length x) less more xs (omega arith) in
+    let rest = ap (λ k. starts_from k xs) (omega arith) ∙ starts_from_shifted (n + length x) (m + length x) less more xs (omega arith) in
     λ i. here i ∷ rest i
 
 -- one list replaced by one
 pub starts_one : {X : Type 0} (n p : ℕ) (xs : List (List X)) (old new : List X) → p < length xs → old ≡ get_or xs p old → starts_from n (take p xs ++ (new ∷ drop (suc p) xs)) ≡ take (suc p) (starts_from n xs) ++ shift_starts (length old) (length new) (drop (suc p) (starts_from n xs))
 starts_one {X} n p [] old new lt is = absurd (omega arith)
-starts_one {X} n zero (x ∷ xs) old new lt is = ap (λ l. n ∷ l) (starts_moved n (n + length x) (length old) (length new) xs (ap (λ (l : List X). n + length l) (sym is)))
+starts_one {X} n zero (x ∷ xs) old new lt is = ap (λ l. n ∷ l) (starts_from_shifted n (n + length x) (length old) (length new) xs (ap (λ (l : List X). n + length l) (sym is)))
 starts_one {X} n (suc p) (x ∷ xs) old new lt is = ap (λ l. n ∷ l) (starts_one (n + length x) p xs old new (omega arith) is)
 
 -- one list replaced by two
 pub starts_two : {X : Type 0} (n p start : ℕ) (xs : List (List X)) (old first second : List X) → p < length xs → old ≡ get_or xs p old → start ≡ get_or (starts_from n xs) p 0 + length first → starts_from n (take p xs ++ (first ∷ (second ∷ drop (suc p) xs))) ≡ take (suc p) (starts_from n xs) ++ (start ∷ shift_starts (length old) (length first + length second) (drop (suc p) (starts_from n xs)))
 starts_two {X} n p start [] old first second lt is at = absurd (omega arith)
 starts_two {X} n zero start (x ∷ xs) old first second lt is at =
-    let rest = ap (λ k. starts_from k xs) (omega arith) ∙ starts_moved n (n + length x) (length old) (length first + length second) xs (ap (λ (l : List X). n + length l) (sym is)) in
+    let rest = ap (λ k. starts_from k xs) (omega arith) ∙ starts_from_shifted n (n + length x) (length old) (length first + length second) xs (ap (λ (l : List X). n + length l) (sym is)) in
     λ i. n ∷ (sym at i ∷ rest i)
 starts_two {X} n (suc p) start (x ∷ xs) old first second lt is at = ap (λ l. n ∷ l) (starts_two (n + length x) p start xs old first second (omega arith) is at)
 
-moved_length : (less more : ℕ) (ns : List ℕ) → length (shift_starts less more ns) ≡ length ns
-moved_length less more [] = refl
-moved_length less more (n ∷ ns) = ap suc (moved_length less more ns)
+length_of_shifted_starts : (less more : ℕ) (ns : List ℕ) → length (shift_starts less more ns) ≡ length ns
+length_of_shifted_starts less more [] = refl
+length_of_shifted_starts less more (n ∷ ns) = ap suc (length_of_shifted_starts less more ns)
 
 -- the starts from a position on were adjusted in their list
-pub moved_part : (less more p len : ℕ) (ns now part : List ℕ) → now ≡ ns → len ≡ length ns → p ≤ length ns → part ≡ shift_starts less more (take (length now - p) (drop p now)) → take len (put_mid p (length now - p) now part ++ drop (length (put_mid p (length now - p) now part)) ns) ≡ take p ns ++ shift_starts less more (drop p ns)
-moved_part less more p len ns now part same is_len le is =
+pub part_of_starts_shifted : (less more p len : ℕ) (ns now part : List ℕ) → now ≡ ns → len ≡ length ns → p ≤ length ns → part ≡ shift_starts less more (take (length now - p) (drop p now)) → take len (put_mid p (length now - p) now part ++ drop (length (put_mid p (length now - p) now part)) ns) ≡ take p ns ++ shift_starts less more (drop p ns)
+part_of_starts_shifted less more p len ns now part same is_len le is =
     let whole = put_mid p (length now - p) now part in
     let rest : part ≡ shift_starts less more (drop p ns) = is ∙ ap (shift_starts less more) (take_rest now p) ∙ ap (λ (l : List ℕ). shift_starts less more (drop p l)) same in
     let all = ap length same in
-    let many : length part ≡ length now - p = omega (arith, ap length rest, moved_length less more (drop p ns), length-drop p ns) in
+    let many : length part ≡ length now - p = omega (arith, ap length rest, length_of_shifted_starts less more (drop p ns), length-drop p ns) in
     let long : len ≡ length whole = omega (arith, length-append (take p now) (part ++ drop (length now - p) (drop p now)), length-append part (drop (length now - p) (drop p now)), length-drop (length now - p) (drop p now), length-drop p now, length-take-le p now (omega arith)) in
     take_at whole (drop (length whole) ns) len (sym long)
     ∙ sym (take_all len whole (omega arith))
@@ -216,11 +216,11 @@ starts_fit ns starts p less more old is lt there is_less few stored = λ k insid
     let many = ap length is ∙ starts_length 0 ns in
     let within : p + 1 + k < length ns = omega (arith, many, length-drop (p + 1) starts) in
     let at = get_or-drop (p + 1) starts k 0 ∙ ap (λ (l : List ℕ). get_or l (p + 1 + k) 0) is ∙ starts_at 0 ns (p + 1 + k) 0 within in
-    let taken = (nodes_taken ns p old lt there).0 in
-    let low = ascending ns (p + 1) (p + 1 + k) (omega arith) in
-    let high = ascending ns (p + 1 + k) (length ns) (omega arith) in
-    let all = blocks_done ns (length ns) (omega arith) in
-    let most = few_blocks (concat ns) stored in
+    let taken = (concat_lengths_next ns p old lt there).0 in
+    let low = lengths_ascend ns (p + 1) (p + 1 + k) (omega arith) in
+    let high = lengths_ascend ns (p + 1 + k) (length ns) (omega arith) in
+    let all = concat_length_complete ns (length ns) (omega arith) in
+    let most = block_count_bounded (concat ns) stored in
     (omega (arith, at, taken, low), omega (arith, at, high, all, most))
 
 pub placed_one : (ns : List (List (List (ℕ × ℕ)))) (starts starts' : List ℕ) (p less more : ℕ) (old new : List (List (ℕ × ℕ))) → starts ≡ starts_from 0 ns → p < length ns → old ≡ get_or ns p old → less ≡ length old → more ≡ length new → starts' ≡ take (p + 1) starts ++ shift_starts less more (drop (p + 1) starts) → starts' ≡ starts_from 0 (take p ns ++ (new ∷ drop (p + 1) ns))
@@ -251,4 +251,4 @@ placed_two ns starts between starts' p start a less more old first second ok is 
 
 pub start_bound : (ns : List (List (List (ℕ × ℕ)))) (starts : List ℕ) (p start : ℕ) → starts ≡ starts_from 0 ns → p < length ns → start ≡ get_or starts p start → AreStored (concat ns) → start ≤ pixel_count
 start_bound ns starts p start is lt at stored =
-    omega (arith, at ∙ ap (λ (l : List ℕ). get_or l p start) is, starts_at 0 ns p start lt, ascending ns p (length ns) (omega arith), blocks_done ns (length ns) (omega arith), few_blocks (concat ns) stored)
+    omega (arith, at ∙ ap (λ (l : List ℕ). get_or l p start) is, starts_at 0 ns p start lt, lengths_ascend ns p (length ns) (omega arith), concat_length_complete ns (length ns) (omega arith), block_count_bounded (concat ns) stored)

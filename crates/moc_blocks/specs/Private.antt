@@ -2,4 +2,4 @@
 pub mod Blocks
 pub mod Built
 pub mod Walks
-pub mod Added
+pub mod Edits

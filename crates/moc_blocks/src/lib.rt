@@ -4,7 +4,7 @@
 
 mod block;
 mod cursor;
-mod insertion;
+mod edits;
 mod lengths;
 mod node;
 mod runs;
@@ -15,9 +15,9 @@ pub use cursor::{
     BlockCursor, Cursor, NextBlock, NextNode, NextRange, block_below, enter_next_block, next_block,
     next_range, node_below, start_of_next,
 };
-pub use insertion::gap::{Gap, find_gap};
-pub use insertion::insert_small;
-pub use insertion::rebuild::{BlockEdit, Edit, NodeEdit, edit_nodes};
+pub use edits::gap::{Gap, find_gap};
+pub use edits::rebuild::{BlockEdit, Edit, NodeEdit, RangeEdit, edit_nodes};
+pub use edits::{insert_small, remove_small};
 pub use lengths::{blocks_in_last, ranges_in_first, ranges_in_last};
 pub use node::{
     MAX_NODE_BLOCKS, Node, blocks_in_nodes, count_in_blocks, count_in_nodes, share_blocks,

@@ -5,7 +5,7 @@ ghost use Rattle.std.specs.Bool.{OnTrue, OnFalse};
 ghost use Rattle.moc_blocks.specs.RangeList.{IsNormal};
 ghost use Rattle.moc_blocks.specs.Private.Blocks.{first_of, last_of, width_of};
 ghost use Rattle.moc_blocks.specs.Blocks.{concat, AreBlocks};
-ghost use Rattle.moc_blocks.specs.Private.Added.{with_range_inserted, HasGap};
+ghost use Rattle.moc_blocks.specs.Private.Edits.{with_range_inserted, HasGap};
 
 use crate::block::Block;
 use std::alloc::{AllocError, Global};

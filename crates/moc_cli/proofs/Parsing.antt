@@ -12,21 +12,21 @@ use Rattle.moc_cli.specs.Private.Matches.{AreParsedAs}
 use Rattle.moc_cli.specs.Endings.{AreAlwaysInvalid, AreInvalid, RequestHelp, IsUsageError}
 
 -- the command line is one whose errors `clap` names
-pub simple : (parsers : Parsers) → is_simple_and_free (moc_app parsers) ≡ true
+pub app_is_simple_and_free : (parsers : Parsers) → is_simple_and_free (moc_app parsers) ≡ true
 unfolding moc_app
-simple parsers = refl
+app_is_simple_and_free parsers = refl
 
 pub is_free : (app : App) → IsCommandLine app → is_simple_and_free app ≡ true
-is_free app line = rw line.is (simple line.parsers)
+is_free app line = rw line.is (app_is_simple_and_free line.parsers)
 
 -- and one for which it returns the matches
-pub plain : (parsers : Parsers) → is_simple (moc_app parsers) ≡ true
+pub app_is_simple : (parsers : Parsers) → is_simple (moc_app parsers) ≡ true
 unfolding moc_app
-plain parsers = refl
+app_is_simple parsers = refl
 
 pub read_as : (app : App) (arguments : List Text) → IsCommandLine app → (r : Result ArgMatches Error) → IfOk r (λ m. HasMatchesOf app arguments m)
     → IfOk r (λ m. AreParsedAs arguments m)
-read_as app arguments line (Ok m) matches = record { app = app; line = line; are = (matches (rw line.is (plain line.parsers))).1 }
+read_as app arguments line (Ok m) matches = record { app = app; line = line; are = (matches (rw line.is (app_is_simple line.parsers))).1 }
 read_as app arguments line (Err e) matches = tt
 
 no_help : (kind : ErrorKind) → kind ≡ OutOfMemory → (kind ≡ DisplayHelp) ⊎ (kind ≡ DisplayVersion) → ⊥

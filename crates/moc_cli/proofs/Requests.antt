@@ -51,10 +51,10 @@ value_read name_of names f name value (Err e) o is read same = subst (λ x. IfSo
 
 -- ---- the action of the arguments
 
-pub matched : (m : ArgMatches) (action : Action) (source source' : SourceState) (sink sink' : SinkState) (result : Result (Unit {0}) ProgramError) → IsRequestedIn m action
+pub matched_action_end : (m : ArgMatches) (action : Action) (source source' : SourceState) (sink sink' : SinkState) (result : Result (Unit {0}) ProgramError) → IsRequestedIn m action
     → ActionEnds action source source' sink sink' result → MatchedEnd m source source' sink sink' result
-matched m action source source' sink sink' (Ok u) requested ends = (action, requested, ends)
-matched m action source source' sink sink' (Err f) requested ends = inr (action, requested, ends)
+matched_action_end m action source source' sink sink' (Ok u) requested ends = (action, requested, ends)
+matched_action_end m action source source' sink sink' (Err f) requested ends = inr (action, requested, ends)
 
 named_subcommand : (arguments : List Text) (m : ArgMatches) (action : Action) → AreParsedAs arguments m → IsRequestedIn m action → RequestAction arguments action
 named_subcommand arguments m action read requested = record {
@@ -66,9 +66,9 @@ named_subcommand arguments m action read requested = record {
   selects = requested.3;
 }
 
-pub arguments_done : (arguments : List Text) (m : ArgMatches) (source source' : SourceState) (sink sink' : SinkState) → AreParsedAs arguments m → MatchedEnd m source source' sink sink' (Ok tt)
+pub arguments_are_matched : (arguments : List Text) (m : ArgMatches) (source source' : SourceState) (sink sink' : SinkState) → AreParsedAs arguments m → MatchedEnd m source source' sink sink' (Ok tt)
     → (action : Action) × RequestAction arguments action × ActionEnds action source source' sink sink' (Ok tt)
-arguments_done arguments m source source' sink sink' read ends = (ends.0, named_subcommand arguments m ends.0 read ends.1, ends.2)
+arguments_are_matched arguments m source source' sink sink' read ends = (ends.0, named_subcommand arguments m ends.0 read ends.1, ends.2)
 
 pub arguments_end : (arguments : List Text) (m : ArgMatches) (source source' : SourceState) (sink sink' : SinkState) (error : ProgramError) → AreParsedAs arguments m → MatchedEnd m source source' sink sink' (Err error)
     → CanEndWith arguments source source' sink sink' error

@@ -14,7 +14,7 @@ use Rattle.moc_cli.specs.declared.action.Action.{Action}
 use Rattle.moc_cli.specs.Endings.{AcceptsSome, RequestHelp, BlamesFailed, CanEndWith, ReportsUsageError, RunsOutOfMemory, ReportsErrorOf, WritesUnlessFailed}
 use Rattle.moc_cli.specs.Private.Ending.{status_of_result}
 use Rattle.moc_cli.specs.Private.Matches.{AreParsedAs, MatchedEnd}
-use Rattle.moc_cli.proofs.Requests.{arguments_done, arguments_end}
+use Rattle.moc_cli.proofs.Requests.{arguments_are_matched, arguments_end}
 use Rattle.moc_cli.specs.declared.status.ProgramError.{ProgramError}
 use Rattle.moc_cli.specs.declared.status.ProgramError.TheVariants.{Input, Number, Lines, Write, Memory}
 use Rattle.moc_cli.specs.declared.status.Status.{Status}
@@ -87,7 +87,7 @@ module _ {I O : Type 0} (reading : I → SourceState) (writing : O → SinkState
       → (a : Action) × RequestAction arguments a × ActionEnds a source (reading i') sink (writing o') (Ok tt)
   done_by (Ok u) ends e =
       subst (λ (x : I). (a : Action) × RequestAction arguments a × ActionEnds a source (reading x) sink (writing o') (Ok tt)) (sym same_i)
-      (subst (λ (y : O). (a : Action) × RequestAction arguments a × ActionEnds a source (reading i) sink (writing y) (Ok tt)) (sym same_o) (arguments_done arguments m source (reading i) sink (writing o) read ends))
+      (subst (λ (y : O). (a : Action) × RequestAction arguments a × ActionEnds a source (reading i) sink (writing y) (Ok tt)) (sym same_o) (arguments_are_matched arguments m source (reading i) sink (writing o) read ends))
   done_by (Err error) ends e = absurd (not_success (status_of error) (of_error error) e)
 
   pub fails_by : (marked : I → Bool) (marked_out : O → Bool) (result : Result (Unit {0}) ProgramError) → MatchedEnd m source (reading i) sink (writing o) result

@@ -14,10 +14,10 @@ use Rattle.moc_conversion.specs.Errors.{error_alone}
 use Rattle.moc_conversion.specs.declared.error.InputError.{InputError}
 use Rattle.moc_conversion.specs.declared.error.InputError.TheVariants.{Memory}
 
-memory_is : (format : Format) → IsTrue (is_memory (out_of_memory_in format))
-memory_is Ascii = refl
-memory_is Json = refl
-memory_is Uniq = refl
+out_of_memory_is_memory : (format : Format) → IsTrue (is_memory (out_of_memory_in format))
+out_of_memory_is_memory Ascii = refl
+out_of_memory_is_memory Json = refl
+out_of_memory_is_memory Uniq = refl
 
 -- the bytes are the whole input, and no longer than an input may be
 abbrev pub IsWhole : SourceState → SourceState → List ℕ → Type 0
@@ -38,13 +38,13 @@ pub not_read : (format : Format) (source source' : SourceState) (given : List �
     → (IsTrue (is_memory error) → e ≡ Memory) → (e ≡ Memory) ⊎ (e ≡ error_alone error) → FormatFails format given error → IsNotConverted format source source' e
 not_read format source source' given error e whole out (inl memory) fails = inl (inr (inr memory))
 not_read format source source' given error e whole out (inr alone) (inl memory) =
-    inl (inr (inr (out (subst (λ x. IsTrue (is_memory x)) (sym memory) (memory_is format)))))
+    inl (inr (inr (out (subst (λ x. IsTrue (is_memory x)) (sym memory) (out_of_memory_is_memory format)))))
 not_read format source source' given error e whole out (inr alone) (inr first) = inr (given, whole.0, (whole.1, whole.2, (error, first, alone)))
 
 -- an error that is passed on
-pub passed_on : {T E : Type 0} (r : Result T E) (x : E) (Q : E → Type 0) → IsErrAnd r (λ y. y ≡ x) → Q x → IfErr r Q
-passed_on (Ok v) x Q same holds = tt
-passed_on (Err y) x Q same holds = subst Q (sym same) holds
+pub error_passed_to_result : {T E : Type 0} (r : Result T E) (x : E) (Q : E → Type 0) → IsErrAnd r (λ y. y ≡ x) → Q x → IfErr r Q
+error_passed_to_result (Ok v) x Q same holds = tt
+error_passed_to_result (Err y) x Q same holds = subst Q (sym same) holds
 
 -- an allocation failure for what is made from an input
 pub no_memory : {T : Type 0} (r : Result T InputError) (choice : FormatChoice) (source source' : SourceState)

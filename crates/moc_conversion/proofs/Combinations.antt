@@ -28,25 +28,25 @@ abbrev AreWithin : List (List ℕ) → Type 0
 AreWithin texts = AllByRecursion (λ text. length text ≤ input_limit) texts
 
 -- a part before others is a text
-first_stays : (text : List ℕ) (parts : List (List ℕ)) → 0 < length parts → without_blank_end (text ∷ parts) ≡ text ∷ without_blank_end parts
-first_stays text [] some = absurd (omega arith)
-first_stays text (next ∷ parts) some = refl
+first_item_unchanged : (text : List ℕ) (parts : List (List ℕ)) → 0 < length parts → without_blank_end (text ∷ parts) ≡ text ∷ without_blank_end parts
+first_item_unchanged text [] some = absurd (omega arith)
+first_item_unchanged text (next ∷ parts) some = refl
 
 -- what a semicolon ends is a text, and blanks after the last one are not
 pub split_at_semicolon : (before : Option ParsedCoverage) (text rest : List ℕ) → HasNoSemicolon text → texts_after before (text ++ 59 ∷ rest) ≡ text ∷ without_blank_end (pieces_of rest)
 split_at_semicolon None text rest no_semicolon = ap texts_among (slice_split_at is_semicolon text 59 rest no_semicolon refl)
 split_at_semicolon (Some parsed) text rest no_semicolon =
     ap without_blank_end (slice_split_at is_semicolon text 59 rest no_semicolon refl)
-    ∙ first_stays text (pieces_of rest) (omega (arith, length-slice_split is_semicolon rest))
+    ∙ first_item_unchanged text (pieces_of rest) (omega (arith, length-slice_split is_semicolon rest))
 
 -- bytes without a semicolon are one text, unless they are blanks after a semicolon
-single : (parsed : ParsedCoverage) (text : List ℕ) → HasNoSemicolon text → texts_after (Some parsed) text ≡ (if are_blanks text then [] else text ∷ [])
-single parsed text no_semicolon = ap without_blank_end (slice_split_none is_semicolon text no_semicolon)
+texts_after_single : (parsed : ParsedCoverage) (text : List ℕ) → HasNoSemicolon text → texts_after (Some parsed) text ≡ (if are_blanks text then [] else text ∷ [])
+texts_after_single parsed text no_semicolon = ap without_blank_end (slice_split_none is_semicolon text no_semicolon)
 
-pub alone : (before : Option ParsedCoverage) (text : List ℕ) → HasNoSemicolon text → (before ≡ None) ⊎ (are_blanks text ≡ false) → texts_after before text ≡ text ∷ []
-alone None text no_semicolon why = ap texts_among (slice_split_none is_semicolon text no_semicolon)
-alone (Some parsed) text no_semicolon (inl is_none) = absurd (cc)
-alone (Some parsed) text no_semicolon (inr written) = single parsed text no_semicolon ∙ ap (λ b. if b then [] else text ∷ []) written
+pub text_without_semicolon : (before : Option ParsedCoverage) (text : List ℕ) → HasNoSemicolon text → (before ≡ None) ⊎ (are_blanks text ≡ false) → texts_after before text ≡ text ∷ []
+text_without_semicolon None text no_semicolon why = ap texts_among (slice_split_none is_semicolon text no_semicolon)
+text_without_semicolon (Some parsed) text no_semicolon (inl is_none) = absurd (cc)
+text_without_semicolon (Some parsed) text no_semicolon (inr written) = texts_after_single parsed text no_semicolon ∙ ap (λ b. if b then [] else text ∷ []) written
 
 module _ (operation : Operation) (choice : FormatChoice) (before : Option ParsedCoverage) (text : List ℕ) (parsed : ParsedCoverage)
     (no_semicolon : HasNoSemicolon text) (within : length text ≤ input_limit) (represents : TextRepresents choice text parsed) where
@@ -168,7 +168,7 @@ pub last_fails : (c : Combination) (error : InputError) → IsOpen c → (c.befo
 last_fails c error opened why (inl memory) = inl memory
 last_fails c error opened why (inr diagnoses) = inr (
     subst (λ t. ReportsFirstError c.number c.choice (texts_after c.before t) error) (sym (append-nil c.text.items))
-    (subst (λ texts. ReportsFirstError c.number c.choice texts error) (sym (alone c.before c.text.items opened.no_semicolon why))
+    (subst (λ texts. ReportsFirstError c.number c.choice texts error) (sym (text_without_semicolon c.before c.text.items opened.no_semicolon why))
     (first_fails c.number c.choice c.text.items [] error diagnoses)))
 
 -- the last text is valid
@@ -176,17 +176,17 @@ last_combines : (c : Combination) (after : ParsedCoverage) → IsOpen c → (c.b
 last_combines c after opened why more =
     subst (λ t. TextsCombine c.operation c.choice c.before t (Some after)) (sym (append-nil c.text.items))
     (subst (λ s. TextsCombine c.operation c.choice c.before c.text.items (Some s)) (sym more.2)
-    (last c.operation c.choice c.before c.text.items more.0 opened.no_semicolon opened.within more.1 (alone c.before c.text.items opened.no_semicolon why)))
+    (last c.operation c.choice c.before c.text.items more.0 opened.no_semicolon opened.within more.1 (text_without_semicolon c.before c.text.items opened.no_semicolon why)))
 
 pub last_valid : (c : Combination) (before : Option ParsedCoverage) (after : ParsedCoverage) → before ≡ c.before → IsOpen c → (c.before ≡ None) ⊎ (are_blanks c.text.items ≡ false)
     → CombinesNext c before after → EndsCombination c [] (Some after)
 last_valid c before after same opened why more = last_combines c after opened why (subst (λ b. CombinesNext c b after) same more)
 
 -- blanks after the last semicolon add nothing
-pub blanks_add_nothing : (c : Combination) (after : ParsedCoverage) → IsOpen c → c.before ≡ Some after → are_blanks c.text.items ≡ true → EndsCombination c [] (Some after)
-blanks_add_nothing c after opened before blank =
+pub blanks_are_ignored : (c : Combination) (after : ParsedCoverage) → IsOpen c → c.before ≡ Some after → are_blanks c.text.items ≡ true → EndsCombination c [] (Some after)
+blanks_are_ignored c after opened before blank =
     let none : texts_after (Some after) c.text.items ≡ [] =
-    single after c.text.items opened.no_semicolon ∙ ap (λ b. if b then [] else c.text.items ∷ []) blank in
+    texts_after_single after c.text.items opened.no_semicolon ∙ ap (λ b. if b then [] else c.text.items ∷ []) blank in
     subst (λ t. TextsCombine c.operation c.choice c.before t (Some after)) (sym (append-nil c.text.items))
     (subst (λ b. TextsCombine c.operation c.choice b c.text.items (Some after)) (sym before)
     (record {

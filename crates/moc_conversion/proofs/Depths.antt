@@ -124,12 +124,12 @@ texts_fit operation choice before (text ∷ texts) after fit (parsed, represents
     texts_fit operation choice (Some (combine_next operation before parsed)) texts after
     (combined_after operation choice before parsed fit (parsed_fit choice text parsed represents)) later
 
-all_written : (choice : FormatChoice) (parsed : ParsedCoverage) → AreFit choice parsed → IsTooCoarse parsed.set parsed.moc_order → ⊥
-all_written Auto parsed fit = not_too_coarse parsed.set parsed.moc_order fit
-all_written (Named format) parsed fit = fit_written format parsed.set parsed.moc_order fit
+format_fits_set : (choice : FormatChoice) (parsed : ParsedCoverage) → AreFit choice parsed → IsTooCoarse parsed.set parsed.moc_order → ⊥
+format_fits_set Auto parsed fit = not_too_coarse parsed.set parsed.moc_order fit
+format_fits_set (Named format) parsed fit = fit_written format parsed.set parsed.moc_order fit
 
 -- the combination of texts can be written
 pub together_written : (operation : Operation) (choice : FormatChoice) (source source' : SourceState) (parsed : ParsedCoverage)
     → IsInputCombination operation choice source source' parsed → IsTooCoarse parsed.set parsed.moc_order → ⊥
 together_written operation choice source source' parsed (given, consumed, (at_end, within, combines)) =
-    all_written choice parsed (texts_fit operation choice None (texts_of given) (Some parsed) tt combines)
+    format_fits_set choice parsed (texts_fit operation choice None (texts_of given) (Some parsed) tt combines)

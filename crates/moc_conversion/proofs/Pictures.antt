@@ -25,11 +25,11 @@ abbrev text_after : List ℕ → Option (List ℕ)
 text_after following = if are_blanks following then None else Some following
 
 -- bytes without a semicolon are one text
-pub alone_first : (bytes : List ℕ) → HasNoSemicolon bytes → before_first is_semicolon bytes ≡ bytes
-alone_first bytes no_semicolon = ap (λ n. take n bytes) (no_place bytes no_semicolon) ∙ take_all (length bytes) bytes (omega arith)
+pub first_text_without_semicolon : (bytes : List ℕ) → HasNoSemicolon bytes → before_first is_semicolon bytes ≡ bytes
+first_text_without_semicolon bytes no_semicolon = ap (λ n. take n bytes) (no_place bytes no_semicolon) ∙ take_all (length bytes) bytes (omega arith)
 
-pub alone_second : (bytes : List ℕ) → HasNoSemicolon bytes → second_text bytes ≡ None
-alone_second bytes no_semicolon =
+pub second_text_without_semicolon : (bytes : List ℕ) → HasNoSemicolon bytes → second_text bytes ≡ None
+second_text_without_semicolon bytes no_semicolon =
     ap text_after (ap (λ n. drop (n + 1) bytes) (no_place bytes no_semicolon) ∙ drop_all (length bytes + 1) bytes (omega arith))
 
 -- and others are split at the first one

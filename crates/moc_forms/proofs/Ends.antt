@@ -9,15 +9,15 @@ use Rattle.std.proofs.lemmas.List.Sums.{suffix_len-le-length, suffix_len-take_no
 use Rattle.std.proofs.lemmas.List.Splits.{slice_split_first, slice_split-cons_no}
 use Rattle.moc_text.specs.Lines.{is_line_feed, lines_of}
 
-ended : (p : ℕ → Bool) (xs : List ℕ) → length (after_last p xs) ≡ suffix_len (λ x. not (p x)) xs
-ended p xs = omega (arith, suffix_len-le-length (λ x. not (p x)) xs, length-drop (length xs - suffix_len (λ x. not (p x)) xs) xs)
+length_after_last : (p : ℕ → Bool) (xs : List ℕ) → length (after_last p xs) ≡ suffix_len (λ x. not (p x)) xs
+length_after_last p xs = omega (arith, suffix_len-le-length (λ x. not (p x)) xs, length-drop (length xs - suffix_len (λ x. not (p x)) xs) xs)
 
 -- one byte more, which passes the test
 pub ended_here : (p : ℕ → Bool) (xs : List ℕ) (i d : ℕ) → i < length xs → p (get_or xs i d) ≡ true → length (after_last p (take (i + 1) xs)) ≡ 0
 ended_here p xs i d low passes =
     let same : i + 1 - 1 ≡ i = omega arith in
     let no : not (p (get_or xs (i + 1 - 1) d)) ≡ false = ap (λ k. not (p (get_or xs k d))) same ∙ ap not passes in
-    ended p (take (i + 1) xs) ∙ suffix_len-take_no (λ x. not (p x)) xs (i + 1) d (omega arith) (omega arith) no
+    length_after_last p (take (i + 1) xs) ∙ suffix_len-take_no (λ x. not (p x)) xs (i + 1) d (omega arith) (omega arith) no
 
 pub ended_before : (p : ℕ → Bool) (xs : List ℕ) (i d : ℕ) → i < length xs → p (get_or xs i d) ≡ false
     → length (after_last p (take (i + 1) xs)) ≡ length (after_last p (take i xs)) + 1
@@ -26,14 +26,14 @@ ended_before p xs i d low fails =
     let yes : not (p (get_or xs (i + 1 - 1) d)) ≡ true = ap (λ k. not (p (get_or xs k d))) same ∙ ap not fails in
     let more : suffix_len (λ x. not (p x)) (take (i + 1) xs) ≡ 1 + suffix_len (λ x. not (p x)) (take (i + 1 - 1) xs) =
     suffix_len-take_yes (λ x. not (p x)) xs (i + 1) d (omega arith) (omega arith) yes in
-    omega (arith, ended p (take (i + 1) xs), ended p (take i xs), more, ap (λ k. suffix_len (λ x. not (p x)) (take k xs)) same)
+    omega (arith, length_after_last p (take (i + 1) xs), length_after_last p (take i xs), more, ap (λ k. suffix_len (λ x. not (p x)) (take k xs)) same)
 
 -- the bytes around a position inside a text
 round_within : (p : ℕ → Bool) (text : List ℕ) (n k j : ℕ) → n ≤ length text → k ≡ length (after_last p (take n text)) → j ≡ position_or_len p (drop n text)
     → take (n + j - (n - k)) (drop (n - k) text) ≡ after_last p (take n text) ++ before_first p (drop n text)
 round_within p text n k j within following before =
     let size : length (take n text) ≡ n = length-take-le n text within in
-    let last : k ≡ suffix_len (λ x. not (p x)) (take n text) = following ∙ ended p (take n text) in
+    let last : k ≡ suffix_len (λ x. not (p x)) (take n text) = following ∙ length_after_last p (take n text) in
     let less : k ≤ n = omega (arith, suffix_len-le-length (λ x. not (p x)) (take n text)) in
     let m = n - k in
     let whole : m + k ≡ n = omega arith in
@@ -46,9 +46,9 @@ round_within p text n k j within following before =
     ∙ ap (λ l. l ++ take j (drop k (drop m text))) (sym front ∙ ends)
     ∙ ap (λ l. after_last p (take n text) ++ l) (ap (take j) back ∙ ap (λ l. take l (drop n text)) before)
 
-pub round : (p : ℕ → Bool) (text : List ℕ) (at n k j : ℕ) → n ≡ min at (length text) → k ≡ length (after_last p (take n text)) → j ≡ position_or_len p (drop n text)
+pub split_at_last : (p : ℕ → Bool) (text : List ℕ) (at n k j : ℕ) → n ≡ min at (length text) → k ≡ length (after_last p (take n text)) → j ≡ position_or_len p (drop n text)
     → take (n + j - (n - k)) (drop (n - k) text) ≡ after_last p (take at text) ++ before_first p (drop at text)
-round p text at n k j least following before =
+split_at_last p text at n k j least following before =
     let within : n ≤ length text = omega arith in
     let here = round_within p text n k j within following before in
     elim (cases_lt at (length text)) [

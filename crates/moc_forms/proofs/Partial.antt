@@ -19,9 +19,9 @@ abbrev pub partial_mark : NumberSet → ℕ → List ShadedCell
 partial_mark a i = if is_partial a i then (cell_number 7 i, shade_of a i) ∷ [] else []
 
 -- a cell of order 7 has 4^22 pixels
-size : cell_size 7 ≡ 17592186044416
+cell_size_of_order_7 : cell_size 7 ≡ 17592186044416
 unfolding cell_size
-size = refl
+cell_size_of_order_7 = refl
 
 -- the pixels of a cell of order 7 are consecutive
 in_cell : (i q : ℕ) → set.contains (span 7 i) q ≡ true → (i * 17592186044416 ≤ q) × (q < (i + 1) * 17592186044416)
@@ -29,13 +29,13 @@ in_cell i q in_span =
     let tests : (nat_lt q pixel_count && nat_eq (q / cell_size 7) i) ≡ true = sym (contains-span 7 i q) ∙ in_span in
     let cell : q / cell_size 7 ≡ i =
     eqb-true (q / cell_size 7) i (and_parts (nat_lt q pixel_count) (nat_eq (q / cell_size 7) i) tests).1 in
-    let here : q / 17592186044416 ≡ i = ap (λ w. q / w) (sym size) ∙ cell in
+    let here : q / 17592186044416 ≡ i = ap (λ w. q / w) (sym cell_size_of_order_7) ∙ cell in
     (omega arith, omega arith)
 
-both : (x y : Bool) → (x ≡ true → y ≡ true → ⊥) → (x && y) ≡ false
-both true true not_both = absurd (not_both refl refl)
-both true false not_both = refl
-both false y not_both = refl
+and_false_if_exclusive : (x y : Bool) → (x ≡ true → y ≡ true → ⊥) → (x && y) ≡ false
+and_false_if_exclusive true true not_both = absurd (not_both refl refl)
+and_false_if_exclusive true false not_both = refl
+and_false_if_exclusive false y not_both = refl
 
 -- a set has no number in an interval
 abbrev pub HasNone : NumberSet → ℕ → ℕ → Type 0
@@ -47,16 +47,16 @@ not_partial : (a : NumberSet) (i : ℕ) → HasNone a (i * 17592186044416) ((i +
 unfolding is_partial
 not_partial a i none =
     ap (λ b. b && not (set.is_subset (span 7 i) a)) (meets-none a (span 7 i) (λ q.
-    both (set.contains a q) (set.contains (span 7 i) q) (λ has in_span.
+    and_false_if_exclusive (set.contains a q) (set.contains (span 7 i) q) (λ has in_span.
     let row = in_cell i q in_span in
     none q row.0 row.1 has)))
 
 no_mark : (a : NumberSet) (i : ℕ) → is_partial a i ≡ false → partial_mark a i ≡ []
 no_mark a i lacks = ap (λ (b : Bool). if b then (cell_number 7 i, shade_of a i) ∷ [] else []) lacks
 
-kept_one : (b : Bool) (f : ℕ → ShadedCell) (i : ℕ) → map f (if b then i ∷ [] else []) ≡ (if b then f i ∷ [] else [])
-kept_one true f i = refl
-kept_one false f i = refl
+map_optional_item : (b : Bool) (f : ℕ → ShadedCell) (i : ℕ) → map f (if b then i ∷ [] else []) ≡ (if b then f i ∷ [] else [])
+map_optional_item true f i = refl
+map_optional_item false f i = refl
 
 -- the marks below the next cell
 pub partial_next : (a : NumberSet) (i : ℕ) → partial_below a (i + 1) ≡ partial_below a i ++ partial_mark a i
@@ -66,7 +66,7 @@ partial_next a i =
     let before : List ℕ = range_with_len 0 i in
     ap (λ (r : List ℕ). map f (filter (is_partial a) r)) (range_more i)
     ∙ ap (map f) (filter-append (is_partial a) before (i ∷ [])) ∙ map-append f (filter (is_partial a) before) _
-    ∙ ap (λ (t : List ShadedCell). map f (filter (is_partial a) before) ++ t) (kept_one (is_partial a i) f i)
+    ∙ ap (λ (t : List ShadedCell). map f (filter (is_partial a) before) ++ t) (map_optional_item (is_partial a i) f i)
 
 -- there is no mark between two cells if no pixel of the set is between them
 pub no_marks_between : (a : NumberSet) (i j : ℕ) → i ≤ j → HasNone a (i * 17592186044416) (j * 17592186044416)

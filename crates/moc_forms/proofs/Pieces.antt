@@ -28,7 +28,7 @@ pub text_at_error : (bytes : List ℕ) (first : JsonError) (name : ℕ) (item : 
 text_at_error bytes first name item found is has =
     subst (λ (at : Option (ℕ × Option ℕ)). MatchOption at (found ≡ None) (λ p. HasText bytes p.0 p.1 found)) is has
 
-pub stands_nowhere : (bytes : List ℕ) (first : JsonError) → None ≡ json_error_at first → IsQuotedText bytes (error.Json first) None
-stands_nowhere bytes first is =
+pub no_json_error : (bytes : List ℕ) (first : JsonError) → None ≡ json_error_at first → IsQuotedText bytes (error.Json first) None
+no_json_error bytes first is =
     let none : Option (List ℕ) = None in
     subst (λ (at : Option (ℕ × Option ℕ)). MatchOption at (none ≡ None) (λ p. HasText bytes p.0 p.1 none)) is refl

@@ -116,18 +116,12 @@ impl Format {
         ensures error { IfErr result (λ e. FormatFails self text.now e) }
     {
         match self {
-            Format::Ascii => match read_ascii(alloc, text) {
-                Ok(parsed) => Ok(parsed),
-                Err(error) => Err(FormatError::Ascii(error)),
-            },
-            Format::Json => match read_json(alloc, text) {
-                Ok(parsed) => Ok(parsed),
-                Err(error) => Err(FormatError::Json(error)),
-            },
-            Format::Uniq => match read_uniq(alloc, text) {
-                Ok(set) => Ok((set, None)),
-                Err(error) => Err(FormatError::Uniq(error)),
-            },
+            Format::Ascii => read_ascii(alloc, text).map_err(FormatError::Ascii),
+            Format::Json => read_json(alloc, text).map_err(FormatError::Json),
+            Format::Uniq => {
+                let set = read_uniq(alloc, text).map_err(FormatError::Uniq)?;
+                Ok((set, None))
+            }
         }
     }
 

@@ -68,13 +68,13 @@ pub following-nothing : (commands : List Command) (r : Result (List Command) Lin
 following-nothing commands (Ok later) none = rw none refl
 following-nothing commands (Err error) none = refl
 
-push : (commands : List Command) (command : Command) (later : Result (List Command) LineError) → following commands (first_then (Ok command) later) ≡ following (commands ++ command ∷ []) later
-push commands command (Ok later) = ap {B = Result (List Command) LineError} (λ l. Ok l) (sym (append_assoc commands (command ∷ []) later))
-push commands command (Err error) = refl
+following_push : (commands : List Command) (command : Command) (later : Result (List Command) LineError) → following commands (first_then (Ok command) later) ≡ following (commands ++ command ∷ []) later
+following_push commands command (Ok later) = ap {B = Result (List Command) LineError} (λ l. Ok l) (sym (append_assoc commands (command ∷ []) later))
+following_push commands command (Err error) = refl
 
-pub pushed_is : {T E : Type 0} (r : Result T E) (new old more : List Command) → is_err r ≡ false → new ≡ cond (is_ok r) more old → new ≡ more
-pushed_is (Ok x) new old more none is = is
-pushed_is (Err e) new old more none is = cc
+pub pushed_if_ok : {T E : Type 0} (r : Result T E) (new old more : List Command) → is_err r ≡ false → new ≡ cond (is_ok r) more old → new ≡ more
+pushed_if_ok (Ok x) new old more none is = is
+pushed_if_ok (Err e) new old more none is = cc
 
 module _ (denotes : List ℕ → Result Command LineError) where
   -- a command and a rest
@@ -86,7 +86,7 @@ module _ (denotes : List ℕ → Result Command LineError) where
       let denotes_so : piece_command denotes (take (position_or_len is_semicolon rest) rest) ≡ Ok command = ap (λ l. piece_command denotes l) (sym (same ∙ ap (λ n. take n rest) first)) ∙ is in
       ap (λ ps. following commands (commands_of denotes ps)) (pieces-found rest (omega arith))
       ∙ ap (λ r. following commands (first_then r later)) denotes_so
-      ∙ push commands command later
+      ∙ following_push commands command later
       ∙ ap (λ n. following (commands ++ command ∷ []) (commands_of denotes (pieces_of (drop 1 (drop n rest))))) (sym first)
 
   -- the last command

@@ -23,8 +23,8 @@ within-append limit (line ∷ lines) rest each =
     take_while-cons (λ l. leb (length l) limit) line (lines ++ rest) ∙ ap (λ b. cond b (line ∷ take_while (λ l. leb (length l) limit) (lines ++ rest)) []) passes
     ∙ ap (λ l. line ∷ l) (within-append limit lines rest each.1)
 
-taken_all : (limit : ℕ) (lines : List (List ℕ)) → AreShort limit lines → take_while (is_short limit) lines ≡ lines
-taken_all limit lines each =
+take_while_all : (limit : ℕ) (lines : List (List ℕ)) → AreShort limit lines → take_while (is_short limit) lines ≡ lines
+take_while_all limit lines each =
     ap (take_while (is_short limit)) (sym (append-nil lines)) ∙ within-append limit lines [] each ∙ append-nil lines
 
 all_within : (limit : ℕ) (lines : List (List ℕ)) → AreShort limit lines → list_all (is_short limit) lines ≡ true
@@ -59,7 +59,7 @@ module _ {S : Type 0} (limit : ℕ) (rules : Rules S) where
       → script_text rules limit s input ≡ answers_to rules s lines ++ closing_after rules s lines
   whole_is s input lines within is =
       ap (λ l. answers_to rules s (take_while (is_short limit) l) ++ closing_text s l) is
-      ∙ ap (λ l. answers_to rules s l ++ closing_text s lines) (taken_all limit lines within)
+      ∙ ap (λ l. answers_to rules s l ++ closing_text s lines) (take_while_all limit lines within)
       ∙ ap (λ b. answers_to rules s lines ++ cond b (closing_after rules s lines) []) (all_within limit lines within)
 
   -- the output is a prefix of the text, whatever follows the bytes that were given

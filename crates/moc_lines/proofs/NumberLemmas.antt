@@ -16,13 +16,13 @@ use Rattle.std.proofs.Math.Nat.{pow-le-pow_right}
 use Rattle.std.proofs.lemmas.Nat.{pow-add}
 use Rattle.moc_lines.specs.Language.{decimal_value, is_line_blank, word_of, after_word, without_blanks}
 
-both : (a b : Bool) → a && b ≡ true → (a ≡ true) × (b ≡ true)
-both true b h = (refl, h)
-both false b h = cc
+both_true : (a b : Bool) → a && b ≡ true → (a ≡ true) × (b ≡ true)
+both_true true b h = (refl, h)
+both_true false b h = cc
 
 is_digit : (d : ℕ) → is_ascii_digit d ≡ true → IsInRange 48 57 d
 is_digit d h =
-    let p = both (leb 48 d) (leb d 57) h in
+    let p = both_true (leb 48 d) (leb d 57) h in
     (leb-true 48 d p.0, leb-true d 57 p.1)
 
 -- a field with another byte is not a number
@@ -79,14 +79,14 @@ digit-no-blank d digit =
 digits-no-blank : (line : List ℕ) → list_all is_ascii_digit line ≡ true → position_or_len is_line_blank line ≡ length line
 digits-no-blank [] all = refl
 digits-no-blank (x ∷ line) all =
-    let parts = both (is_ascii_digit x) (list_all is_ascii_digit line) all in
+    let parts = both_true (is_ascii_digit x) (list_all is_ascii_digit line) all in
     rw (digit-no-blank x parts.0) (omega (arith, digits-no-blank line parts.1))
 
 -- a line of digits is its own first word, and nothing follows
 word-plain : (line : List ℕ) → 0 < length line → list_all is_ascii_digit line ≡ true → (word_of line ≡ line) × (after_word line ≡ [])
 word-plain [] some all = absurd (omega arith)
 word-plain (x ∷ line) some all =
-    let parts = both (is_ascii_digit x) (list_all is_ascii_digit line) all in
+    let parts = both_true (is_ascii_digit x) (list_all is_ascii_digit line) all in
     let other = digit-no-blank x parts.0 in
     let front : without_blanks (x ∷ line) ≡ x ∷ line = rw other refl in
     let word : word_of (x ∷ line) ≡ x ∷ line =
@@ -94,13 +94,13 @@ word-plain (x ∷ line) some all =
     (word, ap (λ w. drop (length w) (without_blanks (x ∷ line))) word ∙ ap (drop (length (x ∷ line))) front ∙ drop_all (length (x ∷ line)) (x ∷ line) (omega arith))
 
 -- a field with a number consists of digits
-spelled : (b c : Bool) (n v : ℕ) → Some n ≡ cond (b && c) (Some v) None → (b ≡ true) × (c ≡ true)
-spelled true true n v is = (refl, refl)
-spelled true false n v is = cc
-spelled false c n v is = cc
+both_conditions_of_some : (b c : Bool) (n v : ℕ) → Some n ≡ cond (b && c) (Some v) None → (b ≡ true) × (c ≡ true)
+both_conditions_of_some true true n v is = (refl, refl)
+both_conditions_of_some true false n v is = cc
+both_conditions_of_some false c n v is = cc
 
 -- a line with a number is one word
 pub word-alone : (line : List ℕ) (n : ℕ) → Some n ≡ decimal_value line → (word_of line ≡ line) × (after_word line ≡ [])
 word-alone line n is =
-    let digits = spelled (ltb 0 (length line)) (list_all is_ascii_digit line) n (digits_value 10 line) is in
+    let digits = both_conditions_of_some (ltb 0 (length line)) (list_all is_ascii_digit line) n (digits_value 10 line) is in
     word-plain line (ltb-true 0 (length line) digits.0) digits.1

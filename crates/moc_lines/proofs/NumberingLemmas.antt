@@ -61,8 +61,8 @@ cell_with_number-none v k n none =
     (λ j below above. let other = none j (omega (arith, above)) in grind (arith, nat_tests, other))
 
 -- the result for a number that some cell has
-found : (v : Numbering) (k n i : ℕ) → cell_with_number v k n ≡ Some i → cell_or_error v k n ≡ Ok i
-found v k n i is = ap (λ c. ok_or c (number_error v n)) is
+cell_with_number_is_ok : (v : Numbering) (k n i : ℕ) → cell_with_number v k n ≡ Some i → cell_or_error v k n ≡ Ok i
+cell_with_number_is_ok v k n i is = ap (λ c. ok_or c (number_error v n)) is
 
 -- the error for a number that no cell has
 no_cell : (v : Numbering) (k n : ℕ) (error : NumberError) → cell_with_number v k n ≡ None → error ≡ number_error v n
@@ -70,8 +70,8 @@ no_cell : (v : Numbering) (k n : ℕ) (error : NumberError) → cell_with_number
 no_cell v k n error none is = ap (λ c. ok_or c (number_error v n)) none ∙ ap (λ (f : NumberError). Err f) (sym is)
 
 -- the nested numbers of an order are those below the number of its cells
-nested : (k n : ℕ) → n < cell_count k → cell_with_number Nest k n ≡ Some n
-nested k n high = cell_with_number-some Nest k n n high refl (λ j below is. is)
+cell_of_nested_number : (k n : ℕ) → n < cell_count k → cell_with_number Nest k n ≡ Some n
+cell_of_nested_number k n high = cell_with_number-some Nest k n n high refl (λ j below is. is)
 
 not_nested : (k n : ℕ) → cell_count k ≤ n → cell_with_number Nest k n ≡ None
 not_nested k n high = cell_with_number-none Nest k n (λ j below is. omega (arith, below, high, is))
@@ -80,7 +80,7 @@ not_nested k n high = cell_with_number-none Nest k n (λ j below is. omega (arit
 pub nested_result : {E : Type 0} (k n : ℕ) (r : Result CellNumber E) (s : Result CellNumber NumberError)
     → s ≡ result_or r (Err CellTooLarge) → OkIff r (n < cell_count k) (cell_number k n) → FindsCell Nest k n s
 nested_result k n (Ok cell) s e is =
-    let number = found Nest k n n (nested k n is.0) in
+    let number = cell_with_number_is_ok Nest k n n (cell_of_nested_number k n is.0) in
     let cell_is = subst (λ (c : CellNumber). FindsCell Nest k n (Ok c)) (sym is.1) (refl, number) in
     subst (FindsCell Nest k n) (sym e) cell_is
 nested_result k n (Err why) s e not =
@@ -104,7 +104,7 @@ ring_result k n (Ok cell) s e is only =
     let below : cell.index < cell_count k = subst (λ k. cell.index < cell_count k) is.0 is.1.index_in_range in
     let number = cell_with_number-some Ring k n cell.index below is.2
     (λ j high has. sym (ap result_index (only j high has))) in
-    subst (FindsCell Ring k n) (sym e) (is.0, found Ring k n cell.index number)
+    subst (FindsCell Ring k n) (sym e) (is.0, cell_with_number_is_ok Ring k n cell.index number)
 ring_result k n (Err why) s e is only =
     let none = cell_with_number-none Ring k n (λ j high has. true≢false (sym (ap is_ok (only j high has)))) in
     subst (FindsCell Ring k n) (sym e) (no_cell Ring k n RingTooLarge none refl)
@@ -116,7 +116,7 @@ uniq k n cell is has same =
     let high : cell.index < cell_count k = subst (λ k. cell.index < cell_count k) same is.index_in_range in
     let number : 4 ^ (k + 1) + cell.index ≡ n = subst (λ k. 4 ^ (k + 1) + cell.index ≡ n) same has in
     let is_found = cell_with_number-some Uniq k n cell.index high number (λ j below other. omega (arith, number, other)) in
-    found Uniq k n cell.index is_found
+    cell_with_number_is_ok Uniq k n cell.index is_found
 
 -- the NUNIQ number of a cell of another order
 pub other_uniq : {E : Type 0} (k n : ℕ) (cell : CellNumber) → k ≤ 29 → (4 ≤ n) × (n < 2 ^ 62)
@@ -160,8 +160,8 @@ number_range Ring k j small below =
 number_range Uniq k j small below = omega (arith, (uniq_range k j small below).1)
 
 -- no cell has a greater number
-far : (v : Numbering) (k n : ℕ) → k ≤ 29 → 2 ^ 64 - 1 ≤ n → cell_with_number v k n ≡ None
-far v k n small high = cell_with_number-none v k n (λ j below has. omega (arith, number_range v k j small below, has, high))
+no_cell_with_largest_number : (v : Numbering) (k n : ℕ) → k ≤ 29 → 2 ^ 64 - 1 ≤ n → cell_with_number v k n ≡ None
+no_cell_with_largest_number v k n small high = cell_with_number-none v k n (λ j below has. omega (arith, number_range v k j small below, has, high))
 
 far_error : (v : Numbering) (n : ℕ) → 2 ^ 64 - 1 ≤ n → number_error v n ≡ number_error v (2 ^ 64 - 1)
 far_error Nest n high = refl
@@ -169,24 +169,24 @@ far_error Ring n high = refl
 far_error Uniq n high = grind (arith, nat_tests, high)
 
 -- a number saturated at 64 bits gives the same cell or error
-saturated_alike : (v : Numbering) (k n : ℕ) → k ≤ 29 → cell_or_error v k (min n (2 ^ 64 - 1)) ≡ cell_or_error v k n
-saturated_alike v k n small =
+saturated_same_result : (v : Numbering) (k n : ℕ) → k ≤ 29 → cell_or_error v k (min n (2 ^ 64 - 1)) ≡ cell_or_error v k n
+saturated_same_result v k n small =
     elim (cases_lt n (2 ^ 64 - 1)) [
       | inl low ↦ let held : min n (2 ^ 64 - 1) ≡ n = omega (arith, low) in ap (cell_or_error v k) held
       | inr high ↦
           let held : min n (2 ^ 64 - 1) ≡ 2 ^ 64 - 1 = omega (arith, high) in
           ap (cell_or_error v k) held
-          ∙ no_cell v k (2 ^ 64 - 1) (number_error v n) (far v k (2 ^ 64 - 1) small (omega arith)) (far_error v n high)
-          ∙ sym (no_cell v k n (number_error v n) (far v k n small high) refl)
+          ∙ no_cell v k (2 ^ 64 - 1) (number_error v n) (no_cell_with_largest_number v k (2 ^ 64 - 1) small (omega arith)) (far_error v n high)
+          ∙ sym (no_cell v k n (number_error v n) (no_cell_with_largest_number v k n small high) refl)
     ]
 
 -- a saturated number gives the same result
 saturated_result : (r : Renumbering) (read : Result ℕ NumberError) → r.order ≤ 29
     → (result_map_both (λ n. min n (2 ^ 64 - 1)) (λ error. error) read >>= converted_number r) ≡ (read >>= converted_number r)
 saturated_result r (Err error) small = refl
-saturated_result r (Ok n) small = ap (λ c. c >>= (λ i. Ok (cell_number_in r.to r.order i))) (saturated_alike r.from r.order n small)
+saturated_result r (Ok n) small = ap (λ c. c >>= (λ i. Ok (cell_number_in r.to r.order i))) (saturated_same_result r.from r.order n small)
 
 -- the result if such a number was read
-pub tells : (r : Renumbering) (read : Result ℕ NumberError) (n : ℕ) → r.order ≤ 29
+pub converted_by_bind : (r : Renumbering) (read : Result ℕ NumberError) (n : ℕ) → r.order ≤ 29
     → Ok n ≡ result_map_both (λ n. min n (2 ^ 64 - 1)) (λ error. error) read → converted_number r n ≡ (read >>= converted_number r)
-tells r read n small held = ap (λ c. c >>= converted_number r) held ∙ saturated_result r read small
+converted_by_bind r read n small held = ap (λ c. c >>= converted_number r) held ∙ saturated_result r read small

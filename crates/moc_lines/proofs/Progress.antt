@@ -23,7 +23,7 @@ use Rattle.moc_lines.specs.declared.line_reader.LineKind.TheVariants.{Line, Last
 use Rattle.moc_lines.specs.declared.run_error.RunError.TheVariants.{Read, Write, LineTooLong, Memory, Spawn}
 use Rattle.moc_lines.proofs.LineLemmas.{count-append, some-lines, count-cons, lines_of-line, lines_of-last}
 use Rattle.moc_lines.proofs.LineLemmas.{lines_of-long, not_true, split_at_line_feed}
-use Rattle.moc_lines.proofs.Outcomes.{at_ok}
+use Rattle.moc_lines.proofs.Outcomes.{at_ok, error_passed_to_outcome}
 use Rattle.moc_lines.proofs.Turns.{HasNotEnded-later}
 
 -- lines, each with its line feed
@@ -272,15 +272,19 @@ module _ {S : Type 0} (limit : ℕ) (rules : Rules S) where
         (λ e. e)
 
     -- there is no line
-    pub Ended-error : (f : RunError) → ReadsLine limit held b held' c (Err f) → IsOfLine number f → (pending' : List ℕ) → pending' ≡ pending → Ended limit rules s a c w v pending' (Err f)
-    Ended-error Read t of pending' same = subst (λ (q : List ℕ). Ended limit rules s a c w v q (Err Read)) (sym same) (read t)
-    Ended-error (LineTooLong line) t of pending' same =
+    at_error : (f : RunError) → ReadsLine limit held b held' c (Err f) → IsOfLine number f → (pending' : List ℕ) → pending' ≡ pending → Ended limit rules s a c w v pending' (Err f)
+    at_error Read t of pending' same = subst (λ (q : List ℕ). Ended limit rules s a c w v q (Err Read)) (sym same) (read t)
+    at_error (LineTooLong line) t of pending' same =
         subst (λ (n : ℕ). Ended limit rules s a c w v pending' (Err (LineTooLong n))) (sym of)
         (subst (λ (q : List ℕ). Ended limit rules s a c w v q (Err (LineTooLong number))) (sym same) (long line t))
-    Ended-error (Memory line) t of pending' same =
+    at_error (Memory line) t of pending' same =
         subst (λ (n : ℕ). Ended limit rules s a c w v pending' (Err (Memory n))) (sym of) (memory t.0 t.1 (λ _. t.2) pending' same)
-    Ended-error Write t of pending' same = absurd of
-    Ended-error Spawn t of pending' same = absurd of
+    at_error Write t of pending' same = absurd of
+    at_error Spawn t of pending' same = absurd of
+
+    pub Ended-error : (r : Result (Unit {0}) RunError) (f : RunError) → IsErrAnd r (λ e. e ≡ f) → ReadsLine limit held b held' c (Err f) → IsOfLine number f → (pending' : List ℕ) → pending' ≡ pending
+        → Ended limit rules s a c w v pending' r
+    Ended-error r f passed t of pending' same = error_passed_to_outcome r f (λ (q : Result (Unit {0}) RunError). Ended limit rules s a c w v pending' q) passed (at_error f t of pending' same)
 
     -- there is no line
     pub ReachedEnd-nothing : ReadsLine limit held b held' c (Ok EndOfInput) → ReachedEnd s now a c w v pending number

@@ -39,8 +39,8 @@ pub Turn-none : (limit : ℕ) (old now : ReaderState) (a b : SourceState) (turn 
 Turn-none limit old now a b turn none = turn.parts ∙ ap (λ l. now.line ++ l) none ∙ append-nil now.line
 
 -- the line with the bytes before the first line feed
-grown : (line bytes : List ℕ) → HasNoLineFeed line → HasNoLineFeed (line ++ before_first is_line_feed bytes)
-grown line bytes unbroken = count-append line (before_first is_line_feed bytes) ∙ omega (arith, unbroken, HasNoLineFeed-before_first bytes)
+no_line_feed_after_append : (line bytes : List ℕ) → HasNoLineFeed line → HasNoLineFeed (line ++ before_first is_line_feed bytes)
+no_line_feed_after_append line bytes unbroken = count-append line (before_first is_line_feed bytes) ∙ omega (arith, unbroken, HasNoLineFeed-before_first bytes)
 
 -- the state after the line reader has moved a part
 pub record MovesPart (limit : ℕ) (now next : ReaderState) : Type 0 where
@@ -54,7 +54,7 @@ Turn-line limit old now next a b turn parted found = (
   turn.consumed,
   (
     turn.parts ∙ ap (λ l. now.line ++ l) (split_at_line_feed now.unread found) ∙ sym (append_assoc now.line (before_first is_line_feed now.unread) (10 ∷ after_first is_line_feed now.unread)) ∙ ap (λ l. l ++ 10 ∷ after_first is_line_feed now.unread) (sym parted.line) ∙ ap (λ l. next.line ++ 10 ∷ l) (sym parted.unread),
-    ap (count_by is_line_feed) parted.line ∙ grown now.line now.unread turn.unbroken,
+    ap (count_by is_line_feed) parted.line ∙ no_line_feed_after_append now.line now.unread turn.unbroken,
     parted.within,
   ),
 )
@@ -64,7 +64,7 @@ Turn-more limit old now next a b turn parted none = record {
   came = turn.came;
   consumed = turn.consumed;
   parts = turn.parts ∙ ap (λ l. now.line ++ l) (sym (before_first-none now.unread none)) ∙ sym parted.line ∙ sym (append-nil next.line) ∙ ap (λ l. next.line ++ l) (sym (parted.unread ∙ after_first-none now.unread none));
-  unbroken = ap (count_by is_line_feed) parted.line ∙ grown now.line now.unread turn.unbroken;
+  unbroken = ap (count_by is_line_feed) parted.line ∙ no_line_feed_after_append now.line now.unread turn.unbroken;
   within = parted.within;
 }
 
@@ -76,7 +76,7 @@ Turn-too_long limit old now next a b turn number long = (
     now.line ++ before_first is_line_feed now.unread,
     drop (position_or_len is_line_feed now.unread) now.unread,
     turn.parts ∙ ap (λ l. now.line ++ l) (sym (take-append-drop (position_or_len is_line_feed now.unread) now.unread)) ∙ sym (append_assoc now.line (before_first is_line_feed now.unread) _),
-    grown now.line now.unread turn.unbroken,
+    no_line_feed_after_append now.line now.unread turn.unbroken,
     rw length-append (omega (arith, long, length-take (position_or_len is_line_feed now.unread) now.unread, prefix_len-le-length (λ x. not (is_line_feed x)) now.unread)),
   ),
 )

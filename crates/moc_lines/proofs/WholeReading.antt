@@ -13,29 +13,29 @@ use Rattle.moc_lines.specs.Private.Input.{IsScriptState, IsAfterLastFeed}
 use Rattle.moc_lines.proofs.LineLemmas.{not_true, count-append, count-cons, some-lines, lines_of-line, lines_of-last, lines_of-long, HasNoLineFeed-before_first, split_at_line_feed, before_first-none}
 
 -- what holds of the elements of two lists
-both : {X : Type 0} (P : X → Type 0) (xs ys : List X) → AllByRecursion P xs → AllByRecursion P ys → AllByRecursion P (xs ++ ys)
-both P [] ys left right = right
-both P (x ∷ xs) ys left right = (left.0, both P xs ys left.1 right)
+all_of_append : {X : Type 0} (P : X → Type 0) (xs ys : List X) → AllByRecursion P xs → AllByRecursion P ys → AllByRecursion P (xs ++ ys)
+all_of_append P [] ys left right = right
+all_of_append P (x ∷ xs) ys left right = (left.0, all_of_append P xs ys left.1 right)
 
-weaker : (m n : ℕ) (lines : List (List ℕ)) → m ≤ n → AreShort m lines → AreShort n lines
-weaker m n [] less within = tt
-weaker m n (line ∷ lines) less within = (let low = within.0 in omega arith, weaker m n lines less within.1)
+short_with_larger_limit : (m n : ℕ) (lines : List (List ℕ)) → m ≤ n → AreShort m lines → AreShort n lines
+short_with_larger_limit m n [] less within = tt
+short_with_larger_limit m n (line ∷ lines) less within = (let low = within.0 in omega arith, short_with_larger_limit m n lines less within.1)
 
 onto : (n b : ℕ) (lines : List (List ℕ)) → AreShort n lines → AreShort (suc n) (onto_first b lines)
 onto n b [] within = (omega arith, tt)
-onto n b (line ∷ lines) within = ((let low = within.0 in omega arith), weaker n (suc n) lines (omega arith) within.1)
+onto n b (line ∷ lines) within = ((let low = within.0 in omega arith), short_with_larger_limit n (suc n) lines (omega arith) within.1)
 
 -- no line is longer than the text
 lines_fit : (text : List ℕ) → AreShort (length text) (lines_of text)
 lines_fit [] = tt
 lines_fit (b ∷ text) = elim (is_line_feed b) as (λ v. AreShort (suc (length text)) (cond v ([] ∷ lines_of text) (onto_first b (lines_of text)))) [
-  | true ↦ (omega arith, weaker (length text) (suc (length text)) (lines_of text) (omega arith) (lines_fit text))
+  | true ↦ (omega arith, short_with_larger_limit (length text) (suc (length text)) (lines_of text) (omega arith) (lines_fit text))
   | false ↦ onto (length text) b (lines_of text) (lines_fit text)
 ]
 
 -- lines of a text that is no longer than the limit
 pub lines_within : (limit : ℕ) (text : List ℕ) → length text ≤ limit → AreShort limit (lines_of text)
-lines_within limit text short = weaker (length text) limit (lines_of text) short (lines_fit text)
+lines_within limit text short = short_with_larger_limit (length text) limit (lines_of text) short (lines_fit text)
 
 onto-append : (b : ℕ) (lines more : List (List ℕ)) → 0 < length lines → onto_first b (lines ++ more) ≡ onto_first b lines ++ more
 onto-append b [] more some = absurd (omega arith)
@@ -147,7 +147,7 @@ module _ (bytes chunk : List ℕ) (start : ℕ) (held : IsScriptState bytes star
               ap (count_by is_line_feed) cut,
               count-append (last.front ++ 10 ∷ []) tail,
             );
-        within = both (λ line. length line ≤ 1048576) held.lines (lines_of (ended ++ 10 ∷ [])) held.within
+        within = all_of_append (λ line. length line ≤ 1048576) held.lines (lines_of (ended ++ 10 ∷ [])) held.within
             (front_of_both (λ line. length line ≤ 1048576) (lines_of (ended ++ 10 ∷ [])) (lines_of tail) (subst (AreShort 1048576) whole all));
         unfinished_line = ap (count_by is_line_feed) unfinished_line ∙ last.unbroken;
         short = omega (arith, small, ap length unfinished_line, length-drop place chunk);
@@ -184,13 +184,13 @@ pub script_short : (bytes : List ℕ) (start : ℕ) → IsScriptState bytes star
 script_short bytes start held =
     let part = drop start bytes in
     let lines : lines_of bytes ≡ held.lines ++ lines_of part = ap lines_of (sym (append-nil bytes)) ∙ held.front [] ∙ ap (λ l. held.lines ++ lines_of l) (append-nil part) in
-    subst (AreShort 1048576) (sym lines) (both (λ line. length line ≤ 1048576) held.lines (lines_of part) held.within (lines_within 1048576 part held.short))
+    subst (AreShort 1048576) (sym lines) (all_of_append (λ line. length line ≤ 1048576) held.lines (lines_of part) held.within (lines_within 1048576 part held.short))
 
 -- if no byte is a line feed, their number is zero
-unbroken_by : (bytes : List ℕ) → ((k : ℕ) → k < length bytes → is_line_feed (get_or bytes k 0) ≡ true → ⊥) → HasNoLineFeed bytes
-unbroken_by [] none = refl
-unbroken_by (b ∷ bytes) none =
-    count-cons b bytes ∙ omega (arith, unbroken_by bytes (λ k low is. none (suc k) (omega arith) is), ap {B = ℕ} (λ v. cond v 1 0) (not_true (is_line_feed b) (none 0 (omega arith))))
+no_line_feed_by_index : (bytes : List ℕ) → ((k : ℕ) → k < length bytes → is_line_feed (get_or bytes k 0) ≡ true → ⊥) → HasNoLineFeed bytes
+no_line_feed_by_index [] none = refl
+no_line_feed_by_index (b ∷ bytes) none =
+    count-cons b bytes ∙ omega (arith, no_line_feed_by_index bytes (λ k low is. none (suc k) (omega arith) is), ap {B = ℕ} (λ v. cond v 1 0) (not_true (is_line_feed b) (none 0 (omega arith))))
 
 -- the position after the last line feed
 pub after_last_feed : (bytes : List ℕ) (at : ℕ) → at < length bytes → is_line_feed (get_or bytes at 0) ≡ true → ((k : ℕ) → at + 1 ≤ k → k < length bytes → is_line_feed (get_or bytes k 0) ≡ true → ⊥)
@@ -198,14 +198,14 @@ pub after_last_feed : (bytes : List ℕ) (at : ℕ) → at < length bytes → is
 after_last_feed bytes at inside here after = record {
   front = take at bytes;
   ends = take_more bytes at 0 inside ∙ ap (λ (b : ℕ). take at bytes ++ b ∷ []) (eqb-true _ _ here);
-  unbroken = unbroken_by (drop (at + 1) bytes) (λ k low is.
+  unbroken = no_line_feed_by_index (drop (at + 1) bytes) (λ k low is.
       after (at + 1 + k) (omega arith) (omega (arith, low, length-drop (at + 1) bytes)) (ap is_line_feed (sym (get_or-drop (at + 1) bytes k 0)) ∙ is));
   inside = omega arith;
 }
 
 -- a line feed follows the first line
-pub split_found : (text line rest : List ℕ) (x n : ℕ) → n ≡ position_or_len is_line_feed text → line ≡ take n text → drop n text ≡ x ∷ rest → lines_of text ≡ line ∷ lines_of rest
-split_found text line rest x n place line_is following =
+pub lines_split_at_line_feed : (text line rest : List ℕ) (x n : ℕ) → n ≡ position_or_len is_line_feed text → line ≡ take n text → drop n text ≡ x ∷ rest → lines_of text ≡ line ∷ lines_of rest
+lines_split_at_line_feed text line rest x n place line_is following =
     let found : position_or_len is_line_feed text < length text = omega (arith, place, ap length following, length-drop n text) in
     let before : line ≡ before_first is_line_feed text = line_is ∙ ap (λ k. take k text) place in
     let after : rest ≡ after_first is_line_feed text = ap (drop 1) (sym following) ∙ drop-drop 1 n text ∙ ap (λ k. drop (k + 1) text) place in
@@ -238,18 +238,18 @@ some_line_feed bytes found =
     omega (arith, ap (count_by is_line_feed) (split_at_line_feed bytes found), count-append before (10 ∷ after), count-cons 10 after)
 
 -- if no byte is a line feed, the search has no result
-pub no_feed : (bytes : List ℕ) → ((k : ℕ) → k < length bytes → is_line_feed (get_or bytes k 0) ≡ true → ⊥) → length bytes ≤ position_or_len is_line_feed bytes
-no_feed bytes none = elim (cases_lt (position_or_len is_line_feed bytes) (length bytes)) [
-  | inl found ↦ absurd (omega (arith, some_line_feed bytes found, unbroken_by bytes none))
+pub no_line_feed_until_end : (bytes : List ℕ) → ((k : ℕ) → k < length bytes → is_line_feed (get_or bytes k 0) ≡ true → ⊥) → length bytes ≤ position_or_len is_line_feed bytes
+no_line_feed_until_end bytes none = elim (cases_lt (position_or_len is_line_feed bytes) (length bytes)) [
+  | inl found ↦ absurd (omega (arith, some_line_feed bytes found, no_line_feed_by_index bytes none))
   | inr past ↦ past
 ]
 
 -- more was given
-pub given_more : (a b c : SourceState) (bytes chunk bytes' : List ℕ) → Delivers a b bytes → Delivers b c chunk → bytes' ≡ bytes ++ chunk → Delivers a c bytes'
-given_more a b c bytes chunk bytes' given more is = subst (Delivers a c) (sym is) (Delivers-trans a b c bytes chunk given more)
+pub delivers_more : (a b c : SourceState) (bytes chunk bytes' : List ℕ) → Delivers a b bytes → Delivers b c chunk → bytes' ≡ bytes ++ chunk → Delivers a c bytes'
+delivers_more a b c bytes chunk bytes' given more is = subst (Delivers a c) (sym is) (Delivers-trans a b c bytes chunk given more)
 
 -- the read that gave nothing was the last
-pub given_all : (a b c : SourceState) (bytes buffer : List ℕ) (n : ℕ) → Delivers a b bytes → Delivers b c (take n buffer) → n ≡ 0 → Delivers a c bytes
-given_all a b c bytes buffer n given none zero_read =
+pub delivers_all : (a b c : SourceState) (bytes buffer : List ℕ) (n : ℕ) → Delivers a b bytes → Delivers b c (take n buffer) → n ≡ 0 → Delivers a c bytes
+delivers_all a b c bytes buffer n given none zero_read =
     let empty : take n buffer ≡ [] = ap (λ k. take k buffer) zero_read in
-    given_more a b c bytes (take n buffer) bytes given none (sym (append-nil bytes) ∙ ap (λ l. bytes ++ l) (sym empty))
+    delivers_more a b c bytes (take n buffer) bytes given none (sym (append-nil bytes) ∙ ap (λ l. bytes ++ l) (sym empty))

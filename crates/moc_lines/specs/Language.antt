@@ -255,7 +255,7 @@ module _ (denotes : List ℕ → Result Command LineError) where
   batch_of line = if nat_lt 16 (length (pieces_of line)) then Err TooManyCommands else commands_of (pieces_of line)
 
 module _ (denotes : List ℕ → Result (List Command) LineError) where
-  -- the answer to a line, with its line feed; a blank line has none
+  -- the answer to a line, with its line feed; the answer to a blank line is empty
   abbrev pub line_answer : NumberSet → List ℕ → List ℕ
   line_answer a line = if is_blank_text line then [] else answer_to a (denotes line)
 

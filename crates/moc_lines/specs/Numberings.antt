@@ -66,7 +66,7 @@ abbrev pub number_line : Result ℕ NumberError → List ℕ
 number_line (Ok n) = decimal n ++ 10 ∷ []
 number_line (Err error) = fault_report (name_of_number_error error)
 
--- the rules that answer lines of numbers; blank lines have no answer, and the closing text is empty
+-- the rules for lines of numbers; blank lines have no answer, and the closing text is empty
 abbrev pub renumber_rules : Rules Renumbering
 renumber_rules = record {
   answer = λ r line. if is_blank_text line then [] else number_line (number_of_line line >>= converted_number r);

@@ -15,7 +15,7 @@ use Rattle.moc_lines.specs.declared.run_error.RunError.TheVariants.{Read, Write,
 
 -- The answers to a script
 
--- rules that answer lines: the answer to a line, the state after a line, and the closing text after the last line
+-- rules for lines: the answer to a line, the state after a line, and the closing text after the last line
 pub record Rules (S : Type 0) : Type 0 where
   pub answer : S → List ℕ → List ℕ
   pub after : S → List ℕ → S
@@ -38,7 +38,7 @@ module _ {S : Type 0} (rules : Rules S) where
   abbrev pub closing_after : S → List (List ℕ) → List ℕ
   closing_after s lines = rules.closing (after_lines s lines)
 
-  -- the answers to a script: to its lines before the first one over the limit, and the closing text if there is none
+  -- the answers to the lines of a script before the first line over the limit; the closing text if no line is over it
   abbrev pub script_text : ℕ → S → List ℕ → List ℕ
   script_text limit s input =
       let lines = lines_of input in
@@ -81,14 +81,14 @@ whole_lines_of text = take (count_by is_line_feed text) (lines_of text)
 abbrev pub lines_before : ℕ → List ℕ → List (List ℕ)
 lines_before number text = take (number - 1) (lines_of text)
 
--- The line with this number is the first that was not answered: some of it was given, and 0 is before the first byte.
+-- The line with this number is the first without an answer: some of it was given, and 0 is before the first byte.
 -- The last number of 64 bits stands for all lines from there on.
 pub record IsUnfinishedLine (number : ℕ) (given : List ℕ) : Type 0 where
   pub none : number ≡ 0 → given ≡ []
   pub some : number < 2 ^ 64 - 1 → number ≤ length (lines_of given)
   pub next : number ≤ length (lines_of given) + 1
 
--- All lines are answered, and the closing text, which is not empty, was not made: its number is that of the line after
+-- All lines have answers, and the closing text, which is not empty, was not made: its number is that of the line after
 -- the last.
 pub record IsUnclosed (number : ℕ) (given closing : List ℕ) : Type 0 where
   pub next : number ≡ length (lines_of given) + 1

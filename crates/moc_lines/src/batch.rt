@@ -1,5 +1,5 @@
 //! The batch of commands of a line.
-ghost use Rattle.std.specs.Prelude.{◌≡◌, ◌≤◌, length, nat_lt, if◌then◌else◌, OnOk};
+ghost use Rattle.std.specs.Prelude.{◌≡◌, ◌≤◌, ◌∷◌, [], length, nat_lt, if◌then◌else◌, OnOk};
 ghost use Rattle.std.specs.List.{count_by, position_or_len};
 ghost use Rattle.moc_lines.specs.Language.{command_of, piece_command, batch_of, commands_of, ParsesAs};
 ghost use Rattle.moc_text.specs.Lines.{is_semicolon, pieces_of};
@@ -11,7 +11,7 @@ use crate::words::is_blank_text;
 use moc_parts::{Batch, Command, MAX_COMMANDS};
 use std::alloc::Global;
 
-/// Returns the position of the first semicolon of a line, or the length of the line if it has none.
+/// Returns the position of the first semicolon of a line, or the length of the line if it contains no semicolon.
 pub(crate) fn first_semicolon(line: &[u8]) -> usize
     ensures at { result ≡ position_or_len is_semicolon line.now }
     ensures within { result ≤ length line.now }
@@ -27,13 +27,21 @@ fn semicolons_in(line: &[u8]) -> usize
 }
 
 /// Parses a piece of a line.
-pub(crate) fn read_piece(alloc: Global, piece: &[u8]) -> Result<Command, LineError>
+fn read_piece(alloc: Global, piece: &[u8]) -> Result<Command, LineError>
     ensures { ParsesAs (λ command. command) result (piece_command command_of piece.now) }
 {
     if is_blank_text(piece) {
         return Err(LineError::EmptyCommand);
     }
     read_command(alloc, piece)
+}
+
+/// Parses a line without semicolons: one command.
+pub(crate) fn read_only_piece(alloc: Global, line: &[u8]) -> Result<Command, LineError>
+    requires { length line.now ≤ position_or_len is_semicolon line.now }
+    ensures { ParsesAs (λ command. command ∷ []) result (batch_of command_of line.now) }
+{
+    read_piece(alloc, line)
 }
 
 /// Parses the pieces of a line. The first piece ends at `first`. Fails if there are more than 16; the error is then
@@ -73,7 +81,7 @@ fn error_of_line(line: &[u8], error: LineError) -> LineError
     }
 }
 
-/// Parses a line that is not blank. Its first semicolon is at `first`; if it has none, `first` is its length.
+/// Parses a line that is not blank. Its first semicolon is at `first`, or `first` is the length of the line.
 pub(crate) fn read_batch_at(alloc: Global, line: &[u8], first: usize) -> Result<Batch, LineError>
     requires { first ≡ position_or_len is_semicolon line.now }
     ensures { ParsesAs (λ batch. batch) result (batch_of command_of line.now) }

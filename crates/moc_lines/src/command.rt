@@ -1,12 +1,12 @@
 //! The commands of pieces of lines.
-ghost use Rattle.std.specs.Prelude.{◌≡◌};
+ghost use Rattle.std.specs.Prelude.{◌≡◌, false};
 ghost use Rattle.moc_lines.specs.Language.{coverage_of, order_of, plain_operand_of, operand_of, invert_of, degrade_of};
 ghost use Rattle.moc_lines.specs.Language.{near_of, command_named, command_with, command_of, ParsesAs};
 ghost use Rattle.moc_lines.specs.Private.Verbs.{verb_command, word_command, near_command};
 
 use crate::error::LineError;
 use crate::fields::{only_field, two_fields};
-use crate::words::{is_blank_text, is_word, parse_decimal, split_word};
+use crate::words::{is_blank_text, is_word, parse_decimal, split_word, without_blanks};
 use moc_parts::{Command, Operand};
 use moc_ranges::Coverage;
 use moc_sphere::{Cell, Order};
@@ -42,8 +42,28 @@ fn read_plain(alloc: Global, text: &[u8]) -> Result<Operand, LineError>
     Ok(Operand { set, coarse: None })
 }
 
+/// Returns whether the first word of a text begins with `@`.
+fn has_order(text: &[u8]) -> bool
+    ensures { result ≡ false → operand_of text.now ≡ plain_operand_of text.now }
+{
+    matches!(without_blanks(text), [b'@', ..])
+}
+
 /// Parses an operand: `@` and an order before a coverage, or a coverage alone.
 fn read_operand(alloc: Global, text: &[u8]) -> Result<Operand, LineError>
+    ensures { ParsesAs (λ operand. operand) result (operand_of text.now) }
+{
+    if has_order(text) {
+        read_ordered(alloc, text)
+    } else {
+        read_plain(alloc, text)
+    }
+}
+
+/// Parses an operand, as [`read_operand`] does. This is a function of its own, because a call pays for all variables
+/// of a function: an operand without an order needs fewer.
+#[inline(never)]
+fn read_ordered(alloc: Global, text: &[u8]) -> Result<Operand, LineError>
     ensures { ParsesAs (λ operand. operand) result (operand_of text.now) }
 {
     let (word, following) = split_word(text);

@@ -2,7 +2,7 @@
 ghost use Rattle.std.specs.Prelude.{◌≡◌, ◌++◌, ◌∷◌, [], IfOk};
 ghost use Rattle.moc_lines.specs.Language.{batch_of, commands_in, command_of, ParsesAs, replies_text};
 
-use crate::batch::{first_semicolon, read_batch_at, read_piece};
+use crate::batch::{first_semicolon, read_batch_at, read_only_piece};
 use crate::error::LineError;
 use crate::reply_text::push_reply_line;
 use moc_parts::{Batch, Command, Replies};
@@ -40,7 +40,7 @@ pub fn read_commands(alloc: Global, line: &[u8]) -> Result<Commands, LineError>
     if first < line.len() {
         Ok(Commands::Several(read_batch_at(alloc, line, first)?))
     } else {
-        Ok(Commands::One(read_piece(alloc, line)?))
+        Ok(Commands::One(read_only_piece(alloc, line)?))
     }
 }
 

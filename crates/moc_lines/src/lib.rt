@@ -1,5 +1,5 @@
-//! The line languages of scripts and numbers: parsing of lines, texts of replies, and the loop that answers the lines
-//! of a reader.
+//! The line languages of scripts and numbers: parsing of lines, texts of replies, and the loop that processes the
+//! lines of a reader.
 #![tactic(auto)]
 
 mod answer;

@@ -112,8 +112,8 @@ impl LineReader {
         }
     }
 
-    /// Reads into the buffer if it is empty. Returns whether the buffer has bytes; it has none only at the end of the
-    /// input.
+    /// Reads into the buffer if it is empty. Returns whether the buffer has bytes afterwards; it is empty only at the
+    /// end of the input.
     fn fill_chunk<R: GuardedSource<W>, W>(
         &mut self,
         reader: &mut R,
@@ -159,10 +159,8 @@ impl LineReader {
                 Ok(false) => return Ok(LineKind::LastLine),
                 Err(DeviceFault) => return Err(RunError::Read),
             }
-            match self.take_part(number) {
-                Ok(true) => return Ok(LineKind::Line),
-                Ok(false) => {}
-                Err(error) => return Err(error),
+            if self.take_part(number)? {
+                return Ok(LineKind::Line);
             }
         }
     }

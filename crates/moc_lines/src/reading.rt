@@ -112,10 +112,7 @@ pub fn read_all<R: Source>(alloc: Global, reader: &mut R) -> Result<Vec<u8>, Run
     loop {
         match reader.read(&mut chunk) {
             Ok(0) => return Ok(script.bytes),
-            Ok(count) => match script.add(&chunk[..count]) {
-                Ok(()) => {}
-                Err(error) => return Err(error),
-            },
+            Ok(count) => script.add(&chunk[..count])?,
             Err(DeviceFault) => return Err(RunError::Read),
         }
     }

@@ -5,7 +5,7 @@ ghost use Rattle.moc_lines.specs.Language.{cover_text, replies_text, reply_text}
 use itoa::Buffer;
 use moc_parts::Reply;
 use moc_ranges::{Coverage, Memory};
-use moc_text::write_ascii;
+use moc_text::push_ascii;
 use std::alloc::Global;
 
 /// Appends the texts of replies, separated by ` ; `.
@@ -76,10 +76,6 @@ pub fn push_cover(alloc: Global, set: &Coverage, text: &mut Vec<u8>) -> Result<(
         text.extend_from_slice(b"cover")?;
         return Ok(());
     }
-    let Ok(shown) = write_ascii(alloc, set, None) else {
-        return Err(Memory);
-    };
     text.extend_from_slice(b"cover ")?;
-    text.extend_from_slice(shown.as_bytes())?;
-    Ok(())
+    push_ascii(alloc, set, text)
 }

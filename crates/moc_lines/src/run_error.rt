@@ -19,14 +19,14 @@ pub enum RunError {
         /// The number of the line.
         line: u64,
     },
-    /// An allocation failed while this line was read or answered. The number is 0 if it failed before the first line,
-    /// and one more than the number of lines if it failed after all lines were answered.
+    /// An allocation failed while this line was read or processed. The number is 0 if it failed before the first line,
+    /// and one more than the number of lines if it failed after all lines were processed.
     #[error("out of memory at line {line}")]
     Memory {
         /// The number of the line, from 1; or 0.
         line: u64,
     },
-    /// A thread could not be started. Only a crew, which answers a script by several threads, fails with this error.
+    /// A thread could not be started. Only a crew, which runs a script on several threads, fails with this error.
     #[error("a thread could not be started")]
     Spawn,
 }

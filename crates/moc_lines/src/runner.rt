@@ -1,4 +1,4 @@
-//! The loop that answers lines.
+//! The loop that reads lines and writes their answers.
 ghost use Rattle.std.specs.Prelude.{◌≡◌, ◌≢◌, ◌++◌, [], IfOk, IfErr, if◌then◌else◌, IsTrue, ◌↔◌, false};
 ghost use Rattle.std.specs.Prelude.{OnOk, OnErr, IsErrOf, Ok, Err, is_err};
 ghost use Rattle.moc_devices.specs.Devices.{AcceptsNone, CallsMore, FlushesNothing, OnlyWrites, Sends};
@@ -36,7 +36,7 @@ impl Runner {
         })
     }
 
-    /// Answers each line that is read, and writes the answers.
+    /// Processes each line that is read, and writes the answers.
     fn run<A: Responder, R: GuardedSource<W>, W: Sink>(
         &mut self,
         responder: &mut A,
@@ -71,7 +71,7 @@ impl Runner {
         outcome
     }
 
-    /// Answers each line, and writes the pending answers before each read that may wait.
+    /// Processes each line, and writes the pending answers before each read that may wait.
     fn answer_lines<A: Responder, R: GuardedSource<W>, W: Sink>(
         &mut self,
         responder: &mut A,
@@ -98,14 +98,13 @@ impl Runner {
             if self.send_if_due(writer).is_err() {
                 return Err(RunError::Write);
             }
-            match self.next_line(line, reader, writer) {
-                Ok(LineKind::Line) => self.answer_line(line, responder)?,
-                Ok(LineKind::LastLine) => {
+            match self.next_line(line, reader, writer)? {
+                LineKind::Line => self.answer_line(line, responder)?,
+                LineKind::LastLine => {
                     self.answer_line(line, responder)?;
                     return self.close(line + 1, responder);
                 }
-                Ok(LineKind::EndOfInput) => return self.close(line, responder),
-                Err(error) => return Err(error),
+                LineKind::EndOfInput => return self.close(line, responder),
             }
         }
         Err(RunError::Memory { line: u64::MAX })
@@ -144,7 +143,7 @@ impl Runner {
         self.answer.clear();
         let line = self.lines.line();
         let answered = responder.answer_line(self.alloc, line, &mut self.answer);
-        if answered.is_err() || self.pending.extend_from_slice(&self.answer).is_err() {
+        if answered.is_err() || self.append_answer().is_err() {
             return Err(RunError::Memory { line: number });
         }
         Ok(())
@@ -162,10 +161,24 @@ impl Runner {
     {
         self.answer.clear();
         let closed = responder.close(self.alloc, &mut self.answer);
-        if closed.is_err() || self.pending.extend_from_slice(&self.answer).is_err() {
+        if closed.is_err() || self.append_answer().is_err() {
             return Err(RunError::Memory { line: after_last });
         }
         Ok(())
+    }
+
+    /// Appends the answer to the pending answers. If nothing is pending, exchanges the two buffers and copies nothing.
+    fn append_answer(&mut self) -> Result<(), AllocError>
+        ensures text { OnOk result (self.new.pending.items ≡ self.old.pending.items ++ self.old.answer.items) }
+        ensures some { OnErr result (self.old.answer.items ≢ []) }
+        ensures err { OnErr result (self.new.pending.items ≡ self.old.pending.items) }
+        ensures lines { self.new.lines ≡ self.old.lines }
+    {
+        if self.pending.is_empty() {
+            std::mem::swap(&mut self.pending, &mut self.answer);
+            return Ok(());
+        }
+        self.pending.extend_from_slice(&self.answer)
     }
 
     /// Writes the pending answers if the buffer has no whole line, so that the next line may have to be read, or if at
@@ -184,8 +197,8 @@ impl Runner {
     }
 }
 
-/// Answers the lines of a reader, in order, by a responder, and writes the answers, with the closing text after the
-/// last line.
+/// Processes the lines of a reader, in order, by a responder. Writes the answers to the lines, and the closing text
+/// after the last line.
 ///
 /// A line ends at a line feed; bytes after the last line feed are a last line. Answers are written before each read
 /// that may wait. After the whole text the writer is flushed, once.

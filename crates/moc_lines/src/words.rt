@@ -3,7 +3,8 @@ ghost use Rattle.std.specs.Prelude.{◌≡◌, ◌-◌, ◌^◌, ◌<◌, ◌≤
 ghost use Rattle.std.specs.List.{prefix_len, position_or_len};
 ghost use Rattle.std.specs.Option.{option_map};
 ghost use Rattle.std.specs.Str.{bytes_eq};
-ghost use Rattle.moc_lines.specs.Language.{is_line_blank, is_blank_text, word_of, after_word, decimal_value};
+ghost use Rattle.moc_lines.specs.Language.{is_line_blank, is_blank_text, without_blanks, word_of, after_word};
+ghost use Rattle.moc_lines.specs.Language.{decimal_value};
 
 /// Returns whether a byte is a blank: a space, a tab or a CR.
 fn is_line_blank(byte: u8) -> bool
@@ -50,13 +51,20 @@ fn bytes_before_blank(text: &[u8]) -> usize
     count
 }
 
+/// Returns a text without its leading blanks.
+pub(crate) fn without_blanks(text: &[u8]) -> &[u8]
+    ensures { result.now ≡ without_blanks text.now }
+{
+    text.split_at(blanks_in_front(text)).1
+}
+
 /// Skips leading blanks and splits a text after its first word: returns the word and the rest. Linear in the length of
 /// both; allocates nothing.
 pub fn split_word(text: &[u8]) -> (&[u8], &[u8])
     ensures word { result.0.now ≡ word_of text.now }
     ensures following { result.1.now ≡ after_word text.now }
 {
-    let front = text.split_at(blanks_in_front(text)).1;
+    let front = without_blanks(text);
     front.split_at(bytes_before_blank(front))
 }
 

@@ -5,14 +5,14 @@ ghost use Rattle.moc_blocks.specs.Lemmas.Members.{in_ranges};
 ghost use Rattle.moc_blocks.specs.Blocks.{concat, AreBlocks, IsSearchOf};
 ghost use Rattle.moc_blocks.specs.Private.Blocks.{IsStored, rest_of, width_of};
 ghost use Rattle.moc_blocks.specs.Private.Walks.{EndsBy, IsFirstAfter};
-ghost use Rattle.moc_blocks.specs.Private.Added.{Inserts};
+ghost use Rattle.moc_blocks.specs.Private.Edits.{Inserts, Removes};
 
 use crate::chunks::Chunks;
 use crate::nodes::Nodes;
 use crate::ranges::Ranges;
 use crate::steps::{MAX_STEPS, Steps, find_block, find_range};
 use moc_blocks::{
-    Node, insert_small, node_range_ending_after, range_ending_after, width_of_ranges,
+    Node, insert_small, node_range_ending_after, range_ending_after, remove_small, width_of_ranges,
 };
 use std::alloc::{AllocError, Global};
 use std::marker::Model;
@@ -224,5 +224,31 @@ impl RangeList {
             return insert_small(alloc, &mut self.small, from, to);
         }
         self.nodes.insert(alloc, from, to)
+    }
+
+    /// Removes the pixels of a range if this changes only one block, and returns the number of removed pixels. The
+    /// block is rebuilt. It is replaced in place if no other list shares the blocks of its node and it stays one block;
+    /// otherwise it is put into a new node that shares the other blocks. Returns `None` if the range touches more than
+    /// one block, if the block would be empty, if the fill rule would be broken, or if a list without blocks would have
+    /// more than 128 ranges; the list is then unchanged.
+    ///
+    /// # Errors
+    ///
+    /// Fails if an allocation fails; the list is unchanged.
+    ///
+    /// # Complexity
+    ///
+    /// O(log n), and one step for each later node if a block is split.
+    pub fn remove(&mut self, alloc: Global, from: u64, to: u64) -> Result<Option<u64>, AllocError>
+        requires filled { from < to }
+        requires within { to ≤ pixel_count }
+        ensures removed { Removes from to self.old self.new result }
+        ensures normal_before { IsNormal self.old }
+        ensures normal { IsNormal self.new }
+    {
+        if self.nodes.all().is_empty() {
+            return remove_small(alloc, &mut self.small, from, to);
+        }
+        self.nodes.remove(alloc, from, to)
     }
 }

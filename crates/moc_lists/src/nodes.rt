@@ -1,13 +1,17 @@
 //! The nodes of a list, with an index that finds a block by its position.
 ghost use Rattle.std.specs.Prelude.{◌≡◌, ◌+◌, ◌<◌, ◌≤◌, ◌++◌, [], ◌∷◌, ℕ, length, get_or, take, drop};
 ghost use Rattle.std.specs.Prelude.{vec_len, vec_capacity, IfOk, MatchOption, OnErr, OnOk};
+ghost use Rattle.std.specs.Bool.{OnFalse, OnTrue};
 ghost use Rattle.moc_blocks.specs.RangeList.{pixel_count};
 ghost use Rattle.moc_blocks.specs.Blocks.{concat};
 ghost use Rattle.moc_blocks.specs.Private.Blocks.{largest_u64, shift_starts, width_of, AreStored, IsCountStarted};
 ghost use Rattle.moc_blocks.specs.Private.Blocks.{IsStored};
-ghost use Rattle.moc_blocks.specs.Private.Added.{replacing, one_or_two, GrowsBy, Inserts};
+ghost use Rattle.moc_blocks.specs.Private.Edits.{with_replaced_item, one_or_two, Inserts, IsEdited, Removes};
+ghost use Rattle.moc_blocks.specs.declared.edits.rebuild.RangeEdit.{RangeEdit};
 
-use moc_blocks::{Block, BlockEdit, Edit, Gap, Node, NodeEdit, edit_nodes, find_gap, share_nodes};
+use moc_blocks::{
+    Block, BlockEdit, Edit, Gap, Node, NodeEdit, RangeEdit, edit_nodes, find_gap, share_nodes,
+};
 use std::alloc::{AllocError, Global};
 use std::marker::Model;
 
@@ -40,7 +44,7 @@ fn replace_with_two(
 ) -> Result<(), AllocError>
     requires { place < length nodes.old.items }
     ensures new { OnOk result (nodes.new.items
-        ≡ replacing nodes.old.items place (first ∷ (second ∷ []))) }
+        ≡ with_replaced_item nodes.old.items place (first ∷ (second ∷ []))) }
     ensures unchanged { OnErr result (nodes.new.items ≡ nodes.old.items) }
 {
     nodes.insert(place + 1, second)?;
@@ -51,7 +55,7 @@ fn replace_with_two(
 /// Replaces a node by one.
 fn replace_with_one(nodes: &mut Vec<Node>, place: usize, first: Node)
     requires { place < length nodes.old.items }
-    ensures { nodes.new.items ≡ replacing nodes.old.items place (first ∷ []) }
+    ensures { nodes.new.items ≡ with_replaced_item nodes.old.items place (first ∷ []) }
 {
     nodes[place] = first;
 }
@@ -218,18 +222,18 @@ impl Nodes {
     }
 
     /// Replaces a node by one. Does not allocate.
-    fn replace_node(&mut self, place: usize, node: Node, added: u64)
+    fn replace_node(&mut self, place: usize, node: Node)
         requires place { place < length self.old }
         requires before { IsStored [] self.old }
-        requires stored { IsStored [] (replacing self.old place (node ∷ [])) }
-        requires grows { GrowsBy added self.old (replacing self.old place (node ∷ [])) }
-        ensures { self.new ≡ replacing self.old place (node ∷ []) }
+        requires stored { IsStored [] (with_replaced_item self.old place (node ∷ [])) }
+        ensures { self.new ≡ with_replaced_item self.old place (node ∷ []) }
     {
-        let others = self.count - self.nodes[place].count();
+        let other_ranges = self.count - self.nodes[place].count();
+        let other_pixels = self.size - self.nodes[place].size();
         let blocks = self.nodes[place].blocks().len();
         shift_after(&mut self.starts, place, blocks, node.blocks().len());
-        self.size += added;
-        self.count = others + node.count();
+        self.count = other_ranges + node.count();
+        self.size = other_pixels + node.size();
         replace_with_one(&mut self.nodes, place, node);
     }
 
@@ -239,20 +243,20 @@ impl Nodes {
         place: usize,
         first: Node,
         second: Node,
-        added: u64,
     ) -> Result<(), AllocError>
         requires place { place < length self.old }
         requires before { IsStored [] self.old }
-        requires stored { IsStored [] (replacing self.old place (first ∷ (second ∷ []))) }
-        requires grows { GrowsBy added self.old (replacing self.old place (first ∷ (second ∷ []))) }
-        ensures new { OnOk result (self.new ≡ replacing self.old place (first ∷ (second ∷ []))) }
+        requires stored { IsStored [] (with_replaced_item self.old place (first ∷ (second ∷ []))) }
+        ensures new { OnOk result (self.new ≡ with_replaced_item self.old place (first ∷ (second ∷ []))) }
         ensures unchanged { OnErr result (self.new ≡ self.old) }
     {
-        let others = self.count - self.nodes[place].count();
+        let other_ranges = self.count - self.nodes[place].count();
+        let other_pixels = self.size - self.nodes[place].size();
         let blocks = self.nodes[place].blocks().len();
         let start = self.starts[place] + first.blocks().len();
         let new_blocks = first.blocks().len() + second.blocks().len();
         let ranges = first.count() + second.count();
+        let pixels = first.size() + second.size();
         self.starts.reserve(1)?;
         replace_with_two(&mut self.nodes, place, first, second)?;
         shift_after(&mut self.starts, place, blocks, new_blocks);
@@ -260,8 +264,8 @@ impl Nodes {
         let Ok(()) = self.starts.insert(place + 1, start) else {
             unreachable!()
         };
-        self.size += added;
-        self.count = others + ranges;
+        self.count = other_ranges + ranges;
+        self.size = other_pixels + pixels;
         Ok(())
     }
 
@@ -269,29 +273,70 @@ impl Nodes {
     fn put(&mut self, edit: NodeEdit) -> Result<(), AllocError>
         requires place { edit.place < length self.old }
         requires before { IsStored [] self.old }
-        requires stored { IsStored [] (replacing self.old edit.place (one_or_two edit.first edit.second)) }
-        requires grows { GrowsBy edit.added self.old
-            (replacing self.old edit.place (one_or_two edit.first edit.second)) }
+        requires stored { IsStored [] (with_replaced_item self.old edit.place (one_or_two edit.first edit.second)) }
         ensures new { OnOk result (self.new
-            ≡ replacing self.old edit.place (one_or_two edit.first edit.second)) }
+            ≡ with_replaced_item self.old edit.place (one_or_two edit.first edit.second)) }
         ensures unchanged { OnErr result (self.new ≡ self.old) }
     {
         let NodeEdit {
             place,
             first,
             second,
-            added,
         } = edit;
         if let Some(second) = second {
-            return self.replace_with_two(place, first, second, added);
+            return self.replace_with_two(place, first, second);
         }
-        self.replace_node(place, first, added);
+        self.replace_node(place, first);
         Ok(())
     }
 
-    /// Inserts a range if this changes only one block, which is rebuilt, and returns the number of new pixels. The
-    /// block is replaced in place if its node is not shared and it stays one block; otherwise its node is rebuilt.
-    /// Returns `None` if the range changes more, or if the fill rule would be broken; the nodes are then unchanged.
+    /// Inserts or removes a range if this changes only one block, which is rebuilt, and returns whether this was done.
+    /// The block is replaced in place if its node is not shared and it stays one block; otherwise its node is rebuilt.
+    /// Returns `false` if the range changes more, if the block would be empty, or if the fill rule would be broken; the
+    /// nodes are then unchanged.
+    fn edit(
+        &mut self,
+        alloc: Global,
+        edit: RangeEdit,
+        from: u64,
+        to: u64,
+    ) -> Result<bool, AllocError>
+        requires stored { IsStored [] self.old }
+        requires filled { from < to }
+        requires within { to ≤ pixel_count }
+        ensures stored { IsStored [] self.new }
+        ensures edited { IfOk result (λ done. OnTrue done
+            (IsEdited edit from to (concat (concat self.old)) (concat (concat self.new)))) }
+        ensures same { IfOk result (λ done. OnFalse done (self.new ≡ self.old)) }
+        ensures unchanged { OnErr result (self.new ≡ self.old) }
+    {
+        let Some(change) = edit_nodes(alloc, &self.nodes, edit, from, to)? else {
+            return Ok(false);
+        };
+        let BlockEdit {
+            node,
+            block,
+            ranges,
+        } = match change {
+            Edit::Block(edit) => edit,
+            Edit::Node(edit) => {
+                self.put(edit)?;
+                return Ok(true);
+            }
+        };
+        let new = Block::new(alloc, ranges)?;
+        let other_ranges = self.count - self.nodes[node].count();
+        let other_pixels = self.size - self.nodes[node].size();
+        if !self.nodes[node].replace_block(block, new) {
+            return Ok(false);
+        }
+        self.count = other_ranges + self.nodes[node].count();
+        self.size = other_pixels + self.nodes[node].size();
+        Ok(true)
+    }
+
+    /// Inserts a range if this changes only one block, and returns the number of new pixels. Otherwise, or if the fill
+    /// rule would be broken, returns `None`; the nodes are then unchanged.
     pub(crate) fn insert(
         &mut self,
         alloc: Global,
@@ -304,29 +349,32 @@ impl Nodes {
         ensures stored { IsStored [] self.new }
         ensures inserted { Inserts from to (concat (concat self.old)) (concat (concat self.new)) result }
     {
-        let Some(edit) = edit_nodes(alloc, &self.nodes, from, to)? else {
-            return Ok(None);
-        };
-        let BlockEdit {
-            node,
-            block,
-            ranges,
-            added,
-        } = match edit {
-            Edit::Block(edit) => edit,
-            Edit::Node(edit) => {
-                let added = edit.added;
-                self.put(edit)?;
-                return Ok(Some(added));
-            }
-        };
-        let new = Block::new(alloc, ranges)?;
-        let others = self.count - self.nodes[node].count();
-        if !self.nodes[node].replace_block(block, new) {
+        let before = self.size;
+        if !self.edit(alloc, RangeEdit::Insert, from, to)? {
             return Ok(None);
         }
-        self.size += added;
-        self.count = others + self.nodes[node].count();
-        Ok(Some(added))
+        Ok(Some(self.size - before))
+    }
+
+    /// Removes the pixels of a range if this changes only one block, and returns the number of removed pixels.
+    /// Otherwise, if the block would be empty, or if the fill rule would be broken, returns `None`; the nodes are then
+    /// unchanged.
+    pub(crate) fn remove(
+        &mut self,
+        alloc: Global,
+        from: u64,
+        to: u64,
+    ) -> Result<Option<u64>, AllocError>
+        requires stored { IsStored [] self.old }
+        requires filled { from < to }
+        requires within { to ≤ pixel_count }
+        ensures stored { IsStored [] self.new }
+        ensures removed { Removes from to (concat (concat self.old)) (concat (concat self.new)) result }
+    {
+        let before = self.size;
+        if !self.edit(alloc, RangeEdit::Remove, from, to)? {
+            return Ok(None);
+        }
+        Ok(Some(before - self.size))
     }
 }

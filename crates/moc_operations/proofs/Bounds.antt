@@ -17,9 +17,9 @@ use Rattle.moc_operations.specs.Private.Differing.{exactly_one, IsSymmetricStep}
 use Rattle.moc_operations.specs.Private.SymmetricBounds.{bounds_of, is_odd_at, AreAscendingBounds, open_of, restored_range, AreBounds, IsBoundsStep}
 use Rattle.moc_operations.specs.Private.Walks.{from_current}
 use Rattle.moc_blocks.specs.Lemmas.Ranges.{later_only}
-use Rattle.moc_blocks.proofs.Blocking.{IsNormal-prefix, IsNormal-suffix, nothing_more}
+use Rattle.moc_blocks.proofs.Blocking.{IsNormal-prefix, IsNormal-suffix, append_empty}
 use Rattle.moc_blocks.proofs.Merging.{normal_append, ends_next, EndsBelow-more}
-use Rattle.moc_operations.proofs.Differing.{differs_gone, differs_none, differs_swap, differing_swap, ends_both}
+use Rattle.moc_operations.proofs.Differing.{differs_after_removal, differs_none, differs_swap, differing_swap, ends_both}
 
 -- ---- exclusive or
 
@@ -61,49 +61,49 @@ pub bounds-append : (rs ss : List (ℕ × ℕ)) → bounds_of (rs ++ ss) ≡ bou
 bounds-append [] ss = refl
 bounds-append (r ∷ rs) ss = ap (λ l. r.0 ∷ (r.1 ∷ l)) (bounds-append rs ss)
 
-pub bounds_twice : (rs : List (ℕ × ℕ)) → length (bounds_of rs) ≡ 2 * length rs
-bounds_twice [] = refl
-bounds_twice (r ∷ rs) = omega (arith, bounds_twice rs)
+pub bound_count : (rs : List (ℕ × ℕ)) → length (bounds_of rs) ≡ 2 * length rs
+bound_count [] = refl
+bound_count (r ∷ rs) = omega (arith, bound_count rs)
 
 odd-append : (xs ys : List ℕ) (q : ℕ) → is_odd_at (xs ++ ys) q ≡ exactly_one (is_odd_at xs q) (is_odd_at ys q)
 odd-append [] ys q = differs_none (is_odd_at ys q)
 odd-append (x ∷ xs) ys q = ap (λ d. exactly_one (nat_le x q) d) (odd-append xs ys q) ∙ sym (differs_assoc (nat_le x q) (is_odd_at xs q) (is_odd_at ys q))
 
-rises_less : (low low' : ℕ) (bs : List ℕ) → AreAscendingBounds low bs → low' ≤ low → AreAscendingBounds low' bs
-rises_less low low' [] r le = tt
-rises_less low low' (b ∷ bs) r le = (omega (arith, r.0), r.1, r.2)
+ascending_bounds_less : (low low' : ℕ) (bs : List ℕ) → AreAscendingBounds low bs → low' ≤ low → AreAscendingBounds low' bs
+ascending_bounds_less low low' [] r le = tt
+ascending_bounds_less low low' (b ∷ bs) r le = (omega (arith, r.0), r.1, r.2)
 
-rises_drop : (kept xs : List ℕ) (x low : ℕ) → AreAscendingBounds low (kept ++ x ∷ xs) → AreAscendingBounds low (kept ++ xs)
-rises_drop [] xs x low r = rises_less (x + 1) low xs r.2 (omega (arith, r.0))
-rises_drop (k ∷ kept) xs x low r = (r.0, r.1, rises_drop kept xs x (k + 1) r.2)
+ascending_drop : (kept xs : List ℕ) (x low : ℕ) → AreAscendingBounds low (kept ++ x ∷ xs) → AreAscendingBounds low (kept ++ xs)
+ascending_drop [] xs x low r = ascending_bounds_less (x + 1) low xs r.2 (omega (arith, r.0))
+ascending_drop (k ∷ kept) xs x low r = (r.0, r.1, ascending_drop kept xs x (k + 1) r.2)
 
-rises_meet : (kept xs ys : List ℕ) (a b low : ℕ) → AreAscendingBounds low (kept ++ a ∷ xs) → AreAscendingBounds low (kept ++ b ∷ ys) → a < b → AreAscendingBounds low (kept ++ a ∷ (b ∷ ys))
-rises_meet [] xs ys a b low r s lt = (r.0, r.1, (omega arith, s.1, s.2))
-rises_meet (k ∷ kept) xs ys a b low r s lt = (r.0, r.1, rises_meet kept xs ys a b (k + 1) r.2 s.2 lt)
+ascending_bounds_merge : (kept xs ys : List ℕ) (a b low : ℕ) → AreAscendingBounds low (kept ++ a ∷ xs) → AreAscendingBounds low (kept ++ b ∷ ys) → a < b → AreAscendingBounds low (kept ++ a ∷ (b ∷ ys))
+ascending_bounds_merge [] xs ys a b low r s lt = (r.0, r.1, (omega arith, s.1, s.2))
+ascending_bounds_merge (k ∷ kept) xs ys a b low r s lt = (r.0, r.1, ascending_bounds_merge kept xs ys a b (k + 1) r.2 s.2 lt)
 
-pub rises_normal : (rs : List (ℕ × ℕ)) (low : ℕ) → AreAscendingBounds low (bounds_of rs) → IsNormal rs
-rises_normal [] low r = tt
-rises_normal (x ∷ []) low r = (omega (arith, r.2.0), r.2.1, tt, tt)
-rises_normal (x ∷ (y ∷ rs)) low r = (omega (arith, r.2.0), r.2.1, omega (arith, r.2.2.0), rises_normal (y ∷ rs) (x.1 + 1) r.2.2)
+pub ascending_bounds_normal : (rs : List (ℕ × ℕ)) (low : ℕ) → AreAscendingBounds low (bounds_of rs) → IsNormal rs
+ascending_bounds_normal [] low r = tt
+ascending_bounds_normal (x ∷ []) low r = (omega (arith, r.2.0), r.2.1, tt, tt)
+ascending_bounds_normal (x ∷ (y ∷ rs)) low r = (omega (arith, r.2.0), r.2.1, omega (arith, r.2.2.0), ascending_bounds_normal (y ∷ rs) (x.1 + 1) r.2.2)
 
-pub normal_rises : (rs : List (ℕ × ℕ)) (low : ℕ) → IsNormal rs → low ≤ next_of rs → AreAscendingBounds low (bounds_of rs)
-normal_rises [] low n le = tt
-normal_rises (x ∷ []) low n le = (le, omega (arith, n.0, n.1), (omega (arith, n.0), n.1, tt))
-normal_rises (x ∷ (y ∷ rs)) low n le = (le, omega (arith, n.0, n.1), (omega (arith, n.0), n.1, normal_rises (y ∷ rs) (x.1 + 1) n.3 (omega (arith, n.2))))
+pub normal_bounds_ascend : (rs : List (ℕ × ℕ)) (low : ℕ) → IsNormal rs → low ≤ next_of rs → AreAscendingBounds low (bounds_of rs)
+normal_bounds_ascend [] low n le = tt
+normal_bounds_ascend (x ∷ []) low n le = (le, omega (arith, n.0, n.1), (omega (arith, n.0), n.1, tt))
+normal_bounds_ascend (x ∷ (y ∷ rs)) low n le = (le, omega (arith, n.0, n.1), (omega (arith, n.0), n.1, normal_bounds_ascend (y ∷ rs) (x.1 + 1) n.3 (omega (arith, n.2))))
 
 inside_range : (a b q : ℕ) (later : Bool) → a < b → q < b → later ≡ false → ((nat_le a q && nat_lt q b) || later) ≡ exactly_one (nat_le a q) (exactly_one (nat_le b q) later)
 inside_range a b q later filled lt none = grind (arith, nat_tests)
 
-past_range : (a b q : ℕ) (later : Bool) → a < b → b ≤ q → ((nat_le a q && nat_lt q b) || later) ≡ exactly_one (nat_le a q) (exactly_one (nat_le b q) later)
-past_range a b q true filled ge = grind (arith, nat_tests)
-past_range a b q false filled ge = grind (arith, nat_tests)
+range_by_bounds : (a b q : ℕ) (later : Bool) → a < b → b ≤ q → ((nat_le a q && nat_lt q b) || later) ≡ exactly_one (nat_le a q) (exactly_one (nat_le b q) later)
+range_by_bounds a b q true filled ge = grind (arith, nat_tests)
+range_by_bounds a b q false filled ge = grind (arith, nat_tests)
 
 pub odd_in : (rs : List (ℕ × ℕ)) (q : ℕ) → IsNormal rs → in_ranges rs q ≡ is_odd_at (bounds_of rs) q
 odd_in [] q n = refl
 odd_in (r ∷ rs) q n =
     (elim (cases_lt q r.1) [
       | inl lt ↦ inside_range r.0 r.1 q (in_ranges rs q) n.0 lt (later_only r.1 q rs n.3 n.2 (omega arith))
-      | inr ge ↦ past_range r.0 r.1 q (in_ranges rs q) n.0 ge
+      | inr ge ↦ range_by_bounds r.0 r.1 q (in_ranges rs q) n.0 ge
     ])
     ∙ ap (λ b. exactly_one (nat_le r.0 q) (exactly_one (nat_le r.1 q) b)) (odd_in rs q n.3)
 
@@ -120,14 +120,14 @@ common_swap kept xs ys wx wy s = record {
 common_first : (kept xs ys : List ℕ) (wx wy : List (ℕ × ℕ)) (a b : ℕ) → AreBounds kept (a ∷ xs) (b ∷ ys) wx wy → a < b → AreBounds (kept ++ a ∷ []) xs (b ∷ ys) wx wy
 common_first kept xs ys wx wy a b s lt = record {
   first = subst (λ l. AreAscendingBounds 0 l) (sym (append_assoc kept (a ∷ []) xs)) s.first;
-  second = subst (λ l. AreAscendingBounds 0 l) (sym (append_assoc kept (a ∷ []) (b ∷ ys))) (rises_meet kept xs ys a b 0 s.first s.second lt);
+  second = subst (λ l. AreAscendingBounds 0 l) (sym (append_assoc kept (a ∷ []) (b ∷ ys))) (ascending_bounds_merge kept xs ys a b 0 s.first s.second lt);
   same = λ q. ap (λ (l : List ℕ). exactly_one (is_odd_at l q) (is_odd_at (b ∷ ys) q)) (append_assoc kept (a ∷ []) xs) ∙ s.same q;
 }
 
 common_both : (kept xs ys : List ℕ) (wx wy : List (ℕ × ℕ)) (a b : ℕ) → AreBounds kept (a ∷ xs) (b ∷ ys) wx wy → a ≡ b → AreBounds kept xs ys wx wy
 common_both kept xs ys wx wy a b s is = record {
-  first = rises_drop kept xs a 0 s.first;
-  second = rises_drop kept ys b 0 s.second;
+  first = ascending_drop kept xs a 0 s.first;
+  second = ascending_drop kept ys b 0 s.second;
   same = λ q. ap (λ d. exactly_one d (is_odd_at ys q)) (odd-append kept xs q)
       ∙ differs_both (is_odd_at kept q) (is_odd_at xs q) (is_odd_at ys q) (nat_le a q)
       ∙ ap (λ d. exactly_one d (exactly_one (nat_le a q) (is_odd_at ys q))) (sym (odd-append kept (a ∷ xs) q))
@@ -153,30 +153,30 @@ bound_odd (r ∷ rs) (suc n) place d lt is =
 
 -- ---- one step of the loop
 
-keeps_one : (kept out : List ℕ) (written written' value : ℕ) → written < length out → written' ≡ written + 1 → kept ++ take written' (slice_set out written value) ≡ (kept ++ take written out) ++ value ∷ []
-keeps_one kept out written written' value buffer is =
+append_written_value : (kept out : List ℕ) (written written' value : ℕ) → written < length out → written' ≡ written + 1 → kept ++ take written' (slice_set out written value) ≡ (kept ++ take written out) ++ value ∷ []
+append_written_value kept out written written' value buffer is =
     ap (λ l. kept ++ l) (take-set_at out written written' value is buffer) ∙ sym (append_assoc kept (take written out) (value ∷ []))
 
-ahead : (xs tail : List ℕ) (i : ℕ) → i < length xs → drop i xs ++ tail ≡ get_or xs i 0 ∷ (drop (suc i) xs ++ tail)
-ahead xs tail i lt = ap (λ l. l ++ tail) (drop-cons xs i 0 lt)
+drop_to_index : (xs tail : List ℕ) (i : ℕ) → i < length xs → drop i xs ++ tail ≡ get_or xs i 0 ∷ (drop (suc i) xs ++ tail)
+drop_to_index xs tail i lt = ap (λ l. l ++ tail) (drop-cons xs i 0 lt)
 
-less_on : (kept xs ys bx by out : List ℕ) (wx wy : List (ℕ × ℕ)) (written written' i i' j value : ℕ) → AreBounds (kept ++ take written out) (drop i xs ++ bx) (drop j ys ++ by) wx wy
+bounds_after_less : (kept xs ys bx by out : List ℕ) (wx wy : List (ℕ × ℕ)) (written written' i i' j value : ℕ) → AreBounds (kept ++ take written out) (drop i xs ++ bx) (drop j ys ++ by) wx wy
     → i < length xs → j < length ys → written < length out → get_or xs i 0 < get_or ys j 0 → value ≡ get_or xs i 0 → written' ≡ written + 1 → i' ≡ suc i
     → AreBounds (kept ++ take written' (slice_set out written value)) (drop i' xs ++ bx) (drop j ys ++ by) wx wy
-less_on kept xs ys bx by out wx wy written written' i i' j value s hx hy buffer lt is one next =
-    let there = ahead ys by j hy in
-    let begun = subst (λ l. AreBounds (kept ++ take written out) l (get_or ys j 0 ∷ (drop (suc j) ys ++ by)) wx wy) (ahead xs bx i hx) (subst (λ l. AreBounds (kept ++ take written out) (drop i xs ++ bx) l wx wy) there s) in
+bounds_after_less kept xs ys bx by out wx wy written written' i i' j value s hx hy buffer lt is one next =
+    let there = drop_to_index ys by j hy in
+    let begun = subst (λ l. AreBounds (kept ++ take written out) l (get_or ys j 0 ∷ (drop (suc j) ys ++ by)) wx wy) (drop_to_index xs bx i hx) (subst (λ l. AreBounds (kept ++ take written out) (drop i xs ++ bx) l wx wy) there s) in
     let on = common_first (kept ++ take written out) (drop (suc i) xs ++ bx) (drop (suc j) ys ++ by) wx wy (get_or xs i 0) (get_or ys j 0) begun lt in
-    let kept' : (kept ++ take written out) ++ get_or xs i 0 ∷ [] ≡ kept ++ take written' (slice_set out written value) = ap (λ v. (kept ++ take written out) ++ v ∷ []) (sym is) ∙ sym (keeps_one kept out written written' value buffer one) in
+    let kept' : (kept ++ take written out) ++ get_or xs i 0 ∷ [] ≡ kept ++ take written' (slice_set out written value) = ap (λ v. (kept ++ take written out) ++ v ∷ []) (sym is) ∙ sym (append_written_value kept out written written' value buffer one) in
     subst (λ n. AreBounds (kept ++ take written' (slice_set out written value)) (drop n xs ++ bx) (drop j ys ++ by) wx wy) (sym next)
     (subst (λ l. AreBounds (kept ++ take written' (slice_set out written value)) (drop (suc i) xs ++ bx) l wx wy) (sym there)
     (subst (λ l. AreBounds l (drop (suc i) xs ++ bx) (get_or ys j 0 ∷ (drop (suc j) ys ++ by)) wx wy) kept' on))
 
-both_on : (kept xs ys bx by out : List ℕ) (wx wy : List (ℕ × ℕ)) (written written' i i' j j' value : ℕ) → AreBounds (kept ++ take written out) (drop i xs ++ bx) (drop j ys ++ by) wx wy
+bounds_after_both : (kept xs ys bx by out : List ℕ) (wx wy : List (ℕ × ℕ)) (written written' i i' j j' value : ℕ) → AreBounds (kept ++ take written out) (drop i xs ++ bx) (drop j ys ++ by) wx wy
     → i < length xs → j < length ys → get_or xs i 0 ≡ get_or ys j 0 → written' ≡ written → i' ≡ suc i → j' ≡ suc j
     → AreBounds (kept ++ take written' (slice_set out written value)) (drop i' xs ++ bx) (drop j' ys ++ by) wx wy
-both_on kept xs ys bx by out wx wy written written' i i' j j' value s hx hy eq none next next' =
-    let begun = subst (λ l. AreBounds (kept ++ take written out) l (get_or ys j 0 ∷ (drop (suc j) ys ++ by)) wx wy) (ahead xs bx i hx) (subst (λ l. AreBounds (kept ++ take written out) (drop i xs ++ bx) l wx wy) (ahead ys by j hy) s) in
+bounds_after_both kept xs ys bx by out wx wy written written' i i' j j' value s hx hy eq none next next' =
+    let begun = subst (λ l. AreBounds (kept ++ take written out) l (get_or ys j 0 ∷ (drop (suc j) ys ++ by)) wx wy) (drop_to_index xs bx i hx) (subst (λ l. AreBounds (kept ++ take written out) (drop i xs ++ bx) l wx wy) (drop_to_index ys by j hy) s) in
     let on = common_both (kept ++ take written out) (drop (suc i) xs ++ bx) (drop (suc j) ys ++ by) wx wy (get_or xs i 0) (get_or ys j 0) begun eq in
     let same : kept ++ take written out ≡ kept ++ take written' (slice_set out written value) = ap (λ l. kept ++ l) (sym (ap (λ n. take n (slice_set out written value)) none ∙ take-set out written value)) in
     subst (λ n. AreBounds (kept ++ take written' (slice_set out written value)) (drop n xs ++ bx) (drop j' ys ++ by) wx wy) (sym next)
@@ -208,39 +208,39 @@ step_all x y value kept first second t = elim (cases_lt x y) [
   ]
 ]
 
-pub crossed_on : (kept xs ys bx by out : List ℕ) (wx wy : List (ℕ × ℕ)) (written i j value k n m : ℕ) → AreBounds (kept ++ take written out) (drop i xs ++ bx) (drop j ys ++ by) wx wy
+pub bounds_after_equal : (kept xs ys bx by out : List ℕ) (wx wy : List (ℕ × ℕ)) (written i j value k n m : ℕ) → AreBounds (kept ++ take written out) (drop i xs ++ bx) (drop j ys ++ by) wx wy
     → i < length xs → j < length ys → written < length out → IsStep (get_or xs i 0) (get_or ys j 0) value k n m
     → AreBounds (kept ++ take (written + k) (slice_set out written value)) (drop (i + n) xs ++ bx) (drop (j + m) ys ++ by) wx wy
-crossed_on kept xs ys bx by out wx wy written i j value k n m s hx hy buffer t = elim (cases_lt (get_or xs i 0) (get_or ys j 0)) [
+bounds_after_equal kept xs ys bx by out wx wy written i j value k n m s hx hy buffer t = elim (cases_lt (get_or xs i 0) (get_or ys j 0)) [
   | inl lt ↦
       let f = t.less lt in
       let at : j ≡ j + m = omega (arith, f.2) in
       subst (λ p. AreBounds (kept ++ take (written + k) (slice_set out written value)) (drop (i + n) xs ++ bx) (drop p ys ++ by) wx wy) at
-      (less_on kept xs ys bx by out wx wy written (written + k) i (i + n) j value s hx hy buffer lt (omega (arith, t.least)) (omega (arith, f.0)) (omega (arith, f.1)))
+      (bounds_after_less kept xs ys bx by out wx wy written (written + k) i (i + n) j value s hx hy buffer lt (omega (arith, t.least)) (omega (arith, f.0)) (omega (arith, f.1)))
   | inr ge ↦ elim (cases_lt (get_or ys j 0) (get_or xs i 0)) [
     | inl gt ↦
         let f = t.more gt in
         let at : i ≡ i + n = omega (arith, f.1) in
         subst (λ p. AreBounds (kept ++ take (written + k) (slice_set out written value)) (drop p xs ++ bx) (drop (j + m) ys ++ by) wx wy) at
-        (common_swap _ _ _ _ _ (less_on kept ys xs by bx out wy wx written (written + k) j (j + m) i value (common_swap _ _ _ _ _ s) hy hx buffer gt (omega (arith, t.least)) (omega (arith, f.0)) (omega (arith, f.2))))
+        (common_swap _ _ _ _ _ (bounds_after_less kept ys xs by bx out wy wx written (written + k) j (j + m) i value (common_swap _ _ _ _ _ s) hy hx buffer gt (omega (arith, t.least)) (omega (arith, f.0)) (omega (arith, f.2))))
     | inr le ↦
         let eq : get_or xs i 0 ≡ get_or ys j 0 = omega arith in
         let f = t.equal eq in
-        both_on kept xs ys bx by out wx wy written (written + k) i (i + n) j (j + m) value s hx hy eq (omega (arith, f.0)) (omega (arith, f.1)) (omega (arith, f.2))
+        bounds_after_both kept xs ys bx by out wx wy written (written + k) i (i + n) j (j + m) value s hx hy eq (omega (arith, f.0)) (omega (arith, f.1)) (omega (arith, f.2))
   ]
 ]
 
 -- ---- from bounds to ranges
 
-rises_low : (xs more : List ℕ) (a low : ℕ) → AreAscendingBounds low (xs ++ a ∷ more) → low ≤ a
-rises_low [] more a low r = r.0
-rises_low (x ∷ xs) more a low r = let rest = rises_low xs more a (x + 1) r.2 in omega (arith, r.0, rest)
+ascending_bounds_low : (xs more : List ℕ) (a low : ℕ) → AreAscendingBounds low (xs ++ a ∷ more) → low ≤ a
+ascending_bounds_low [] more a low r = r.0
+ascending_bounds_low (x ∷ xs) more a low r = let rest = ascending_bounds_low xs more a (x + 1) r.2 in omega (arith, r.0, rest)
 
 pub pairs_head : (ks : List (ℕ × ℕ)) (more : List ℕ) (a b low : ℕ) → AreAscendingBounds low (bounds_of ks ++ a ∷ (b ∷ more)) → (a < b) × (b ≤ pixel_count) × EndsBelow a ks
 pairs_head [] more a b low r = (omega (arith, r.2.0), r.2.1, tt)
 pairs_head (k ∷ ks) more a b low r =
     let rest = pairs_head ks more a b (k.1 + 1) r.2.2 in
-    let after = rises_low (bounds_of ks) (b ∷ more) a (k.1 + 1) r.2.2 in
+    let after = ascending_bounds_low (bounds_of ks) (b ∷ more) a (k.1 + 1) r.2.2 in
     (rest.0, rest.1, (omega (arith, after), rest.2))
 
 pub two_items : (xs : List ℕ) → 2 ≤ length xs → xs ≡ get_or xs 0 0 ∷ (get_or xs 1 0 ∷ take (length xs - 2) (drop 2 xs))
@@ -250,15 +250,15 @@ two_items (x ∷ (y ∷ xs)) some =
     let whole : take (length (x ∷ (y ∷ xs)) - 2) xs ≡ xs = take_all (length (x ∷ (y ∷ xs)) - 2) xs (omega arith) in
     ap (λ l. x ∷ (y ∷ l)) (sym whole)
 
-pub pairs_on : (ks ks' : List (ℕ × ℕ)) (rest more whole : List ℕ) (a b : ℕ) → ks' ≡ ks ++ (a, b) ∷ [] → rest ≡ a ∷ (b ∷ more) → bounds_of ks ++ rest ≡ whole → bounds_of ks' ++ more ≡ whole
-pairs_on ks ks' rest more whole a b is parts so =
+pub bounds_of_next_pair : (ks ks' : List (ℕ × ℕ)) (rest more whole : List ℕ) (a b : ℕ) → ks' ≡ ks ++ (a, b) ∷ [] → rest ≡ a ∷ (b ∷ more) → bounds_of ks ++ rest ≡ whole → bounds_of ks' ++ more ≡ whole
+bounds_of_next_pair ks ks' rest more whole a b is parts so =
     ap (λ (k : List (ℕ × ℕ)). bounds_of k ++ more) is ∙ ap (λ l. l ++ more) (bounds-append ks ((a, b) ∷ []))
     ∙ append_assoc (bounds_of ks) (a ∷ (b ∷ [])) more ∙ ap (λ l. bounds_of ks ++ l) (sym parts) ∙ so
 
 -- ---- between blocks
 
-none_open : (kept more : List ℕ) → (kept ++ []) ++ more ≡ kept ++ more
-none_open kept more = ap (λ l. l ++ more) (nothing_more kept)
+append_nothing : (kept more : List ℕ) → (kept ++ []) ++ more ≡ kept ++ more
+append_nothing kept more = ap (λ l. l ++ more) (append_empty kept)
 
 pub common_of : (kept xs ys wx wy : List (ℕ × ℕ)) → IsSymmetricStep kept xs ys wx wy → IsBoundsStep kept None 0 0 xs ys wx wy
 common_of kept xs ys wx wy s =
@@ -266,15 +266,15 @@ common_of kept xs ys wx wy s =
     let before_ys = EndsBelow-more (min (next_of xs) (next_of ys)) (next_of ys) kept s.below (omega arith) in
     let all_xs = normal_append kept xs s.normal s.first_normal before_xs in
     let all_ys = normal_append kept ys s.normal s.second_normal before_ys in
-    let is_xs : (bounds_of kept ++ []) ++ bounds_of xs ≡ bounds_of (kept ++ xs) = none_open (bounds_of kept) (bounds_of xs) ∙ sym (bounds-append kept xs) in
-    let is_ys : (bounds_of kept ++ []) ++ bounds_of ys ≡ bounds_of (kept ++ ys) = none_open (bounds_of kept) (bounds_of ys) ∙ sym (bounds-append kept ys) in
+    let is_xs : (bounds_of kept ++ []) ++ bounds_of xs ≡ bounds_of (kept ++ xs) = append_nothing (bounds_of kept) (bounds_of xs) ∙ sym (bounds-append kept xs) in
+    let is_ys : (bounds_of kept ++ []) ++ bounds_of ys ≡ bounds_of (kept ++ ys) = append_nothing (bounds_of kept) (bounds_of ys) ∙ sym (bounds-append kept ys) in
     record {
       symmetric_bounds = record {
-        first = subst (λ l. AreAscendingBounds 0 l) (sym is_xs) (normal_rises (kept ++ xs) 0 all_xs (omega arith));
-        second = subst (λ l. AreAscendingBounds 0 l) (sym is_ys) (normal_rises (kept ++ ys) 0 all_ys (omega arith));
+        first = subst (λ l. AreAscendingBounds 0 l) (sym is_xs) (normal_bounds_ascend (kept ++ xs) 0 all_xs (omega arith));
+        second = subst (λ l. AreAscendingBounds 0 l) (sym is_ys) (normal_bounds_ascend (kept ++ ys) 0 all_ys (omega arith));
         same = λ q. ap (λ (l : List ℕ). exactly_one (is_odd_at l q) (is_odd_at (bounds_of ys) q)) is_xs
             ∙ (λ i. exactly_one (sym (odd_in (kept ++ xs) q all_xs) i) (sym (odd_in ys q s.second_normal) i))
-            ∙ differs_gone kept xs ys q s.second_normal before_ys ∙ s.same q;
+            ∙ differs_after_removal kept xs ys q s.second_normal before_ys ∙ s.same q;
       };
       one = refl;
       first_some = omega arith;
@@ -285,17 +285,17 @@ common_of kept xs ys wx wy s =
 
 pub differing_of : (kept xs ys wx wy : List (ℕ × ℕ)) → IsBoundsStep kept None 0 0 xs ys wx wy → IsSymmetricStep kept xs ys wx wy
 differing_of kept xs ys wx wy s =
-    let is_xs : (bounds_of kept ++ []) ++ bounds_of xs ≡ bounds_of (kept ++ xs) = none_open (bounds_of kept) (bounds_of xs) ∙ sym (bounds-append kept xs) in
-    let is_ys : (bounds_of kept ++ []) ++ bounds_of ys ≡ bounds_of (kept ++ ys) = none_open (bounds_of kept) (bounds_of ys) ∙ sym (bounds-append kept ys) in
-    let all_xs = rises_normal (kept ++ xs) 0 (subst (λ l. AreAscendingBounds 0 l) is_xs s.symmetric_bounds.first) in
-    let all_ys = rises_normal (kept ++ ys) 0 (subst (λ l. AreAscendingBounds 0 l) is_ys s.symmetric_bounds.second) in
+    let is_xs : (bounds_of kept ++ []) ++ bounds_of xs ≡ bounds_of (kept ++ xs) = append_nothing (bounds_of kept) (bounds_of xs) ∙ sym (bounds-append kept xs) in
+    let is_ys : (bounds_of kept ++ []) ++ bounds_of ys ≡ bounds_of (kept ++ ys) = append_nothing (bounds_of kept) (bounds_of ys) ∙ sym (bounds-append kept ys) in
+    let all_xs = ascending_bounds_normal (kept ++ xs) 0 (subst (λ l. AreAscendingBounds 0 l) is_xs s.symmetric_bounds.first) in
+    let all_ys = ascending_bounds_normal (kept ++ ys) 0 (subst (λ l. AreAscendingBounds 0 l) is_ys s.symmetric_bounds.second) in
     let before_ys = ends_next kept ys all_ys in
     record {
       normal = IsNormal-prefix kept xs all_xs;
       first_normal = s.first_normal;
       second_normal = s.second_normal;
       below = ends_both (next_of xs) (next_of ys) kept (ends_next kept xs all_xs) before_ys;
-      same = λ q. sym (differs_gone kept xs ys q s.second_normal before_ys)
+      same = λ q. sym (differs_after_removal kept xs ys q s.second_normal before_ys)
           ∙ (λ i. exactly_one (odd_in (kept ++ xs) q all_xs i) (odd_in ys q s.second_normal i))
           ∙ ap (λ (l : List ℕ). exactly_one (is_odd_at l q) (is_odd_at (bounds_of ys) q)) (sym is_xs) ∙ s.symmetric_bounds.same q;
     }
@@ -315,13 +315,13 @@ restored_first : (kept : List (ℕ × ℕ)) (b : ℕ) (x : ℕ × ℕ) (xs ys wx
 restored_first kept b x xs ys wx wy s =
     let kb = bounds_of kept in
     let rest = x.1 ∷ bounds_of xs in
-    let one : (kb ++ b ∷ []) ++ rest ≡ (kb ++ []) ++ b ∷ rest = append_assoc kb (b ∷ []) rest ∙ sym (none_open kb (b ∷ rest)) in
+    let one : (kb ++ b ∷ []) ++ rest ≡ (kb ++ []) ++ b ∷ rest = append_assoc kb (b ∷ []) rest ∙ sym (append_nothing kb (b ∷ rest)) in
     let first = subst (λ l. AreAscendingBounds 0 l) one s.symmetric_bounds.first in
-    let whole = rises_normal (kept ++ (b, x.1) ∷ xs) 0 (subst (λ l. AreAscendingBounds 0 l) (none_open kb (b ∷ rest) ∙ sym (bounds-append kept ((b, x.1) ∷ xs))) first) in
+    let whole = ascending_bounds_normal (kept ++ (b, x.1) ∷ xs) 0 (subst (λ l. AreAscendingBounds 0 l) (append_nothing kb (b ∷ rest) ∙ sym (bounds-append kept ((b, x.1) ∷ xs))) first) in
     differing_of kept ((b, x.1) ∷ xs) ys wx wy (record {
       symmetric_bounds = record {
         first = first;
-        second = subst (λ l. AreAscendingBounds 0 l) (sym (none_open kb (bounds_of ys))) (rises_drop kb (bounds_of ys) b 0 (subst (λ l. AreAscendingBounds 0 l) (append_assoc kb (b ∷ []) (bounds_of ys)) s.symmetric_bounds.second));
+        second = subst (λ l. AreAscendingBounds 0 l) (sym (append_nothing kb (bounds_of ys))) (ascending_drop kb (bounds_of ys) b 0 (subst (λ l. AreAscendingBounds 0 l) (append_assoc kb (b ∷ []) (bounds_of ys)) s.symmetric_bounds.second));
         same = λ q. ap (λ (l : List ℕ). exactly_one (is_odd_at l q) (is_odd_at (bounds_of ys) q)) (sym one) ∙ s.symmetric_bounds.same q;
       };
       one = refl;
@@ -333,19 +333,19 @@ restored_first kept b x xs ys wx wy s =
 
 -- ---- when no bound is open
 
-pub apart_zero : (kept : List (ℕ × ℕ)) (bound : Option ℕ) (i j : ℕ) (xs ys wx wy : List (ℕ × ℕ)) → bound ≡ None → IsBoundsStep kept bound i j xs ys wx wy → (i ≡ 0) × (j ≡ 0)
-apart_zero kept bound i j xs ys wx wy is s =
+pub bounds_step_without_bound : (kept : List (ℕ × ℕ)) (bound : Option ℕ) (i j : ℕ) (xs ys wx wy : List (ℕ × ℕ)) → bound ≡ None → IsBoundsStep kept bound i j xs ys wx wy → (i ≡ 0) × (j ≡ 0)
+bounds_step_without_bound kept bound i j xs ys wx wy is s =
     let none : 0 ≡ i + j = ap (λ o. length (open_of o)) (sym is) ∙ s.one in
     (omega (arith, none), omega (arith, none))
 
-pub apart_differing : (kept : List (ℕ × ℕ)) (bound : Option ℕ) (i j : ℕ) (xs ys wx wy : List (ℕ × ℕ)) → bound ≡ None → IsBoundsStep kept bound i j xs ys wx wy → IsSymmetricStep kept xs ys wx wy
-apart_differing kept bound i j xs ys wx wy is s =
-    let z = apart_zero kept bound i j xs ys wx wy is s in
+pub symmetric_of_bounds_step : (kept : List (ℕ × ℕ)) (bound : Option ℕ) (i j : ℕ) (xs ys wx wy : List (ℕ × ℕ)) → bound ≡ None → IsBoundsStep kept bound i j xs ys wx wy → IsSymmetricStep kept xs ys wx wy
+symmetric_of_bounds_step kept bound i j xs ys wx wy is s =
+    let z = bounds_step_without_bound kept bound i j xs ys wx wy is s in
     differing_of kept xs ys wx wy
     (subst (λ n. IsBoundsStep kept None n 0 xs ys wx wy) z.0 (subst (λ n. IsBoundsStep kept None i n xs ys wx wy) z.1 (subst (λ o. IsBoundsStep kept o i j xs ys wx wy) is s)))
 
-pub apart_crossed : (kept : List (ℕ × ℕ)) (bound : Option ℕ) (i j : ℕ) (xs ys wx wy : List (ℕ × ℕ)) → bound ≡ None → (i ≡ 0) × (j ≡ 0) → IsSymmetricStep kept xs ys wx wy → IsBoundsStep kept bound i j xs ys wx wy
-apart_crossed kept bound i j xs ys wx wy is z d =
+pub bounds_step_of_symmetric : (kept : List (ℕ × ℕ)) (bound : Option ℕ) (i j : ℕ) (xs ys wx wy : List (ℕ × ℕ)) → bound ≡ None → (i ≡ 0) × (j ≡ 0) → IsSymmetricStep kept xs ys wx wy → IsBoundsStep kept bound i j xs ys wx wy
+bounds_step_of_symmetric kept bound i j xs ys wx wy is z d =
     subst (λ o. IsBoundsStep kept o i j xs ys wx wy) (sym is)
     (subst (λ n. IsBoundsStep kept None i n xs ys wx wy) (sym z.1) (subst (λ n. IsBoundsStep kept None n 0 xs ys wx wy) (sym z.0) (common_of kept xs ys wx wy d)))
 
@@ -354,9 +354,9 @@ can_first kept xs ys wx wy d = record { normal = d.first_normal; built = d.norma
 
 -- ---- a block of each list
 
-rises_front : (xs ys : List ℕ) (low : ℕ) → AreAscendingBounds low (xs ++ ys) → AreAscendingBounds low xs
-rises_front [] ys low r = tt
-rises_front (x ∷ xs) ys low r = (r.0, r.1, rises_front xs ys (x + 1) r.2)
+ascending_front : (xs ys : List ℕ) (low : ℕ) → AreAscendingBounds low (xs ++ ys) → AreAscendingBounds low xs
+ascending_front [] ys low r = tt
+ascending_front (x ∷ xs) ys low r = (r.0, r.1, ascending_front xs ys (x + 1) r.2)
 
 pub take_rest : (l : List (ℕ × ℕ)) (n : ℕ) → take (length l - n) (drop n l) ≡ drop n l
 take_rest l n = take_all (length l - n) (drop n l) (omega (arith, length-drop n l))
@@ -380,7 +380,7 @@ front_of xs ranges front tail i is part some most =
     sym is ∙ ap (λ l. l ++ tail) (sym (take-append-drop (length front) ranges)) ∙ append_assoc (take (length front) ranges) (drop (length front) ranges) tail
     ∙ ap (λ l. l ++ (drop (length front) ranges ++ tail)) (sym part) in
     ap (λ l. drop i (bounds_of l)) parts ∙ ap (drop i) (bounds-append front (drop (length front) ranges ++ tail))
-    ∙ drop-append-le i (bounds_of front) (bounds_of (drop (length front) ranges ++ tail)) (omega (arith, bounds_twice front))
+    ∙ drop-append-le i (bounds_of front) (bounds_of (drop (length front) ranges ++ tail)) (omega (arith, bound_count front))
 
 -- the rest of them
 pub rest_of_front : (ranges front tail : List (ℕ × ℕ)) (f : ℕ) → front ≡ take (length front) ranges → f ≤ 2 * length front
@@ -393,7 +393,7 @@ rest_of_front ranges front tail f part within =
     let parts : drop n ranges ++ tail ≡ drop n front ++ (later ++ tail) = ap (λ l. l ++ tail) dropped ∙ append_assoc (drop n front) later tail in
     let bounds : bounds_of (drop n ranges ++ tail) ≡ drop (2 * n) (bounds_of front) ++ bounds_of (later ++ tail) =
     ap bounds_of parts ∙ bounds-append (drop n front) (later ++ tail) ∙ ap (λ l. l ++ bounds_of (later ++ tail)) (bounds_drop front n) in
-    let left : f % 2 ≤ length (drop (2 * n) (bounds_of front)) = omega (arith, length-drop (2 * n) (bounds_of front), bounds_twice front) in
+    let left : f % 2 ≤ length (drop (2 * n) (bounds_of front)) = omega (arith, length-drop (2 * n) (bounds_of front), bound_count front) in
     let all : 2 * n + f % 2 ≡ f = omega arith in
     ap (drop (f % 2)) bounds ∙ drop-append-le (f % 2) (drop (2 * n) (bounds_of front)) (bounds_of (later ++ tail)) left
     ∙ ap (λ l. l ++ bounds_of (later ++ tail)) (drop-drop (f % 2) (2 * n) (bounds_of front) ∙ ap (λ k. drop k (bounds_of front)) all)
@@ -430,13 +430,13 @@ kernel_crossing kept bound i j f g xs ys rx ry fx fy bx by wx wy written s hx hy
     (subst (λ l. AreBounds (bounds_of kept ++ open_of bound) l (drop j (bounds_of fy) ++ bounds_of (drop (length fy) ry ++ by)) wx wy) (front_of xs rx fx bx i hx.parts hx.leads hx.some (omega (arith, s.one, open_most bound)))
     (subst (λ l. AreBounds (bounds_of kept ++ open_of bound) (drop i (bounds_of xs)) l wx wy) (front_of ys ry fy by j hy.parts hy.leads hy.some (omega (arith, s.one, open_most bound))) s.symmetric_bounds))
 
-pub kernel_rises : (kept : List (ℕ × ℕ)) (xs ys written : List ℕ) (wx wy : List (ℕ × ℕ)) → AreBounds (bounds_of kept ++ written) xs ys wx wy → AreAscendingBounds 0 (bounds_of kept ++ written)
-kernel_rises kept xs ys written wx wy s = rises_front (bounds_of kept ++ written) xs 0 s.first
+pub kernel_bounds_ascend : (kept : List (ℕ × ℕ)) (xs ys written : List ℕ) (wx wy : List (ℕ × ℕ)) → AreBounds (bounds_of kept ++ written) xs ys wx wy → AreAscendingBounds 0 (bounds_of kept ++ written)
+kernel_bounds_ascend kept xs ys written wx wy s = ascending_front (bounds_of kept ++ written) xs 0 s.first
 
 -- the numbers of bounds that were passed and kept
-parity : (f g written n a b k k' o : ℕ) → (f ≡ 2 * a) ⊎ (g ≡ 2 * b) → f + g ≡ written + 2 * n → o ≤ 1 → 2 * k' + o ≡ 2 * k + written → (o ≡ f % 2 + g % 2) × (f % 2 + g % 2 ≤ 1)
-parity f g written n a b k k' o (inl first) even most total = (omega arith, omega arith)
-parity f g written n a b k k' o (inr second) even most total = (omega arith, omega arith)
+bound_parity : (f g written n a b k k' o : ℕ) → (f ≡ 2 * a) ⊎ (g ≡ 2 * b) → f + g ≡ written + 2 * n → o ≤ 1 → 2 * k' + o ≡ 2 * k + written → (o ≡ f % 2 + g % 2) × (f % 2 + g % 2 ≤ 1)
+bound_parity f g written n a b k k' o (inl first) even most total = (omega arith, omega arith)
+bound_parity f g written n a b k k' o (inr second) even most total = (omega arith, omega arith)
 
 pub crossed_next : (kept kept' : List (ℕ × ℕ)) (bound bound' : Option ℕ) (i j f g n : ℕ) (xs ys xs' ys' rx ry fx fy bx by wx wy : List (ℕ × ℕ)) (written : List ℕ)
     → IsBoundsStep kept bound i j xs ys wx wy → HasFront xs rx fx bx → HasFront ys ry fy by → Crosses bound i j f g fx fy written
@@ -448,8 +448,8 @@ crossed_next kept kept' bound bound' i j f g n xs ys xs' ys' rx ry fx fy bx by w
     let rest_x : drop f (bounds_of fx) ++ bounds_of (drop (length fx) rx ++ bx) ≡ drop (f % 2) (bounds_of xs') = sym (rest_of_front rx fx bx f hx.leads fits_x) ∙ ap (λ l. drop (f % 2) (bounds_of l)) (sym ex) in
     let rest_y : drop g (bounds_of fy) ++ bounds_of (drop (length fy) ry ++ by) ≡ drop (g % 2) (bounds_of ys') = sym (rest_of_front ry fy by g hy.leads fits_y) ∙ ap (λ l. drop (g % 2) (bounds_of l)) (sym ey) in
     let total : 2 * length kept' + length (open_of bound') ≡ 2 * length kept + length written =
-    omega (arith, ap length is, length-append (bounds_of kept') (open_of bound'), length-append (bounds_of kept) written, bounds_twice kept, bounds_twice kept') in
-    let odd = parity f g (length written) n (length fx) (length fy) (length kept) (length kept') (length (open_of bound')) ended even (open_most bound') total in
+    omega (arith, ap length is, length-append (bounds_of kept') (open_of bound'), length-append (bounds_of kept) written, bound_count kept, bound_count kept') in
+    let odd = bound_parity f g (length written) n (length fx) (length fy) (length kept) (length kept') (length (open_of bound')) ended even (open_most bound') total in
     record {
       symmetric_bounds = subst (λ l. AreBounds l (drop (f % 2) (bounds_of xs')) (drop (g % 2) (bounds_of ys')) wx wy) (sym is)
           (subst (λ l. AreBounds (bounds_of kept ++ written) l (drop (g % 2) (bounds_of ys')) wx wy) rest_x
@@ -468,15 +468,15 @@ restored_one kept k None b xs ys wx wy s = absurd (omega (arith, s.first_some))
 restored_one kept k (Some x) None xs ys wx wy s = restored_first kept k x xs [] wx wy s
 restored_one kept k (Some x) (Some y) xs ys wx wy s = restored_first kept k x xs (y ∷ ys) wx wy s
 
-restored_apart : (a : Option (ℕ × ℕ)) (i : ℕ) → restored_range a i None ≡ a
-restored_apart None i = refl
-restored_apart (Some x) i = refl
+restored_without_bound : (a : Option (ℕ × ℕ)) (i : ℕ) → restored_range a i None ≡ a
+restored_without_bound None i = refl
+restored_without_bound (Some x) i = refl
 
-pub restored_all : (kept : List (ℕ × ℕ)) (bound : Option ℕ) (i j : ℕ) (a b : Option (ℕ × ℕ)) (xs ys wx wy : List (ℕ × ℕ)) → IsBoundsStep kept bound i j (from_current a xs) (from_current b ys) wx wy → IsSymmetricStep kept (from_current (restored_range a i bound) xs) (from_current (restored_range b j bound) ys) wx wy
-restored_all kept None i j a b xs ys wx wy s =
-    subst (λ o. IsSymmetricStep kept (from_current o xs) (from_current (restored_range b j None) ys) wx wy) (sym (restored_apart a i))
-    (subst (λ o. IsSymmetricStep kept (from_current a xs) (from_current o ys) wx wy) (sym (restored_apart b j)) (apart_differing kept None i j (from_current a xs) (from_current b ys) wx wy refl s))
-restored_all kept (Some k) i j a b xs ys wx wy s = elim (cases_lt i 1) [
+pub restored_is_current : (kept : List (ℕ × ℕ)) (bound : Option ℕ) (i j : ℕ) (a b : Option (ℕ × ℕ)) (xs ys wx wy : List (ℕ × ℕ)) → IsBoundsStep kept bound i j (from_current a xs) (from_current b ys) wx wy → IsSymmetricStep kept (from_current (restored_range a i bound) xs) (from_current (restored_range b j bound) ys) wx wy
+restored_is_current kept None i j a b xs ys wx wy s =
+    subst (λ o. IsSymmetricStep kept (from_current o xs) (from_current (restored_range b j None) ys) wx wy) (sym (restored_without_bound a i))
+    (subst (λ o. IsSymmetricStep kept (from_current a xs) (from_current o ys) wx wy) (sym (restored_without_bound b j)) (symmetric_of_bounds_step kept None i j (from_current a xs) (from_current b ys) wx wy refl s))
+restored_is_current kept (Some k) i j a b xs ys wx wy s = elim (cases_lt i 1) [
   | inl lt ↦
       let zero_i : i ≡ 0 = omega arith in
       let one_j : j ≡ 1 = omega (arith, s.one) in
@@ -503,13 +503,13 @@ none_second (Some r) None i j bound x xs ys ended is = refl
 none_second (Some r) (Some s) i j bound x xs ys (inl none) is = absurd (omega (arith, ap length none))
 none_second (Some r) (Some s) i j bound x xs ys (inr none) is = absurd (omega (arith, ap length none))
 
-pub ended_differing : (kept : List (ℕ × ℕ)) (bound : Option ℕ) (i j : ℕ) (a b first second : Option (ℕ × ℕ)) (xs xs' ys ys' wx wy : List (ℕ × ℕ)) → from_current a xs' ≡ xs → from_current b ys' ≡ ys → first ≡ restored_range a i bound → second ≡ restored_range b j bound
+pub ended_restored_ranges : (kept : List (ℕ × ℕ)) (bound : Option ℕ) (i j : ℕ) (a b first second : Option (ℕ × ℕ)) (xs xs' ys ys' wx wy : List (ℕ × ℕ)) → from_current a xs' ≡ xs → from_current b ys' ≡ ys → first ≡ restored_range a i bound → second ≡ restored_range b j bound
     → IsBoundsStep kept bound i j xs ys wx wy → IsSymmetricStep kept (from_current first xs') (from_current second ys') wx wy
-ended_differing kept bound i j a b first second xs xs' ys ys' wx wy ex ey e f s =
+ended_restored_ranges kept bound i j a b first second xs xs' ys ys' wx wy ex ey e f s =
     let at = subst (λ l. IsBoundsStep kept bound i j l (from_current b ys') wx wy) (sym ex) (subst (λ l. IsBoundsStep kept bound i j xs l wx wy) (sym ey) s) in
     subst (λ o. IsSymmetricStep kept (from_current o xs') (from_current second ys') wx wy) (sym e)
-    (subst (λ o. IsSymmetricStep kept (from_current (restored_range a i bound) xs') (from_current o ys') wx wy) (sym f) (restored_all kept bound i j a b xs' ys' wx wy at))
+    (subst (λ o. IsSymmetricStep kept (from_current (restored_range a i bound) xs') (from_current o ys') wx wy) (sym f) (restored_is_current kept bound i j a b xs' ys' wx wy at))
 
-pub ended_begun : (a b : Option (ℕ × ℕ)) (xs xs' ys ys' : List (ℕ × ℕ)) → from_current a xs' ≡ xs → from_current b ys' ≡ ys → (xs ≡ []) ⊎ (ys ≡ []) → (from_current a xs' ≡ []) ⊎ (from_current b ys' ≡ [])
-ended_begun a b xs xs' ys ys' ex ey (inl none) = inl (ex ∙ none)
-ended_begun a b xs xs' ys ys' ex ey (inr none) = inr (ey ∙ none)
+pub ended_from_current : (a b : Option (ℕ × ℕ)) (xs xs' ys ys' : List (ℕ × ℕ)) → from_current a xs' ≡ xs → from_current b ys' ≡ ys → (xs ≡ []) ⊎ (ys ≡ []) → (from_current a xs' ≡ []) ⊎ (from_current b ys' ≡ [])
+ended_from_current a b xs xs' ys ys' ex ey (inl none) = inl (ex ∙ none)
+ended_from_current a b xs xs' ys ys' ex ey (inr none) = inr (ey ∙ none)

@@ -12,9 +12,9 @@ use Rattle.moc_blocks.specs.Private.Built.{EndsBelow}
 use Rattle.moc_blocks.specs.Private.Walks.{EndsBy, Skips}
 use Rattle.moc_blocks.specs.Lemmas.Ranges.{later_only}
 use Rattle.moc_operations.specs.Private.Meeting.{IsAscending, CanIntersect, Intersects, SkipsBelow, gaps_before, gaps_of, end_of}
-use Rattle.moc_blocks.proofs.Blocking.{IsNormal-suffix, nothing_more}
+use Rattle.moc_blocks.proofs.Blocking.{IsNormal-suffix, append_empty}
 use Rattle.moc_blocks.proofs.Merging.{ends_next, EndsBelow-append, EndsBelow-more}
-use Rattle.moc_operations.proofs.Merging.{next_later}
+use Rattle.moc_operations.proofs.Merging.{next_of_suffix}
 use Rattle.moc_operations.proofs.Views.{normal_below}
 use Rattle.moc_operations.proofs.InCommon.{normal_from}
 
@@ -61,9 +61,9 @@ begins_gap : (x low : ℕ) (rs : List (ℕ × ℕ)) → x < low → BeginsAfter 
 begins_gap x low [] lt = lt
 begins_gap x low (r ∷ rs) lt = lt
 
-pub next_gap : (low : ℕ) (rs : List (ℕ × ℕ)) → next_of (gaps_of low rs) ≡ low
-next_gap low [] = refl
-next_gap low (r ∷ rs) = refl
+pub next_of_gaps : (low : ℕ) (rs : List (ℕ × ℕ)) → next_of (gaps_of low rs) ≡ low
+next_of_gaps low [] = refl
+next_of_gaps low (r ∷ rs) = refl
 
 abbrev pub gap_rest : List (ℕ × ℕ) → List (ℕ × ℕ)
 gap_rest [] = []
@@ -73,21 +73,21 @@ pub first_gap : (low next : ℕ) (rs : List (ℕ × ℕ)) → next ≡ next_of r
 first_gap low next [] is = ap (λ n. (low, n) ∷ []) (sym is)
 first_gap low next (r ∷ rs) is = ap (λ n. (low, n) ∷ gaps_of r.1 rs) (sym is)
 
-pub gaps_rising : (low : ℕ) (rs : List (ℕ × ℕ)) → IsNormal rs → low ≤ next_of rs → IsAscending (gaps_of low rs)
-gaps_rising low [] normal le = (le, tt, tt)
-gaps_rising low (r ∷ rs) normal le =
+pub ascending_gaps : (low : ℕ) (rs : List (ℕ × ℕ)) → IsNormal rs → low ≤ next_of rs → IsAscending (gaps_of low rs)
+ascending_gaps low [] normal le = (le, tt, tt)
+ascending_gaps low (r ∷ rs) normal le =
     let next : r.1 < next_of rs = (ends_next (r ∷ []) rs normal).0 in
-    (le, begins_gap r.0 r.1 rs normal.0, gaps_rising r.1 rs normal.3 (omega arith))
+    (le, begins_gap r.0 r.1 rs normal.0, ascending_gaps r.1 rs normal.3 (omega arith))
 
-pub rising_low : (low : ℕ) (rs : List (ℕ × ℕ)) → IsAscending (gaps_of low rs) → low ≤ next_of rs
-rising_low low [] ascending = ascending.0
-rising_low low (r ∷ rs) ascending = ascending.0
+pub ascending_gaps_low : (low : ℕ) (rs : List (ℕ × ℕ)) → IsAscending (gaps_of low rs) → low ≤ next_of rs
+ascending_gaps_low low [] ascending = ascending.0
+ascending_gaps_low low (r ∷ rs) ascending = ascending.0
 
 before_both : (low a b q : ℕ) (more rest : Bool) → low ≤ a → a < b → q < b → more ≡ false → rest ≡ (nat_le b q && not more) → ((nat_le low q && nat_lt q a) || rest) ≡ (nat_le low q && not ((nat_le a q && nat_lt q b) || more))
 before_both low a b q more rest le lt early none is = grind (arith, nat_tests)
 
-behind_both : (low a b q : ℕ) (more rest : Bool) → low ≤ a → a < b → b ≤ q → rest ≡ (nat_le b q && not more) → ((nat_le low q && nat_lt q a) || rest) ≡ (nat_le low q && not ((nat_le a q && nat_lt q b) || more))
-behind_both low a b q more rest le lt late is = grind (arith, nat_tests)
+gap_after_both : (low a b q : ℕ) (more rest : Bool) → low ≤ a → a < b → b ≤ q → rest ≡ (nat_le b q && not more) → ((nat_le low q && nat_lt q a) || rest) ≡ (nat_le low q && not ((nat_le a q && nat_lt q b) || more))
+gap_after_both low a b q more rest le lt late is = grind (arith, nat_tests)
 
 no_gap : (low q : ℕ) → q < 18446744073709551615 → ((nat_le low q && nat_lt q 18446744073709551615) || false) ≡ (nat_le low q && true)
 no_gap low q lt = grind (arith, nat_tests)
@@ -100,7 +100,7 @@ in_gaps low (r ∷ rs) q normal le lt =
     let rest = in_gaps r.1 rs q normal.3 (omega arith) lt in
     elim (cases_lt q r.1) [
       | inl early ↦ before_both low r.0 r.1 q (in_ranges rs q) (in_ranges (gaps_of r.1 rs) q) le normal.0 early (later_only r.1 q rs normal.3 normal.2 (omega arith)) rest
-      | inr late ↦ behind_both low r.0 r.1 q (in_ranges rs q) (in_ranges (gaps_of r.1 rs) q) le normal.0 late rest
+      | inr late ↦ gap_after_both low r.0 r.1 q (in_ranges rs q) (in_ranges (gaps_of r.1 rs) q) le normal.0 late rest
     ]
 
 and_same : (a b c : Bool) → (a ≡ true → b ≡ c) → (a && b) ≡ (a && c)
@@ -131,10 +131,10 @@ none_past limit q (r ∷ rs) below le = let rest = none_past limit q rs below.1 
 
 from_first : (rs : List (ℕ × ℕ)) (q : ℕ) → IsNormal rs → in_ranges rs q ≡ true → next_of rs ≤ q
 from_first rs q normal here =
-    subst (λ (l : List (ℕ × ℕ)). next_of l ≤ q) (nothing_more rs) (normal_from rs [] q (subst IsNormal (sym (nothing_more rs)) normal) here)
+    subst (λ (l : List (ℕ × ℕ)). next_of l ≤ q) (append_empty rs) (normal_from rs [] q (subst IsNormal (sym (append_empty rs)) normal) here)
 
-pub left_by : (limit : ℕ) (xs xs' : List (ℕ × ℕ)) (n : ℕ) → Skips (limit, limit) xs xs' n → SkipsBelow (limit + 1) xs xs'
-left_by limit xs xs' n p = record { removed = p.removed; parts = p.parts; below = below_by limit p.removed p.ended }
+pub skipped_below_limit : (limit : ℕ) (xs xs' : List (ℕ × ℕ)) (n : ℕ) → Skips (limit, limit) xs xs' n → SkipsBelow (limit + 1) xs xs'
+skipped_below_limit limit xs xs' n p = record { removed = p.removed; parts = p.parts; below = below_by limit p.removed p.ended }
 
 pub left_more : (f g : ℕ) (xs xs' xs'' : List (ℕ × ℕ)) → SkipsBelow f xs xs' → f ≤ g → SkipsBelow g xs' xs'' → SkipsBelow g xs xs''
 left_more f g xs xs' xs'' a le b = record {
@@ -151,24 +151,24 @@ gaps_grow xs ys ys' low from q nx ny le is l = and_same (in_ranges xs q) (in_ran
     let lt = normal_below xs q nx here in
     let past = from_first xs q nx here in
     let whole = subst IsNormal l.parts ny in
-    let later : next_of ys ≤ next_of ys' = omega (arith, ap next_of l.parts, next_later l.removed ys' whole) in
+    let later : next_of ys ≤ next_of ys' = omega (arith, ap next_of l.parts, next_of_suffix l.removed ys' whole) in
     let none = none_past from q l.removed l.below (omega arith) in
     let same : in_ranges ys q ≡ in_ranges ys' q = ap (λ (k : List (ℕ × ℕ)). in_ranges k q) l.parts ∙ in_ranges-append l.removed ys' q ∙ ap (λ b. b || in_ranges ys' q) none in
     in_gaps low ys' q (IsNormal-suffix l.removed ys' whole) (omega arith) (omega arith)
     ∙ ap (λ b. nat_le low q && not b) (sym same)
     ∙ sym (in_gaps low ys q ny le (omega arith)))
 
-pub lacks_left : (ks xs ys ys' : List (ℕ × ℕ)) (low from : ℕ) → CanIntersect xs (gaps_of low ys) ks → IsNormal ys → from ≡ next_of xs → SkipsBelow (from + 1) ys ys' → Intersects xs xs (gaps_of low ys) (gaps_of low ys') ks ks
-lacks_left ks xs ys ys' low from can ny is l =
+pub intersects_gaps_after_skip : (ks xs ys ys' : List (ℕ × ℕ)) (low from : ℕ) → CanIntersect xs (gaps_of low ys) ks → IsNormal ys → from ≡ next_of xs → SkipsBelow (from + 1) ys ys' → Intersects xs xs (gaps_of low ys) (gaps_of low ys') ks ks
+intersects_gaps_after_skip ks xs ys ys' low from can ny is l =
     let whole = subst IsNormal l.parts ny in
-    let le = rising_low low ys can.second_ascending in
-    let later : next_of ys ≤ next_of ys' = omega (arith, ap next_of l.parts, next_later l.removed ys' whole) in
+    let le = ascending_gaps_low low ys can.second_ascending in
+    let later : next_of ys ≤ next_of ys' = omega (arith, ap next_of l.parts, next_of_suffix l.removed ys' whole) in
     record {
       can = record {
         built = can.built;
         first_normal = can.first_normal;
-        second_ascending = gaps_rising low ys' (IsNormal-suffix l.removed ys' whole) (omega arith);
-        below = EndsBelow-more (max (next_of xs) (next_of (gaps_of low ys))) (max (next_of xs) (next_of (gaps_of low ys'))) ks can.below (omega (arith, next_gap low ys, next_gap low ys'));
+        second_ascending = ascending_gaps low ys' (IsNormal-suffix l.removed ys' whole) (omega arith);
+        below = EndsBelow-more (max (next_of xs) (next_of (gaps_of low ys))) (max (next_of xs) (next_of (gaps_of low ys'))) ks can.below (omega (arith, next_of_gaps low ys, next_of_gaps low ys'));
       };
       same = λ q. ap (λ k. in_ranges ks q || k) (gaps_grow xs ys ys' low from q can.first_normal ny le is l);
     }
@@ -176,20 +176,20 @@ lacks_left ks xs ys ys' low from can ny is l =
 -- one list has no more ranges
 pub can_end : (ks xs ys : List (ℕ × ℕ)) (low : ℕ) → CanIntersect xs (gaps_of low ys) ks → IsNormal ys → CanIntersect xs (gaps_of low []) ks
 can_end ks xs ys low can ny =
-    let le = rising_low low ys can.second_ascending in
+    let le = ascending_gaps_low low ys can.second_ascending in
     record {
       built = can.built;
       first_normal = can.first_normal;
       second_ascending = (omega (arith, le, next_small ys ny), tt, tt);
-      below = EndsBelow-more (max (next_of xs) (next_of (gaps_of low ys))) (max (next_of xs) low) ks can.below (omega (arith, next_gap low ys));
+      below = EndsBelow-more (max (next_of xs) (next_of (gaps_of low ys))) (max (next_of xs) low) ks can.below (omega (arith, next_of_gaps low ys));
     }
 
-lacked_end : (xs ys : List (ℕ × ℕ)) (low q : ℕ) → (xs ≡ []) ⊎ (ys ≡ []) → (in_ranges xs q && in_ranges (gaps_of low []) q) ≡ (in_ranges xs q && in_ranges (gaps_of low ys) q)
-lacked_end xs ys low q ended = elim ended [
+gap_at_either_end : (xs ys : List (ℕ × ℕ)) (low q : ℕ) → (xs ≡ []) ⊎ (ys ≡ []) → (in_ranges xs q && in_ranges (gaps_of low []) q) ≡ (in_ranges xs q && in_ranges (gaps_of low ys) q)
+gap_at_either_end xs ys low q ended = elim ended [
   | inl none ↦ ap (λ (l : List (ℕ × ℕ)). in_ranges l q && in_ranges (gaps_of low []) q) none ∙ ap (λ (l : List (ℕ × ℕ)). in_ranges l q && in_ranges (gaps_of low ys) q) (sym none)
   | inr none ↦ ap (λ (l : List (ℕ × ℕ)). in_ranges xs q && in_ranges (gaps_of low l) q) (sym none)
 ]
 
-pub lacked_all : (ks written xs xs' ys ys' : List (ℕ × ℕ)) (low : ℕ) → IsNormal xs → IsNormal ys → Intersects xs xs' (gaps_of 0 ys) (gaps_of low ys') [] ks → (xs' ≡ []) ⊎ (ys' ≡ []) → ((q : ℕ) → in_ranges written q ≡ (in_ranges ks q || (in_ranges xs' q && in_ranges (gaps_of low []) q))) → (q : ℕ) → in_ranges written q ≡ (in_ranges xs q && not (in_ranges ys q))
-lacked_all ks written xs xs' ys ys' low nx ny m ended made_is q =
-    made_is q ∙ ap (λ k. in_ranges ks q || k) (lacked_end xs' ys' low q ended) ∙ m.same q ∙ common_gaps xs ys q nx ny
+pub difference_of_common_gaps : (ks written xs xs' ys ys' : List (ℕ × ℕ)) (low : ℕ) → IsNormal xs → IsNormal ys → Intersects xs xs' (gaps_of 0 ys) (gaps_of low ys') [] ks → (xs' ≡ []) ⊎ (ys' ≡ []) → ((q : ℕ) → in_ranges written q ≡ (in_ranges ks q || (in_ranges xs' q && in_ranges (gaps_of low []) q))) → (q : ℕ) → in_ranges written q ≡ (in_ranges xs q && not (in_ranges ys q))
+difference_of_common_gaps ks written xs xs' ys ys' low nx ny m ended made_is q =
+    made_is q ∙ ap (λ k. in_ranges ks q || k) (gap_at_either_end xs' ys' low q ended) ∙ m.same q ∙ common_gaps xs ys q nx ny

@@ -15,13 +15,13 @@ use Rattle.moc_blocks.specs.Private.Built.{EndsBelow}
 use Rattle.moc_operations.specs.Private.Taking.{AddsPart, MovesCommon}
 use Rattle.moc_blocks.specs.Private.Walks.{EndsBy}
 use Rattle.moc_operations.specs.Private.Meeting.{IsAscending, list_if, CanIntersect, Intersects, SkipsBelow}
-use Rattle.moc_blocks.proofs.Blocking.{IsNormal-prefix, IsNormal-suffix, IsNormal-rest, nothing_more}
+use Rattle.moc_blocks.proofs.Blocking.{IsNormal-prefix, IsNormal-suffix, IsNormal-rest, append_empty}
 use Rattle.moc_blocks.proofs.Merging.{ends_by_last, ends_next, EndsBelow-more}
-use Rattle.moc_operations.proofs.Merging.{next_later}
+use Rattle.moc_operations.proofs.Merging.{next_of_suffix}
 use Rattle.moc_blocks.proofs.Building.{pushed_normal}
 use Rattle.moc_operations.proofs.Walking.{and_swap}
-use Rattle.moc_operations.proofs.InCommon.{rising_normal, taken_ended, pieces_rising, pieces_back, common_parts}
-use Rattle.moc_operations.proofs.InCommon.{common_below, common_nothing}
+use Rattle.moc_operations.proofs.InCommon.{ascending_of_normal, moves_common_at_end, ascending_overlap, pieces_back, common_parts}
+use Rattle.moc_operations.proofs.InCommon.{common_below, empty_common_range}
 use Rattle.moc_blocks.proofs.Basics.{common_same}
 
 -- a range after those that were written
@@ -34,8 +34,8 @@ no_lt_byte a b n e l = grind (arith, nat_tests, e)
 no_lt : (a b : ℕ) → b ≤ a → nat_lt a b ≡ false
 no_lt a b le = grind (arith, nat_tests)
 
-pub kept_at : (out : List (ℕ × ℕ)) (written from to n : ℕ) → written < length out → n ≡ bool_byte (nat_lt from to) → take (written + n) (slice_set out written (from, to)) ≡ take written out ++ list_if (nat_lt from to) (from, to)
-kept_at out written from to n buffer e = elim (cases_lt from to) [
+pub written_range_at_index : (out : List (ℕ × ℕ)) (written from to n : ℕ) → written < length out → n ≡ bool_byte (nat_lt from to) → take (written + n) (slice_set out written (from, to)) ≡ take written out ++ list_if (nat_lt from to) (from, to)
+written_range_at_index out written from to n buffer e = elim (cases_lt from to) [
   | inl lt ↦
       let one = lt_byte from to n e lt in
       take-set_at out written (written + n) (from, to) (omega arith) buffer ∙ ap (λ b. take written out ++ list_if b (from, to)) (sym (lt-ltb from to lt))
@@ -43,7 +43,7 @@ kept_at out written from to n buffer e = elim (cases_lt from to) [
       let none = no_lt_byte from to n e ge in
       let at : written + n ≡ written = omega arith in
       ap (λ k. take k (slice_set out written (from, to))) at ∙ take-set out written (from, to)
-      ∙ sym (nothing_more (take written out)) ∙ ap (λ b. take written out ++ list_if b (from, to)) (sym (no_lt from to ge))
+      ∙ sym (append_empty (take written out)) ∙ ap (λ b. take written out ++ list_if b (from, to)) (sym (no_lt from to ge))
 ]
 
 adds_range : (ks : List (ℕ × ℕ)) (from to : ℕ) → IsNormal ks → to ≤ pixel_count → EndsBelow from ks → from < to → AddsPart from to ks (ks ++ (from, to) ∷ [])
@@ -57,21 +57,21 @@ adds_none : (ks : List (ℕ × ℕ)) (from to : ℕ) → IsNormal ks → EndsBel
 adds_none ks from to normal after le = record {
   built = normal;
   below = λ f more l. EndsBelow-more from f ks after more;
-  same = λ q. common_nothing ks from to from to q refl refl le;
+  same = λ q. empty_common_range ks from to from to q refl refl le;
 }
 
-adds_kept : (ks : List (ℕ × ℕ)) (from to : ℕ) → IsNormal ks → to ≤ pixel_count → EndsBelow from ks → AddsPart from to ks (ks ++ list_if (nat_lt from to) (from, to))
-adds_kept ks from to normal within after = elim (cases_lt from to) [
+adds_part_if_nonempty : (ks : List (ℕ × ℕ)) (from to : ℕ) → IsNormal ks → to ≤ pixel_count → EndsBelow from ks → AddsPart from to ks (ks ++ list_if (nat_lt from to) (from, to))
+adds_part_if_nonempty ks from to normal within after = elim (cases_lt from to) [
   | inl lt ↦ subst (λ (b : Bool). AddsPart from to ks (ks ++ list_if b (from, to))) (sym (lt-ltb from to lt)) (adds_range ks from to normal within after lt)
   | inr ge ↦ subst (λ (b : Bool). AddsPart from to ks (ks ++ list_if b (from, to))) (sym (no_lt from to ge))
-      (subst (λ (l : List (ℕ × ℕ)). AddsPart from to ks l) (sym (nothing_more ks)) (adds_none ks from to normal after ge))
+      (subst (λ (l : List (ℕ × ℕ)). AddsPart from to ks l) (sym (append_empty ks)) (adds_none ks from to normal after ge))
 ]
 
-adds_made : (before written written' : List (ℕ × ℕ)) (from to : ℕ) → written' ≡ written ++ list_if (nat_lt from to) (from, to) → IsNormal (before ++ written) → to ≤ pixel_count → EndsBelow from (before ++ written) → AddsPart from to (before ++ written) (before ++ written')
-adds_made before written written' from to is normal within after =
+adds_part_if_appended : (before written written' : List (ℕ × ℕ)) (from to : ℕ) → written' ≡ written ++ list_if (nat_lt from to) (from, to) → IsNormal (before ++ written) → to ≤ pixel_count → EndsBelow from (before ++ written) → AddsPart from to (before ++ written) (before ++ written')
+adds_part_if_appended before written written' from to is normal within after =
     subst (λ (l : List (ℕ × ℕ)). AddsPart from to (before ++ written) l)
     (append_assoc before written (list_if (nat_lt from to) (from, to)) ∙ ap (λ (l : List (ℕ × ℕ)). before ++ l) (sym is))
-    (adds_kept (before ++ written) from to normal within after)
+    (adds_part_if_nonempty (before ++ written) from to normal within after)
 
 -- the common part of the range that ends first and the other list's next range was written
 next_after : (r : ℕ × ℕ) (rs : List (ℕ × ℕ)) → IsAscending (r ∷ rs) → r.1 < 18446744073709551615 → r.1 < next_of rs
@@ -91,7 +91,7 @@ meets_first ks ks' xs ys x y from to s ends is_from is_to a =
       };
       same = λ q. ap (λ k. k || (in_ranges xs q && in_ranges (y ∷ ys) q)) (a.same q)
           ∙ or_assoc (in_ranges ks q) (in_range (from, to) q) (in_ranges xs q && in_ranges (y ∷ ys) q)
-          ∙ ap (λ k. in_ranges ks q || k) (sym (pieces_rising x y xs ys from to q s.second_ascending ends is_from is_to));
+          ∙ ap (λ k. in_ranges ks q || k) (sym (ascending_overlap x y xs ys from to q s.second_ascending ends is_from is_to));
     }
 
 meets_second : (ks ks' xs ys : List (ℕ × ℕ)) (x y : ℕ × ℕ) (from to : ℕ) → CanIntersect (x ∷ xs) (y ∷ ys) ks → y.1 ≤ x.1 → from ≡ max x.0 y.0 → to ≡ min x.1 y.1 → AddsPart from to ks ks' → Intersects (x ∷ xs) (x ∷ xs) (y ∷ ys) ys ks ks'
@@ -144,16 +144,16 @@ from_place xs tail i x lt is = ap (λ (l : List (ℕ × ℕ)). l ++ tail) (drop_
 at_place : (xs tail : List (ℕ × ℕ)) (i j : ℕ) → i ≡ j → drop i xs ++ tail ≡ drop j xs ++ tail
 at_place xs tail i j is = ap (λ n. drop n xs ++ tail) is
 
-pub met_on : (xs ys bx by before written written' : List (ℕ × ℕ)) (i j t from to : ℕ) (x y : ℕ × ℕ) → CanIntersect (drop i xs ++ bx) (drop j ys ++ by) (before ++ written) → i < length xs → j < length ys
+pub intersects_next : (xs ys bx by before written written' : List (ℕ × ℕ)) (i j t from to : ℕ) (x y : ℕ × ℕ) → CanIntersect (drop i xs ++ bx) (drop j ys ++ by) (before ++ written) → i < length xs → j < length ys
     → x ≡ get_or xs i (0, 0) → y ≡ get_or ys j (0, 0) → from ≡ max x.0 y.0 → to ≡ min x.1 y.1 → t ≡ bool_byte (nat_le x.1 y.1) → written' ≡ written ++ list_if (nat_lt from to) (from, to)
     → Intersects (drop i xs ++ bx) (drop (i + t) xs ++ bx) (drop j ys ++ by) (drop (j + (1 - t)) ys ++ by) (before ++ written) (before ++ written')
-met_on xs ys bx by before written written' i j t from to x y can l m is_x is_y is_from is_to is_step is =
+intersects_next xs ys bx by before written written' i j t from to x y can l m is_x is_y is_from is_to is_step is =
     let at_x = from_place xs bx i x l is_x in
     let at_y = from_place ys by j y m is_y in
     let s = can_as _ _ _ _ _ at_x at_y can in
     let within : to ≤ pixel_count = omega (arith, s.first_normal.1) in
     let after : EndsBelow from (before ++ written) = subst (λ n. EndsBelow n (before ++ written)) (sym is_from) s.below in
-    let a = adds_made before written written' from to is s.built within after in
+    let a = adds_part_if_appended before written written' from to is s.built within after in
     elim (cases_lt y.1 x.1) [
       | inr le ↦
           let one = le_byte x.1 y.1 t is_step le in
@@ -165,9 +165,9 @@ met_on xs ys bx by before written written' i j t from to x y can l m is_x is_y i
           (meets_second _ _ (drop (i + 1) xs ++ bx) (drop (j + 1) ys ++ by) x y from to s (omega arith) is_from is_to a)
     ]
 
-pub met_none : (xs ys bx by before : List (ℕ × ℕ)) → CanIntersect (xs ++ bx) (ys ++ by) before → Intersects (xs ++ bx) (xs ++ bx) (ys ++ by) (ys ++ by) before (before ++ [])
-met_none xs ys bx by before can =
-    subst (λ (k : List (ℕ × ℕ)). Intersects (xs ++ bx) (xs ++ bx) (ys ++ by) (ys ++ by) before k) (sym (nothing_more before)) (meets_none (xs ++ bx) (ys ++ by) before can)
+pub intersects_nothing : (xs ys bx by before : List (ℕ × ℕ)) → CanIntersect (xs ++ bx) (ys ++ by) before → Intersects (xs ++ bx) (xs ++ bx) (ys ++ by) (ys ++ by) before (before ++ [])
+intersects_nothing xs ys bx by before can =
+    subst (λ (k : List (ℕ × ℕ)). Intersects (xs ++ bx) (xs ++ bx) (ys ++ by) (ys ++ by) before k) (sym (append_empty before)) (meets_none (xs ++ bx) (ys ++ by) before can)
 
 -- the rest of a slice, and the ranges after it
 pub rest_is : (rs tail : List (ℕ × ℕ)) (i : ℕ) → take (length rs - i) (drop i rs) ++ tail ≡ drop i rs ++ tail
@@ -182,21 +182,21 @@ rest_shorter rs tail whole left i le is left_is =
     omega (arith, le, ap length (left_is ∙ rest_is rs tail i), length-append (drop i rs) tail, length-drop i rs, ap length is, length-append rs tail)
 
 -- slices of two lists were intersected, and the lists continue after the ranges that were passed
-pub met_here : (xs ys bx by whole_xs whole_ys before written : List (ℕ × ℕ)) (i j : ℕ) → xs ++ bx ≡ whole_xs → ys ++ by ≡ whole_ys → CanIntersect whole_xs whole_ys before
+pub intersects_at_range : (xs ys bx by whole_xs whole_ys before written : List (ℕ × ℕ)) (i j : ℕ) → xs ++ bx ≡ whole_xs → ys ++ by ≡ whole_ys → CanIntersect whole_xs whole_ys before
     → ((before' bx' by' : List (ℕ × ℕ)) → CanIntersect (xs ++ bx') (ys ++ by') before' → Intersects (xs ++ bx') (drop i xs ++ bx') (ys ++ by') (drop j ys ++ by') before' (before' ++ written))
     → Intersects whole_xs (drop i xs ++ bx) whole_ys (drop j ys ++ by) before (before ++ written)
-met_here xs ys bx by whole_xs whole_ys before written i j ex ey can met =
+intersects_at_range xs ys bx by whole_xs whole_ys before written i j ex ey can met =
     meets_as _ _ _ _ _ _ _ _ _ _ ex refl ey refl (met before bx by (can_as _ _ _ _ _ (sym ex) (sym ey) can))
 
-pub met_begun : (xs ys bx by whole_xs whole_ys us vs before after written : List (ℕ × ℕ)) (i j : ℕ) → xs ++ bx ≡ whole_xs → ys ++ by ≡ whole_ys → CanIntersect whole_xs whole_ys before
+pub intersects_from_start : (xs ys bx by whole_xs whole_ys us vs before after written : List (ℕ × ℕ)) (i j : ℕ) → xs ++ bx ≡ whole_xs → ys ++ by ≡ whole_ys → CanIntersect whole_xs whole_ys before
     → ((before' bx' by' : List (ℕ × ℕ)) → CanIntersect (xs ++ bx') (ys ++ by') before' → Intersects (xs ++ bx') (drop i xs ++ bx') (ys ++ by') (drop j ys ++ by') before' (before' ++ written))
     → us ≡ drop i xs ++ bx → vs ≡ drop j ys ++ by → after ≡ before ++ written → Intersects whole_xs us whole_ys vs before after
-met_begun xs ys bx by whole_xs whole_ys us vs before after written i j ex ey can met eu ev ea =
+intersects_from_start xs ys bx by whole_xs whole_ys us vs before after written i j ex ey can met eu ev ea =
     subst (λ (l : List (ℕ × ℕ)). Intersects whole_xs us whole_ys vs before l) (sym ea)
-    (meets_as _ _ _ _ _ _ _ _ _ _ refl (sym eu) refl (sym ev) (met_here xs ys bx by whole_xs whole_ys before written i j ex ey can met))
+    (meets_as _ _ _ _ _ _ _ _ _ _ refl (sym eu) refl (sym ev) (intersects_at_range xs ys bx by whole_xs whole_ys before written i j ex ey can met))
 
-pub meets_taken : (ks ks' xs xs' ys rest : List (ℕ × ℕ)) (y : ℕ × ℕ) → CanIntersect xs ys ks → ys ≡ y ∷ rest → MovesCommon xs xs' y ks ks' → Intersects xs xs' ys ys ks ks'
-meets_taken ks ks' xs xs' ys rest y can0 is t =
+pub intersects_after_common_move : (ks ks' xs xs' ys rest : List (ℕ × ℕ)) (y : ℕ × ℕ) → CanIntersect xs ys ks → ys ≡ y ∷ rest → MovesCommon xs xs' y ks ks' → Intersects xs xs' ys ys ks ks'
+intersects_after_common_move ks ks' xs xs' ys rest y can0 is t =
     let can = subst (λ (l : List (ℕ × ℕ)). CanIntersect xs l ks) is can0 in
     subst (λ (l : List (ℕ × ℕ)). Intersects xs xs' l l ks ks') (sym is) (record {
       can = record {
@@ -215,9 +215,9 @@ ends_by_low : (f : ℕ) (rs : List (ℕ × ℕ)) → EndsBelow f rs → EndsBy f
 ends_by_low f [] below = tt
 ends_by_low f (r ∷ rs) below = (omega (arith, below.0), ends_by_low f rs below.1)
 
-pub left_of : {A : Type 0} (ranges : A → List (ℕ × ℕ)) (taken : Option A) (limit : ℕ) (xs xs' : List (ℕ × ℕ)) → IsNormal xs → MatchOption taken (xs' ≡ xs) (λ r. xs ≡ ranges r ++ xs') → IfSome taken (λ r. last_of (ranges r) < limit) → SkipsBelow limit xs xs'
-left_of {A} ranges None limit xs xs' normal same below = record { removed = []; parts = sym same; below = tt }
-left_of {A} ranges (Some r) limit xs xs' normal parts below = record {
+pub skipped_below_taken : {A : Type 0} (ranges : A → List (ℕ × ℕ)) (taken : Option A) (limit : ℕ) (xs xs' : List (ℕ × ℕ)) → IsNormal xs → MatchOption taken (xs' ≡ xs) (λ r. xs ≡ ranges r ++ xs') → IfSome taken (λ r. last_of (ranges r) < limit) → SkipsBelow limit xs xs'
+skipped_below_taken {A} ranges None limit xs xs' normal same below = record { removed = []; parts = sym same; below = tt }
+skipped_below_taken {A} ranges (Some r) limit xs xs' normal parts below = record {
   removed = ranges r;
   parts = parts;
   below = ends_by_last limit (ranges r) (IsNormal-prefix (ranges r) xs' (subst IsNormal parts normal)) below;
@@ -229,12 +229,12 @@ meets_left_at ks xs xs' [] can l = record {
     built = can.built;
     first_normal = IsNormal-suffix l.removed xs' (subst IsNormal l.parts can.first_normal);
     second_ascending = tt;
-    below = EndsBelow-more (max (next_of xs) (next_of [])) (max (next_of xs') (next_of [])) ks can.below (omega (arith, ap next_of l.parts, next_later l.removed xs' (subst IsNormal l.parts can.first_normal)));
+    below = EndsBelow-more (max (next_of xs) (next_of [])) (max (next_of xs') (next_of [])) ks can.below (omega (arith, ap next_of l.parts, next_of_suffix l.removed xs' (subst IsNormal l.parts can.first_normal)));
   };
   same = λ q. ap (λ k. in_ranges ks q || k) (and_false (in_ranges xs' q) ∙ sym (and_false (in_ranges xs q)));
 }
 meets_left_at ks xs xs' (y ∷ ys) can l =
-    meets_taken ks ks xs xs' (y ∷ ys) ys y can refl (taken_ended ks xs xs' l.removed y can.first_normal can.second_ascending.0 can.built can.below l.parts (ends_by_low y.0 l.removed l.below))
+    intersects_after_common_move ks ks xs xs' (y ∷ ys) ys y can refl (moves_common_at_end ks xs xs' l.removed y can.first_normal can.second_ascending.0 can.built can.below l.parts (ends_by_low y.0 l.removed l.below))
 
 pub meets_left : (ks xs xs' ys : List (ℕ × ℕ)) (limit : ℕ) → CanIntersect xs ys ks → limit ≡ next_of ys → SkipsBelow limit xs xs' → Intersects xs xs' ys ys ks ks
 meets_left ks xs xs' ys limit can is l = meets_left_at ks xs xs' ys can (subst (λ n. SkipsBelow n xs xs') is l)
@@ -250,7 +250,7 @@ pub can_swap : (xs ys ks : List (ℕ × ℕ)) → CanIntersect xs ys ks → IsNo
 can_swap xs ys ks can normal = record {
   built = can.built;
   first_normal = normal;
-  second_ascending = rising_normal xs can.first_normal;
+  second_ascending = ascending_of_normal xs can.first_normal;
   below = EndsBelow-more (max (next_of xs) (next_of ys)) (max (next_of ys) (next_of xs)) ks can.below (omega arith);
 }
 
@@ -273,8 +273,8 @@ meets_start xs ys ks none normal ascending = subst (λ (k : List (ℕ × ℕ)). 
 })
 
 -- one list has no more ranges
-pub met_all : (xs xs' ys ys' ks : List (ℕ × ℕ)) → Intersects xs xs' ys ys' [] ks → (xs' ≡ []) ⊎ (ys' ≡ []) → (q : ℕ) → in_ranges ks q ≡ (in_ranges xs q && in_ranges ys q)
-met_all xs xs' ys ys' ks m ended q = elim ended [
+pub intersection_complete : (xs xs' ys ys' ks : List (ℕ × ℕ)) → Intersects xs xs' ys ys' [] ks → (xs' ≡ []) ⊎ (ys' ≡ []) → (q : ℕ) → in_ranges ks q ≡ (in_ranges xs q && in_ranges ys q)
+intersection_complete xs xs' ys ys' ks m ended q = elim ended [
   | inl none ↦ sym (or_false (in_ranges ks q)) ∙ ap (λ (l : List (ℕ × ℕ)). in_ranges ks q || (in_ranges l q && in_ranges ys' q)) (sym none) ∙ m.same q
   | inr none ↦ sym (or_false (in_ranges ks q)) ∙ ap (λ k. in_ranges ks q || k) (sym (and_false (in_ranges xs' q)))
       ∙ ap (λ (l : List (ℕ × ℕ)). in_ranges ks q || (in_ranges xs' q && in_ranges l q)) (sym none) ∙ m.same q

@@ -14,11 +14,11 @@ pub BeginsBy-more : (f g : ℕ) (rs : List (ℕ × ℕ)) → BeginsBy f rs → f
 BeginsBy-more f g [] all le = tt
 BeginsBy-more f g (r ∷ rs) all le = (omega arith, BeginsBy-more f g rs all.1 le)
 
-pub next_later : (rs ss : List (ℕ × ℕ)) → IsNormal (rs ++ ss) → next_of (rs ++ ss) ≤ next_of ss
-next_later [] ss normal = omega arith
-next_later (r ∷ []) [] normal = omega arith
-next_later (r ∷ []) (s ∷ ss) normal = omega arith
-next_later (r ∷ (r' ∷ rs)) ss normal = let rest = next_later (r' ∷ rs) ss normal.3 in omega arith
+pub next_of_suffix : (rs ss : List (ℕ × ℕ)) → IsNormal (rs ++ ss) → next_of (rs ++ ss) ≤ next_of ss
+next_of_suffix [] ss normal = omega arith
+next_of_suffix (r ∷ []) [] normal = omega arith
+next_of_suffix (r ∷ []) (s ∷ ss) normal = omega arith
+next_of_suffix (r ∷ (r' ∷ rs)) ss normal = let rest = next_of_suffix (r' ∷ rs) ss normal.3 in omega arith
 
 pub none_next : (rs : List (ℕ × ℕ)) → IsNormal rs → 18446744073709551615 ≤ next_of rs → rs ≡ []
 none_next [] normal le = refl
@@ -50,7 +50,7 @@ pub carried : (u u' : GrowingList) (xs xs' : List (ℕ × ℕ)) (limit : ℕ) �
 carried u u' xs xs' limit can apart c fewer =
     let whole = subst IsNormal c.parts can.normal in
     let below = all_end_below u (next_of xs) can.can apart in
-    let onward : next_of xs ≤ next_of xs' = subst (λ (l : List (ℕ × ℕ)). next_of l ≤ next_of xs') (sym c.parts) (next_later c.removed xs' whole) in
+    let onward : next_of xs ≤ next_of xs' = subst (λ (l : List (ℕ × ℕ)). next_of l ≤ next_of xs') (sym c.parts) (next_of_suffix c.removed xs' whole) in
     let can_at : (f : ℕ) → next_of xs ≤ f → EndsBelow f c.removed → CanMerge u' f = λ f le ends.
     can_of_ends u' f c.built (subst (λ (l : List (ℕ × ℕ)). EndsBelow f l) (sym c.kept) (EndsBelow-append f (ranges_of u) c.removed (EndsBelow-more (next_of xs) f (ranges_of u) below le) ends)) in
     record {
@@ -64,11 +64,11 @@ carried u u' xs xs' limit can apart c fewer =
     }
 
 -- a range was merged in
-pub joined_over : (u u' : GrowingList) (xs xs' : List (ℕ × ℕ)) (range : ℕ × ℕ) (limit : ℕ) → IsNormal xs → xs ≡ range ∷ xs' → next_of xs ≤ limit → IsNormal (ranges_of u') → ((q : ℕ) → in_ranges (ranges_of u') q ≡ (in_ranges (ranges_of u) q || in_range range q)) → CanMerge u' range.0 → MovesNext xs xs' limit u u'
-joined_over u u' xs xs' range limit normal parts first built' same can =
+pub moves_next_by_merge : (u u' : GrowingList) (xs xs' : List (ℕ × ℕ)) (range : ℕ × ℕ) (limit : ℕ) → IsNormal xs → xs ≡ range ∷ xs' → next_of xs ≤ limit → IsNormal (ranges_of u') → ((q : ℕ) → in_ranges (ranges_of u') q ≡ (in_ranges (ranges_of u) q || in_range range q)) → CanMerge u' range.0 → MovesNext xs xs' limit u u'
+moves_next_by_merge u u' xs xs' range limit normal parts first built' same can =
     let whole = subst IsNormal parts normal in
     let begins : next_of xs ≡ range.0 = ap next_of parts in
-    let later = next_later (range ∷ []) xs' whole in
+    let later = next_of_suffix (range ∷ []) xs' whole in
     record {
       removed = range ∷ [];
       parts = parts;
@@ -124,6 +124,6 @@ uniting_second u u' xs ys ys' whole_xs whole_ys limit s is t = record {
       ∙ s.same q;
 }
 
-pub united : (u : GrowingList) (xs ys whole_xs whole_ys : List (ℕ × ℕ)) → IsUnionStep u xs ys whole_xs whole_ys → xs ≡ [] → ys ≡ [] → (q : ℕ) → in_ranges (ranges_of u) q ≡ (in_ranges whole_xs q || in_ranges whole_ys q)
-united u xs ys whole_xs whole_ys s x y q =
+pub union_complete : (u : GrowingList) (xs ys whole_xs whole_ys : List (ℕ × ℕ)) → IsUnionStep u xs ys whole_xs whole_ys → xs ≡ [] → ys ≡ [] → (q : ℕ) → in_ranges (ranges_of u) q ≡ (in_ranges whole_xs q || in_ranges whole_ys q)
+union_complete u xs ys whole_xs whole_ys s x y q =
     sym (or_false (in_ranges (ranges_of u) q)) ∙ (λ i. in_ranges (ranges_of u) q || (in_ranges (sym x i) q || in_ranges (sym y i) q)) ∙ s.same q

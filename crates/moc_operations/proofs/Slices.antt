@@ -12,12 +12,12 @@ use Rattle.moc_operations.specs.Private.Slices.{IsAppendedOrMerged}
 use Rattle.moc_blocks.proofs.Merging.{normal_append, ends_next, EndsBelow-append, EndsBelow-more}
 use Rattle.moc_blocks.proofs.Building.{pushed_normal}
 use Rattle.moc_operations.proofs.Walking.{and_swap}
-use Rattle.moc_operations.proofs.InCommon.{pieces}
-use Rattle.moc_operations.proofs.Lacking.{removed, trim, past}
+use Rattle.moc_operations.proofs.InCommon.{common_of_ranges}
+use Rattle.moc_operations.proofs.Lacking.{removed, difference_of_trimmed, difference_skip_second}
 
 -- a range that ends before another was appended
-pub settled_apart : (x y : ℕ × ℕ) (kept kept' : List (ℕ × ℕ)) → IsNormal kept → x.0 < x.1 → y.0 < y.1 → x.1 ≤ pixel_count → EndsBelow (min x.0 y.0) kept → x.1 < y.0 → kept' ≡ kept ++ x ∷ [] → IsAppendedOrMerged x y y kept kept'
-settled_apart x y kept kept' normal filled other within after apart is =
+pub appended_if_separate : (x y : ℕ × ℕ) (kept kept' : List (ℕ × ℕ)) → IsNormal kept → x.0 < x.1 → y.0 < y.1 → x.1 ≤ pixel_count → EndsBelow (min x.0 y.0) kept → x.1 < y.0 → kept' ≡ kept ++ x ∷ [] → IsAppendedOrMerged x y y kept kept'
+appended_if_separate x y kept kept' normal filled other within after apart is =
     let first = EndsBelow-more (min x.0 y.0) x.0 kept after (omega arith) in
     subst (λ (k : List (ℕ × ℕ)). IsAppendedOrMerged x y y kept k) (sym is) (record {
       normal = pushed_normal kept x normal filled within first;
@@ -28,18 +28,18 @@ settled_apart x y kept kept' normal filled other within after apart is =
           ∙ or_assoc (in_ranges kept q) (in_range x q) (in_range y q);
     })
 
-both_in : (a b c d from q : ℕ) (k : Bool) → c ≤ b → b ≤ d → from ≡ min a c → (k || (nat_le from q && nat_lt q d)) ≡ (k || ((nat_le a q && nat_lt q b) || (nat_le c q && nat_lt q d)))
-both_in a b c d from q true lookahead ends is = refl
-both_in a b c d from q false lookahead ends is = grind (arith, nat_tests)
+union_of_overlapping : (a b c d from q : ℕ) (k : Bool) → c ≤ b → b ≤ d → from ≡ min a c → (k || (nat_le from q && nat_lt q d)) ≡ (k || ((nat_le a q && nat_lt q b) || (nat_le c q && nat_lt q d)))
+union_of_overlapping a b c d from q true lookahead ends is = refl
+union_of_overlapping a b c d from q false lookahead ends is = grind (arith, nat_tests)
 
 -- a range was merged into another that it touches
-pub settled_joined : (x y : ℕ × ℕ) (from : ℕ) (kept : List (ℕ × ℕ)) → IsNormal kept → x.0 < x.1 → x.1 ≤ y.1 → EndsBelow (min x.0 y.0) kept → y.0 ≤ x.1 → from ≡ min x.0 y.0 → IsAppendedOrMerged x y (from, y.1) kept kept
-settled_joined x y from kept normal filled ends after lookahead is = record {
+pub appended_or_merged : (x y : ℕ × ℕ) (from : ℕ) (kept : List (ℕ × ℕ)) → IsNormal kept → x.0 < x.1 → x.1 ≤ y.1 → EndsBelow (min x.0 y.0) kept → y.0 ≤ x.1 → from ≡ min x.0 y.0 → IsAppendedOrMerged x y (from, y.1) kept kept
+appended_or_merged x y from kept normal filled ends after lookahead is = record {
   normal = normal;
   end = refl;
   filled = omega arith;
   below = λ f lt. EndsBelow-more (min x.0 y.0) (min f from) kept after (omega arith);
-  same = λ q. both_in x.0 x.1 y.0 y.1 from q (in_ranges kept q) lookahead ends is;
+  same = λ q. union_of_overlapping x.0 x.1 y.0 y.1 from q (in_ranges kept q) lookahead ends is;
 }
 
 -- the invariant of a union of two slices
@@ -74,21 +74,21 @@ union_slices_swap kept xs ys whole_xs whole_ys s = record {
   same = λ q. ap (λ b. in_ranges kept q || b) (or_swap (in_ranges ys q) (in_ranges xs q)) ∙ s.same q ∙ or_swap (in_ranges whole_xs q) (in_ranges whole_ys q);
 }
 
-or_moved : (k xs z ys : Bool) → (k || (xs || (z || ys))) ≡ ((k || z) || (xs || ys))
-or_moved true xs z ys = refl
-or_moved false true true ys = refl
-or_moved false true false ys = refl
-or_moved false false z ys = refl
+or_rotate : (k xs z ys : Bool) → (k || (xs || (z || ys))) ≡ ((k || z) || (xs || ys))
+or_rotate true xs z ys = refl
+or_rotate false true true ys = refl
+or_rotate false true false ys = refl
+or_rotate false false z ys = refl
 
-or_parted : (k x xs y ys : Bool) → ((k || (x || y)) || (xs || ys)) ≡ (k || ((x || xs) || (y || ys)))
-or_parted true x xs y ys = refl
-or_parted false true xs y ys = refl
-or_parted false false true true ys = refl
-or_parted false false true false ys = refl
-or_parted false false false y ys = refl
+or_interleave : (k x xs y ys : Bool) → ((k || (x || y)) || (xs || ys)) ≡ (k || ((x || xs) || (y || ys)))
+or_interleave true x xs y ys = refl
+or_interleave false true xs y ys = refl
+or_interleave false false true true ys = refl
+or_interleave false false true false ys = refl
+or_interleave false false false y ys = refl
 
 settled_bool : (k k' x xs y ys z w : Bool) → (k' || z) ≡ (k || (x || y)) → (k || ((x || xs) || (y || ys))) ≡ w → (k' || (xs || (z || ys))) ≡ w
-settled_bool k k' x xs y ys z w e f = or_moved k' xs z ys ∙ ap (λ b. b || (xs || ys)) e ∙ or_parted k x xs y ys ∙ f
+settled_bool k k' x xs y ys z w e f = or_rotate k' xs z ys ∙ ap (λ b. b || (xs || ys)) e ∙ or_interleave k x xs y ys ∙ f
 
 -- the range that ends first was appended or merged
 pub union_slices_settled : (kept kept' xs ys whole_xs whole_ys : List (ℕ × ℕ)) (x y z : ℕ × ℕ) → IsUnionOfSlices kept (x ∷ xs) (y ∷ ys) whole_xs whole_ys → IsAppendedOrMerged x y z kept kept' → IsUnionOfSlices kept' xs (z ∷ ys) whole_xs whole_ys
@@ -103,14 +103,14 @@ union_slices_settled kept kept' xs ys whole_xs whole_ys x y z s t =
     }
 
 -- the first slice has no more ranges
-pub united_few_normal : (kept xs ys whole_xs whole_ys : List (ℕ × ℕ)) (y : ℕ × ℕ) → IsUnionOfSlices kept xs (y ∷ ys) whole_xs whole_ys → xs ≡ [] → IsNormal (kept ++ y ∷ ys)
-united_few_normal kept xs ys whole_xs whole_ys y s none =
+pub union_of_slices_normal : (kept xs ys whole_xs whole_ys : List (ℕ × ℕ)) (y : ℕ × ℕ) → IsUnionOfSlices kept xs (y ∷ ys) whole_xs whole_ys → xs ≡ [] → IsNormal (kept ++ y ∷ ys)
+union_of_slices_normal kept xs ys whole_xs whole_ys y s none =
     let filled = s.second_normal.0 in
     let within = s.second_normal.1 in
     normal_append kept (y ∷ ys) s.normal s.second_normal (EndsBelow-more (min (next_of xs) y.0) y.0 kept s.below (omega arith))
 
-pub united_few : (kept xs ys whole_xs whole_ys : List (ℕ × ℕ)) → IsUnionOfSlices kept xs ys whole_xs whole_ys → xs ≡ [] → (q : ℕ) → in_ranges (kept ++ ys) q ≡ (in_ranges whole_xs q || in_ranges whole_ys q)
-united_few kept xs ys whole_xs whole_ys s none q =
+pub union_of_slices_first_empty : (kept xs ys whole_xs whole_ys : List (ℕ × ℕ)) → IsUnionOfSlices kept xs ys whole_xs whole_ys → xs ≡ [] → (q : ℕ) → in_ranges (kept ++ ys) q ≡ (in_ranges whole_xs q || in_ranges whole_ys q)
+union_of_slices_first_empty kept xs ys whole_xs whole_ys s none q =
     in_ranges-append kept ys q ∙ ap (λ (l : List (ℕ × ℕ)). in_ranges kept q || (in_ranges l q || in_ranges ys q)) (sym none) ∙ s.same q
 
 -- the invariant of an intersection of two slices
@@ -121,8 +121,8 @@ pub record IsIntersectionOfSlices (kept xs ys whole_xs whole_ys : List (ℕ × �
   pub below : EndsBelow (max (next_of xs) (next_of ys)) kept
   pub same : (q : ℕ) → (in_ranges kept q || (in_ranges xs q && in_ranges ys q)) ≡ (in_ranges whole_xs q && in_ranges whole_ys q)
 
-pub meeting_few_swap : (kept xs ys whole_xs whole_ys : List (ℕ × ℕ)) → IsIntersectionOfSlices kept xs ys whole_xs whole_ys → IsIntersectionOfSlices kept ys xs whole_ys whole_xs
-meeting_few_swap kept xs ys whole_xs whole_ys s = record {
+pub intersection_of_slices_swap : (kept xs ys whole_xs whole_ys : List (ℕ × ℕ)) → IsIntersectionOfSlices kept xs ys whole_xs whole_ys → IsIntersectionOfSlices kept ys xs whole_ys whole_xs
+intersection_of_slices_swap kept xs ys whole_xs whole_ys s = record {
   normal = s.normal;
   first_normal = s.second_normal;
   second_normal = s.first_normal;
@@ -131,13 +131,13 @@ meeting_few_swap kept xs ys whole_xs whole_ys s = record {
 }
 
 -- the first ranges of both slices, and what they have in common
-pub meeting_few_at : (kept xs ys xs' ys' whole_xs whole_ys : List (ℕ × ℕ)) → IsIntersectionOfSlices kept xs ys whole_xs whole_ys → xs ≡ xs' → ys ≡ ys' → IsIntersectionOfSlices kept xs' ys' whole_xs whole_ys
-meeting_few_at kept xs ys xs' ys' whole_xs whole_ys s ex ey =
+pub intersection_of_slices_by_equality : (kept xs ys xs' ys' whole_xs whole_ys : List (ℕ × ℕ)) → IsIntersectionOfSlices kept xs ys whole_xs whole_ys → xs ≡ xs' → ys ≡ ys' → IsIntersectionOfSlices kept xs' ys' whole_xs whole_ys
+intersection_of_slices_by_equality kept xs ys xs' ys' whole_xs whole_ys s ex ey =
     subst (λ (l : List (ℕ × ℕ)). IsIntersectionOfSlices kept l ys' whole_xs whole_ys) ex (subst (λ (l : List (ℕ × ℕ)). IsIntersectionOfSlices kept xs l whole_xs whole_ys) ey s)
 
 -- the common part of the range that ends first and the other range was appended
-pub meeting_few_kept : (kept kept' xs ys whole_xs whole_ys : List (ℕ × ℕ)) (x y : ℕ × ℕ) (from to : ℕ) → IsIntersectionOfSlices kept (x ∷ xs) (y ∷ ys) whole_xs whole_ys → x.1 ≤ y.1 → from ≡ max x.0 y.0 → to ≡ min x.1 y.1 → IsNormal kept' → ((f : ℕ) → from ≤ f → to < f → EndsBelow f kept') → ((q : ℕ) → in_ranges kept' q ≡ (in_ranges kept q || in_range (from, to) q)) → IsIntersectionOfSlices kept' xs (y ∷ ys) whole_xs whole_ys
-meeting_few_kept kept kept' xs ys whole_xs whole_ys x y from to s ends is_from is_to normal below same =
+pub intersection_of_slices_after_range : (kept kept' xs ys whole_xs whole_ys : List (ℕ × ℕ)) (x y : ℕ × ℕ) (from to : ℕ) → IsIntersectionOfSlices kept (x ∷ xs) (y ∷ ys) whole_xs whole_ys → x.1 ≤ y.1 → from ≡ max x.0 y.0 → to ≡ min x.1 y.1 → IsNormal kept' → ((f : ℕ) → from ≤ f → to < f → EndsBelow f kept') → ((q : ℕ) → in_ranges kept' q ≡ (in_ranges kept q || in_range (from, to) q)) → IsIntersectionOfSlices kept' xs (y ∷ ys) whole_xs whole_ys
+intersection_of_slices_after_range kept kept' xs ys whole_xs whole_ys x y from to s ends is_from is_to normal below same =
     let next : x.1 < next_of xs = (ends_next (x ∷ []) xs s.first_normal).0 in
     let filled : x.0 < x.1 = s.first_normal.0 in
     record {
@@ -147,16 +147,16 @@ meeting_few_kept kept kept' xs ys whole_xs whole_ys x y from to s ends is_from i
       below = below (max (next_of xs) y.0) (omega arith) (omega arith);
       same = λ q. ap (λ k. k || (in_ranges xs q && in_ranges (y ∷ ys) q)) (same q)
           ∙ or_assoc (in_ranges kept q) (in_range (from, to) q) (in_ranges xs q && in_ranges (y ∷ ys) q)
-          ∙ ap (λ k. in_ranges kept q || k) (sym (pieces x y xs ys from to q s.second_normal ends is_from is_to))
+          ∙ ap (λ k. in_ranges kept q || k) (sym (common_of_ranges x y xs ys from to q s.second_normal ends is_from is_to))
           ∙ s.same q;
     }
 
-pub met_few_first : (kept xs ys whole_xs whole_ys : List (ℕ × ℕ)) → IsIntersectionOfSlices kept xs ys whole_xs whole_ys → xs ≡ [] → (q : ℕ) → in_ranges kept q ≡ (in_ranges whole_xs q && in_ranges whole_ys q)
-met_few_first kept xs ys whole_xs whole_ys s none q =
+pub intersection_of_slices_first_empty : (kept xs ys whole_xs whole_ys : List (ℕ × ℕ)) → IsIntersectionOfSlices kept xs ys whole_xs whole_ys → xs ≡ [] → (q : ℕ) → in_ranges kept q ≡ (in_ranges whole_xs q && in_ranges whole_ys q)
+intersection_of_slices_first_empty kept xs ys whole_xs whole_ys s none q =
     sym (or_false (in_ranges kept q)) ∙ ap (λ (l : List (ℕ × ℕ)). in_ranges kept q || (in_ranges l q && in_ranges ys q)) (sym none) ∙ s.same q
 
-pub met_few_second : (kept xs ys whole_xs whole_ys : List (ℕ × ℕ)) → IsIntersectionOfSlices kept xs ys whole_xs whole_ys → ys ≡ [] → (q : ℕ) → in_ranges kept q ≡ (in_ranges whole_xs q && in_ranges whole_ys q)
-met_few_second kept xs ys whole_xs whole_ys s none q =
+pub intersection_of_slices_second_empty : (kept xs ys whole_xs whole_ys : List (ℕ × ℕ)) → IsIntersectionOfSlices kept xs ys whole_xs whole_ys → ys ≡ [] → (q : ℕ) → in_ranges kept q ≡ (in_ranges whole_xs q && in_ranges whole_ys q)
+intersection_of_slices_second_empty kept xs ys whole_xs whole_ys s none q =
     sym (or_false (in_ranges kept q)) ∙ ap (λ k. in_ranges kept q || k) (sym (and_false (in_ranges xs q)))
     ∙ ap (λ (l : List (ℕ × ℕ)). in_ranges kept q || (in_ranges xs q && in_ranges l q)) (sym none) ∙ s.same q
 
@@ -168,8 +168,8 @@ pub record IsDifferenceOfSlices (kept xs ys whole_xs whole_ys : List (ℕ × ℕ
   pub below : EndsBelow (next_of xs) kept
   pub same : (q : ℕ) → (in_ranges kept q || (in_ranges xs q && not (in_ranges ys q))) ≡ (in_ranges whole_xs q && not (in_ranges whole_ys q))
 
-pub lacking_few_start : (kept xs ys whole_xs : List (ℕ × ℕ)) → kept ≡ [] → whole_xs ≡ xs → IsNormal whole_xs → IsNormal ys → IsDifferenceOfSlices kept xs ys whole_xs ys
-lacking_few_start kept xs ys whole_xs none is nx ny = subst (λ (k : List (ℕ × ℕ)). IsDifferenceOfSlices k xs ys whole_xs ys) (sym none) (record {
+pub difference_of_slices_start : (kept xs ys whole_xs : List (ℕ × ℕ)) → kept ≡ [] → whole_xs ≡ xs → IsNormal whole_xs → IsNormal ys → IsDifferenceOfSlices kept xs ys whole_xs ys
+difference_of_slices_start kept xs ys whole_xs none is nx ny = subst (λ (k : List (ℕ × ℕ)). IsDifferenceOfSlices k xs ys whole_xs ys) (sym none) (record {
   normal = tt;
   first_normal = subst IsNormal is nx;
   second_normal = ny;
@@ -177,23 +177,23 @@ lacking_few_start kept xs ys whole_xs none is nx ny = subst (λ (k : List (ℕ �
   same = λ q. ap (λ (l : List (ℕ × ℕ)). in_ranges l q && not (in_ranges ys q)) (sym is);
 })
 
-nothing_before : (a b c d to q : ℕ) (k : Bool) → d ≤ a → c < d → to ≡ min b c → k ≡ ((nat_le a q && nat_lt q to) || k)
-nothing_before a b c d to q k le filled is = grind (arith, nat_tests)
+empty_common_before : (a b c d to q : ℕ) (k : Bool) → d ≤ a → c < d → to ≡ min b c → k ≡ ((nat_le a q && nat_lt q to) || k)
+empty_common_before a b c d to q k le filled is = grind (arith, nat_tests)
 
-cut : (x y : ℕ × ℕ) (xs ys : List (ℕ × ℕ)) (to from q : ℕ) → IsNormal (x ∷ xs) → IsNormal (y ∷ ys) → y.1 < x.1 → to ≡ min x.1 y.0 → from ≡ max x.0 y.1 → (in_ranges (x ∷ xs) q && not (in_ranges (y ∷ ys) q)) ≡ (in_range (x.0, to) q || (in_ranges ((from, x.1) ∷ xs) q && not (in_ranges ys q)))
-cut x y xs ys to from q nx ny ends is_to is_from = elim (cases_lt x.0 y.1) [
+difference_of_first_ranges : (x y : ℕ × ℕ) (xs ys : List (ℕ × ℕ)) (to from q : ℕ) → IsNormal (x ∷ xs) → IsNormal (y ∷ ys) → y.1 < x.1 → to ≡ min x.1 y.0 → from ≡ max x.0 y.1 → (in_ranges (x ∷ xs) q && not (in_ranges (y ∷ ys) q)) ≡ (in_range (x.0, to) q || (in_ranges ((from, x.1) ∷ xs) q && not (in_ranges ys q)))
+difference_of_first_ranges x y xs ys to from q nx ny ends is_to is_from = elim (cases_lt x.0 y.1) [
   | inl lookahead ↦
       let at : y.1 ≡ from = omega arith in
-      trim x y xs ys to q nx ny lookahead ends is_to ∙ ap (λ n. in_range (x.0, to) q || (in_ranges ((n, x.1) ∷ xs) q && not (in_ranges ys q))) at
+      difference_of_trimmed x y xs ys to q nx ny lookahead ends is_to ∙ ap (λ n. in_range (x.0, to) q || (in_ranges ((n, x.1) ∷ xs) q && not (in_ranges ys q))) at
   | inr le ↦
       let at : x.0 ≡ from = omega arith in
-      past x y xs ys q nx le ∙ nothing_before x.0 x.1 y.0 y.1 to q (in_ranges (x ∷ xs) q && not (in_ranges ys q)) le ny.0 is_to
+      difference_skip_second x y xs ys q nx le ∙ empty_common_before x.0 x.1 y.0 y.1 to q (in_ranges (x ∷ xs) q && not (in_ranges ys q)) le ny.0 is_to
       ∙ ap (λ n. in_range (x.0, to) q || (in_ranges ((n, x.1) ∷ xs) q && not (in_ranges ys q))) at
 ]
 
 -- the first slice's next range ends last: the part before the second's was appended, and the part after it remains
-pub lacking_few_cut : (kept kept' xs ys ys' whole_xs whole_ys : List (ℕ × ℕ)) (x y : ℕ × ℕ) (to from : ℕ) → IsDifferenceOfSlices kept (x ∷ xs) ys whole_xs whole_ys → ys ≡ y ∷ ys' → y.1 < x.1 → to ≡ min x.1 y.0 → from ≡ max x.0 y.1 → IsNormal kept' → ((f : ℕ) → x.0 ≤ f → to < f → EndsBelow f kept') → ((q : ℕ) → in_ranges kept' q ≡ (in_ranges kept q || in_range (x.0, to) q)) → IsDifferenceOfSlices kept' ((from, x.1) ∷ xs) ys' whole_xs whole_ys
-lacking_few_cut kept kept' xs ys ys' whole_xs whole_ys x y to from s0 ey ends is_to is_from normal below same =
+pub difference_of_slices_after_cut : (kept kept' xs ys ys' whole_xs whole_ys : List (ℕ × ℕ)) (x y : ℕ × ℕ) (to from : ℕ) → IsDifferenceOfSlices kept (x ∷ xs) ys whole_xs whole_ys → ys ≡ y ∷ ys' → y.1 < x.1 → to ≡ min x.1 y.0 → from ≡ max x.0 y.1 → IsNormal kept' → ((f : ℕ) → x.0 ≤ f → to < f → EndsBelow f kept') → ((q : ℕ) → in_ranges kept' q ≡ (in_ranges kept q || in_range (x.0, to) q)) → IsDifferenceOfSlices kept' ((from, x.1) ∷ xs) ys' whole_xs whole_ys
+difference_of_slices_after_cut kept kept' xs ys ys' whole_xs whole_ys x y to from s0 ey ends is_to is_from normal below same =
     let s = subst (λ (l : List (ℕ × ℕ)). IsDifferenceOfSlices kept (x ∷ xs) l whole_xs whole_ys) ey s0 in
     let filled : y.0 < y.1 = s.second_normal.0 in
     let begun : x.0 < x.1 = s.first_normal.0 in
@@ -204,13 +204,13 @@ lacking_few_cut kept kept' xs ys ys' whole_xs whole_ys x y to from s0 ey ends is
       below = below from (omega arith) (omega arith);
       same = λ q. ap (λ k. k || (in_ranges ((from, x.1) ∷ xs) q && not (in_ranges ys' q))) (same q)
           ∙ or_assoc (in_ranges kept q) (in_range (x.0, to) q) (in_ranges ((from, x.1) ∷ xs) q && not (in_ranges ys' q))
-          ∙ ap (λ k. in_ranges kept q || k) (sym (cut x y xs ys' to from q s.first_normal s.second_normal ends is_to is_from))
+          ∙ ap (λ k. in_ranges kept q || k) (sym (difference_of_first_ranges x y xs ys' to from q s.first_normal s.second_normal ends is_to is_from))
           ∙ s.same q;
     }
 
 -- the first slice's next range ends first: the part before the second's was appended
-pub lacking_few_kept : (kept kept' xs ys ys' whole_xs whole_ys : List (ℕ × ℕ)) (x y : ℕ × ℕ) (to : ℕ) → IsDifferenceOfSlices kept (x ∷ xs) ys whole_xs whole_ys → ys ≡ y ∷ ys' → x.1 ≤ y.1 → to ≡ min x.1 y.0 → IsNormal kept' → ((f : ℕ) → x.0 ≤ f → to < f → EndsBelow f kept') → ((q : ℕ) → in_ranges kept' q ≡ (in_ranges kept q || in_range (x.0, to) q)) → IsDifferenceOfSlices kept' xs ys whole_xs whole_ys
-lacking_few_kept kept kept' xs ys ys' whole_xs whole_ys x y to s0 ey ends is normal below same =
+pub difference_of_slices_after_range : (kept kept' xs ys ys' whole_xs whole_ys : List (ℕ × ℕ)) (x y : ℕ × ℕ) (to : ℕ) → IsDifferenceOfSlices kept (x ∷ xs) ys whole_xs whole_ys → ys ≡ y ∷ ys' → x.1 ≤ y.1 → to ≡ min x.1 y.0 → IsNormal kept' → ((f : ℕ) → x.0 ≤ f → to < f → EndsBelow f kept') → ((q : ℕ) → in_ranges kept' q ≡ (in_ranges kept q || in_range (x.0, to) q)) → IsDifferenceOfSlices kept' xs ys whole_xs whole_ys
+difference_of_slices_after_range kept kept' xs ys ys' whole_xs whole_ys x y to s0 ey ends is normal below same =
     let s = subst (λ (l : List (ℕ × ℕ)). IsDifferenceOfSlices kept (x ∷ xs) l whole_xs whole_ys) ey s0 in
     let next : x.1 < next_of xs = (ends_next (x ∷ []) xs s.first_normal).0 in
     let filled : x.0 < x.1 = s.first_normal.0 in
@@ -225,34 +225,34 @@ lacking_few_kept kept kept' xs ys ys' whole_xs whole_ys x y to s0 ey ends is nor
           ∙ s.same q;
     })
 
-pub lacked_few : (kept xs ys whole_xs whole_ys : List (ℕ × ℕ)) → IsDifferenceOfSlices kept xs ys whole_xs whole_ys → xs ≡ [] → (q : ℕ) → in_ranges kept q ≡ (in_ranges whole_xs q && not (in_ranges whole_ys q))
-lacked_few kept xs ys whole_xs whole_ys s none q =
+pub difference_of_slices_complete : (kept xs ys whole_xs whole_ys : List (ℕ × ℕ)) → IsDifferenceOfSlices kept xs ys whole_xs whole_ys → xs ≡ [] → (q : ℕ) → in_ranges kept q ≡ (in_ranges whole_xs q && not (in_ranges whole_ys q))
+difference_of_slices_complete kept xs ys whole_xs whole_ys s none q =
     sym (or_false (in_ranges kept q)) ∙ ap (λ (l : List (ℕ × ℕ)). in_ranges kept q || (in_ranges l q && not (in_ranges ys q))) (sym none) ∙ s.same q
 
 and_true : (a : Bool) → a ≡ (a && true)
 and_true true = refl
 and_true false = refl
 
-pub lacked_few_rest : (kept xs ys whole_xs whole_ys : List (ℕ × ℕ)) → IsDifferenceOfSlices kept xs ys whole_xs whole_ys → ys ≡ [] → (q : ℕ) → in_ranges (kept ++ xs) q ≡ (in_ranges whole_xs q && not (in_ranges whole_ys q))
-lacked_few_rest kept xs ys whole_xs whole_ys s none q =
+pub difference_of_slices_with_rest : (kept xs ys whole_xs whole_ys : List (ℕ × ℕ)) → IsDifferenceOfSlices kept xs ys whole_xs whole_ys → ys ≡ [] → (q : ℕ) → in_ranges (kept ++ xs) q ≡ (in_ranges whole_xs q && not (in_ranges whole_ys q))
+difference_of_slices_with_rest kept xs ys whole_xs whole_ys s none q =
     in_ranges-append kept xs q ∙ ap (λ b. in_ranges kept q || b) (and_true (in_ranges xs q))
     ∙ ap (λ (l : List (ℕ × ℕ)). in_ranges kept q || (in_ranges xs q && not (in_ranges l q))) (sym none) ∙ s.same q
 
-pub lacked_few_normal : (kept xs ys whole_xs whole_ys : List (ℕ × ℕ)) → IsDifferenceOfSlices kept xs ys whole_xs whole_ys → IsNormal (kept ++ xs)
-lacked_few_normal kept xs ys whole_xs whole_ys s = normal_append kept xs s.normal s.first_normal s.below
+pub difference_of_slices_normal : (kept xs ys whole_xs whole_ys : List (ℕ × ℕ)) → IsDifferenceOfSlices kept xs ys whole_xs whole_ys → IsNormal (kept ++ xs)
+difference_of_slices_normal kept xs ys whole_xs whole_ys s = normal_append kept xs s.normal s.first_normal s.below
 
 pub union_slices_at : (kept xs xs' ys whole_xs whole_ys : List (ℕ × ℕ)) → IsUnionOfSlices kept xs ys whole_xs whole_ys → xs ≡ xs' → IsUnionOfSlices kept xs' ys whole_xs whole_ys
 union_slices_at kept xs xs' ys whole_xs whole_ys s is = subst (λ (l : List (ℕ × ℕ)). IsUnionOfSlices kept l ys whole_xs whole_ys) is s
 
-pub lacking_few_at : (kept xs xs' ys whole_xs whole_ys : List (ℕ × ℕ)) → IsDifferenceOfSlices kept xs ys whole_xs whole_ys → xs ≡ xs' → IsDifferenceOfSlices kept xs' ys whole_xs whole_ys
-lacking_few_at kept xs xs' ys whole_xs whole_ys s is = subst (λ (l : List (ℕ × ℕ)). IsDifferenceOfSlices kept l ys whole_xs whole_ys) is s
+pub difference_of_slices_by_equality : (kept xs xs' ys whole_xs whole_ys : List (ℕ × ℕ)) → IsDifferenceOfSlices kept xs ys whole_xs whole_ys → xs ≡ xs' → IsDifferenceOfSlices kept xs' ys whole_xs whole_ys
+difference_of_slices_by_equality kept xs xs' ys whole_xs whole_ys s is = subst (λ (l : List (ℕ × ℕ)). IsDifferenceOfSlices kept l ys whole_xs whole_ys) is s
 
 -- a slice without ranges
-pub none_joined : (xs ys : List (ℕ × ℕ)) → xs ≡ [] → (q : ℕ) → in_ranges ys q ≡ (in_ranges xs q || in_ranges ys q)
-none_joined xs ys none q = ap (λ (l : List (ℕ × ℕ)). in_ranges l q || in_ranges ys q) (sym none)
+pub union_with_empty_first : (xs ys : List (ℕ × ℕ)) → xs ≡ [] → (q : ℕ) → in_ranges ys q ≡ (in_ranges xs q || in_ranges ys q)
+union_with_empty_first xs ys none q = ap (λ (l : List (ℕ × ℕ)). in_ranges l q || in_ranges ys q) (sym none)
 
-pub joined_none : (xs ys : List (ℕ × ℕ)) → ys ≡ [] → (q : ℕ) → in_ranges xs q ≡ (in_ranges xs q || in_ranges ys q)
-joined_none xs ys none q = sym (or_false (in_ranges xs q)) ∙ ap (λ (l : List (ℕ × ℕ)). in_ranges xs q || in_ranges l q) (sym none)
+pub union_with_empty_second : (xs ys : List (ℕ × ℕ)) → ys ≡ [] → (q : ℕ) → in_ranges xs q ≡ (in_ranges xs q || in_ranges ys q)
+union_with_empty_second xs ys none q = sym (or_false (in_ranges xs q)) ∙ ap (λ (l : List (ℕ × ℕ)). in_ranges xs q || in_ranges l q) (sym none)
 
-pub none_lacked : (kept xs ys : List (ℕ × ℕ)) → kept ≡ [] → xs ≡ [] → (q : ℕ) → in_ranges kept q ≡ (in_ranges xs q && not (in_ranges ys q))
-none_lacked kept xs ys k none q = ap (λ (l : List (ℕ × ℕ)). in_ranges l q) k ∙ ap (λ (l : List (ℕ × ℕ)). in_ranges l q && not (in_ranges ys q)) (sym none)
+pub difference_of_empty : (kept xs ys : List (ℕ × ℕ)) → kept ≡ [] → xs ≡ [] → (q : ℕ) → in_ranges kept q ≡ (in_ranges xs q && not (in_ranges ys q))
+difference_of_empty kept xs ys k none q = ap (λ (l : List (ℕ × ℕ)). in_ranges l q) k ∙ ap (λ (l : List (ℕ × ℕ)). in_ranges l q && not (in_ranges ys q)) (sym none)

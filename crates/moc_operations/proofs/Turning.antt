@@ -6,17 +6,17 @@ use Rattle.moc_blocks.specs.Lemmas.Members.{in_range, in_ranges, or_assoc}
 use Rattle.moc_blocks.specs.Private.Blocks.{next_of}
 use Rattle.moc_blocks.specs.Private.Built.{GrowingList, ranges_of, CanMerge, BeginsBy}
 use Rattle.moc_operations.specs.Private.Taking.{TakesFirst, IsMerging, MovesBoth}
-use Rattle.moc_operations.proofs.Merging.{next_later, CanMerge-more, IsUnionStep}
-use Rattle.moc_blocks.proofs.Building.{last_begins, pushed_can}
+use Rattle.moc_operations.proofs.Merging.{next_of_suffix, CanMerge-more, IsUnionStep}
+use Rattle.moc_blocks.proofs.Building.{last_begins, can_merge_after_push}
 
-or_second : (a b c : Bool) → (a || (b || c)) ≡ (b || (a || c))
-or_second true true c = refl
-or_second true false c = refl
-or_second false b c = refl
+or_swap_second : (a b c : Bool) → (a || (b || c)) ≡ (b || (a || c))
+or_swap_second true true c = refl
+or_swap_second true false c = refl
+or_swap_second false b c = refl
 
 symmetric_at : (x : ℕ × ℕ) (xs ys : List (ℕ × ℕ)) → IsNormal (x ∷ xs) → IsNormal ys → x.0 ≤ next_of ys → TakesFirst (x ∷ xs) ys x xs ys
 symmetric_at x xs ys n m le =
-    let later : x.0 ≤ next_of xs = next_later (x ∷ []) xs n in
+    let later : x.0 ≤ next_of xs = next_of_suffix (x ∷ []) xs n in
     record {
       first_normal = n.3;
       second_normal = m;
@@ -31,7 +31,7 @@ symmetric_at x xs ys n m le =
 
 symmetric_other : (y : ℕ × ℕ) (xs ys : List (ℕ × ℕ)) → IsNormal xs → IsNormal (y ∷ ys) → y.0 ≤ next_of xs → TakesFirst xs (y ∷ ys) y xs ys
 symmetric_other y xs ys n m le =
-    let later : y.0 ≤ next_of ys = next_later (y ∷ []) ys m in
+    let later : y.0 ≤ next_of ys = next_of_suffix (y ∷ []) ys m in
     record {
       first_normal = n;
       second_normal = m.3;
@@ -40,7 +40,7 @@ symmetric_other y xs ys n m le =
       first_later = le;
       second_later = later;
       lower = λ low a b. b;
-      same = λ q. or_second (in_ranges xs q) (in_range y q) (in_ranges ys q);
+      same = λ q. or_swap_second (in_ranges xs q) (in_range y q) (in_ranges ys q);
       onward = omega arith;
     }
 
@@ -70,19 +70,19 @@ joining_step ks ks' xs xs' ys ys' whole whole_xs whole_ys last last' range s t o
   fewer = omega (arith, s.fewer, t.onward);
 }
 
-pub open_popped : (u u' : GrowingList) (last : ℕ × ℕ) → u'.closed ≡ u.closed → u.loose ≡ u'.loose ++ last ∷ [] → ranges_of u ≡ ranges_of u' ++ last ∷ []
-open_popped u u' last closed loose =
+pub ranges_after_pop : (u u' : GrowingList) (last : ℕ × ℕ) → u'.closed ≡ u.closed → u.loose ≡ u'.loose ++ last ∷ [] → ranges_of u ≡ ranges_of u' ++ last ∷ []
+ranges_after_pop u u' last closed loose =
     (λ i. sym closed i ++ loose i) ∙ sym (append_assoc u'.closed u'.loose (last ∷ []))
 
-pub popped_open : (u u' : GrowingList) (last : ℕ × ℕ) → IsNormal (ranges_of u) → u'.closed ≡ u.closed → u.loose ≡ u'.loose ++ last ∷ [] → IsNormal (ranges_of u' ++ last ∷ [])
-popped_open u u' last built closed loose = subst IsNormal (open_popped u u' last closed loose) built
+pub normal_after_pop : (u u' : GrowingList) (last : ℕ × ℕ) → IsNormal (ranges_of u) → u'.closed ≡ u.closed → u.loose ≡ u'.loose ++ last ∷ [] → IsNormal (ranges_of u' ++ last ∷ [])
+normal_after_pop u u' last built closed loose = subst IsNormal (ranges_after_pop u u' last closed loose) built
 
-pub popped_later : (u u' : GrowingList) (last : ℕ × ℕ) (f : ℕ) → CanMerge u f → u.loose ≡ u'.loose ++ last ∷ [] → last.0 ≤ f
-popped_later u u' last f can old = last_begins f u'.loose last (subst (λ (l : List (ℕ × ℕ)). BeginsBy f l) old can.begun)
+pub last_before_range : (u u' : GrowingList) (last : ℕ × ℕ) (f : ℕ) → CanMerge u f → u.loose ≡ u'.loose ++ last ∷ [] → last.0 ≤ f
+last_before_range u u' last f can old = last_begins f u'.loose last (subst (λ (l : List (ℕ × ℕ)). BeginsBy f l) old can.begun)
 
-pub takes_both : (u u'' : GrowingList) (kept xs xs' ys ys' whole init : List (ℕ × ℕ)) (last : ℕ × ℕ) → IsMerging kept last xs' ys' whole xs ys → ranges_of u ≡ whole → IsNormal (ranges_of u'') → ranges_of u'' ≡ kept ++ last ∷ [] → u''.loose ≡ init ++ last ∷ [] → MovesBoth xs xs' ys ys' u u''
-takes_both u u'' kept xs xs' ys ys' whole init last s is built written end =
-    let can = pushed_can u'' init last built end in
+pub moves_both_by_merge : (u u'' : GrowingList) (kept xs xs' ys ys' whole init : List (ℕ × ℕ)) (last : ℕ × ℕ) → IsMerging kept last xs' ys' whole xs ys → ranges_of u ≡ whole → IsNormal (ranges_of u'') → ranges_of u'' ≡ kept ++ last ∷ [] → u''.loose ≡ init ++ last ∷ [] → MovesBoth xs xs' ys ys' u u''
+moves_both_by_merge u u'' kept xs xs' ys ys' whole init last s is built written end =
+    let can = can_merge_after_push u'' init last built end in
     record {
       built = built;
       first_normal = s.first_normal;
@@ -103,8 +103,8 @@ uniting_both u u' xs xs' ys ys' whole_xs whole_ys s t = record {
   same = λ q. t.same q ∙ s.same q;
 }
 
-pub takes_as : (u u' : GrowingList) (xs xs' ys ys' us us' vs vs' : List (ℕ × ℕ)) → us ≡ xs → xs' ≡ us' → vs ≡ ys → ys' ≡ vs' → MovesBoth us us' vs vs' u u' → MovesBoth xs xs' ys ys' u u'
-takes_as u u' xs xs' ys ys' us us' vs vs' a b c d t =
+pub moves_both_by_equality : (u u' : GrowingList) (xs xs' ys ys' us us' vs vs' : List (ℕ × ℕ)) → us ≡ xs → xs' ≡ us' → vs ≡ ys → ys' ≡ vs' → MovesBoth us us' vs vs' u u' → MovesBoth xs xs' ys ys' u u'
+moves_both_by_equality u u' xs xs' ys ys' us us' vs vs' a b c d t =
     subst (λ (l : List (ℕ × ℕ)). MovesBoth l xs' ys ys' u u') a
     (subst (λ (l : List (ℕ × ℕ)). MovesBoth us l ys ys' u u') (sym b)
     (subst (λ (l : List (ℕ × ℕ)). MovesBoth us us' l ys' u u') c

@@ -15,19 +15,19 @@ use Rattle.moc_ranges.specs.Lemmas.Members.{contains-span}
 use Rattle.moc_ranges.specs.Lemmas.{spans-one, empty-union, union-empty, pixels_of-append}
 use Rattle.moc_parts.specs.Objects.{base_pixel}
 use Rattle.moc_parts.specs.Commands.{cells_around, surroundings, parts_around}
-use Rattle.moc_parts.proofs.Members.{clash, has-empty, has-union, and_true, or_true, or_left, or_right}
-use Rattle.moc_parts.proofs.DegradingParts.{sizes}
+use Rattle.moc_parts.proofs.Members.{absurd_bool, has-empty, has-union, and_true, or_true, or_left, or_right}
+use Rattle.moc_parts.proofs.DegradingParts.{base_pixel_in_cells}
 
 -- a pixel of a cell is in the base pixel of the cell
 in_face : (k index p : ℕ) → k ≤ 29 → set.contains (span k index) p ≡ true → face_of k index ≡ p / base_pixel_size
 in_face k index p l h =
     let e : p / cell_size k ≡ index = eqb-true _ _ (and_true _ _ (sym (contains-span k index p) ∙ h)).1 in
-    sym (ap (λ n. p / n) (sizes k l) ∙ sym (div-div-eq-div-mul p (cell_size k) (4 ^ k)) ∙ ap (λ n. n / 4 ^ k) e)
+    sym (ap (λ n. p / n) (base_pixel_in_cells k l) ∙ sym (div-div-eq-div-mul p (cell_size k) (4 ^ k)) ∙ ap (λ n. n / 4 ^ k) e)
 
 in_faces : (k : ℕ) (indices : List ℕ) (p : ℕ) → k ≤ 29 → set.contains (pixels_of (map (cell_number k) indices)) p ≡ true
     → list_any (λ index. nat_eq (face_of k index) (p / base_pixel_size)) indices ≡ true
 unfolding pixels_of
-in_faces k [] p l h = clash (set.contains {R = nat_cmp} set.empty p) h (has-empty p)
+in_faces k [] p l h = absurd_bool (set.contains {R = nat_cmp} set.empty p) h (has-empty p)
 in_faces k (index ∷ indices) p l h =
     let others = pixels_of (map (cell_number k) indices) in
     elim (or_true (set.contains (span k index) p) (set.contains others p) (sym (has-union (span k index) others p) ∙ h)) [
@@ -41,9 +41,9 @@ unfolding base_pixel surroundings
 around_surroundings c k p h = in_faces c.order (cells_around c) p k.order_in_range h
 
 -- the first cell
-pub one_cell : (k index : ℕ) → set.union set.empty (spans k index index) ≡ pixels_of (map (cell_number k) (index ∷ []))
+pub pixels_of_single_index : (k index : ℕ) → set.union set.empty (spans k index index) ≡ pixels_of (map (cell_number k) (index ∷ []))
 unfolding pixels_of
-one_cell k index = empty-union (spans k index index) ∙ spans-one k index ∙ sym (union-empty (span k index))
+pixels_of_single_index k index = empty-union (spans k index index) ∙ spans-one k index ∙ sym (union-empty (span k index))
 
 -- one more cell
 pub one_cell_more : (k : ℕ) (indices : List ℕ) (index : ℕ) → set.union (pixels_of (map (cell_number k) indices)) (spans k index index) ≡ pixels_of (map (cell_number k) (indices ++ index ∷ []))

@@ -10,11 +10,11 @@ use Rattle.moc_ranges.specs.Cells.{degrade}
 use Rattle.moc_lists.specs.Lemmas.Sizes.{len_parts}
 use Rattle.moc_parts.proofs.Members.{has-union, has-intersection, has-difference, has-empty, and_true, or_true}
 use Rattle.moc_parts.proofs.Counts.{in_degrade, degrade_added}
-use Rattle.moc_parts.proofs.Sums.{lacking, dropped}
+use Rattle.moc_parts.proofs.Sums.{difference_count, removed_count}
 
 -- sets with an empty symmetric difference are equal
-pub alike : (a b : NumberSet) → set.len (symmetric a b) ≡ 0 → a ≡ b
-alike a b none = same_members _ _ (λ q. same (set.contains a q) (set.contains b q)
+pub equal_if_no_difference : (a b : NumberSet) → set.len (symmetric a b) ≡ 0 → a ≡ b
+equal_if_no_difference a b none = same_members _ _ (λ q. same (set.contains a q) (set.contains b q)
     (sym (contains-symmetric a b q) ∙ ap (λ s. set.contains s q) (set.empty_of_len (symmetric a b) none) ∙ has-empty q))
   where
     same : (x y : Bool) → ((x && not y) || (y && not x)) ≡ false → x ≡ y
@@ -62,8 +62,8 @@ changed_pixels-degrade a order w = same_members _ _ (λ q. contains-symmetric (d
     only false false f = refl
 
 -- the size of the symmetric difference of disjoint sets is the sum of their sizes
-apart : (a b : NumberSet) → ((q : ℕ) → (set.contains a q && set.contains b q) ≡ false) → set.len b + set.len a ≡ set.len (symmetric a b)
-apart a b none =
+symmetric_size_of_disjoint : (a b : NumberSet) → ((q : ℕ) → (set.contains a q && set.contains b q) ≡ false) → set.len b + set.len a ≡ set.len (symmetric a b)
+symmetric_size_of_disjoint a b none =
     let second : set.intersection (symmetric a b) b ≡ b = same_members _ _ (λ q. has-intersection (symmetric a b) b q ∙ ap (λ t. t && set.contains b q) (contains-symmetric a b q)
     ∙ in_second (set.contains a q) (set.contains b q) (none q)) in
     let first : set.difference (symmetric a b) b ≡ a = same_members _ _ (λ q. has-difference (symmetric a b) b q ∙ ap (λ t. t && not (set.contains b q)) (contains-symmetric a b q)
@@ -83,7 +83,7 @@ apart a b none =
     in_first false false h = refl
 
 pub changed_pixels-complement : (a : NumberSet) (b : ℕ) → set.len a + set.len (part_of (complement a) b) ≡ set.len (symmetric (part_of (complement a) b) a)
-changed_pixels-complement a b = apart (part_of (complement a) b) a (λ q.
+changed_pixels-complement a b = symmetric_size_of_disjoint (part_of (complement a) b) a (λ q.
     ap (λ t. t && set.contains a q) (contains-part_of (complement a) b q ∙ ap (λ t. t && nat_eq (q / base_pixel_size) b) (contains-complement a q))
     ∙ neither (nat_lt q pixel_count) (set.contains a q) (nat_eq (q / base_pixel_size) b))
   where
@@ -135,17 +135,17 @@ equal_unchanged old new same = sym (ap set.len (same_members (symmetric new old)
 
 -- sets that differ in no pixel are equal
 pub unchanged_equal : (old new : NumberSet) (n : ℕ) → n ≡ set.len (symmetric new old) → n ≡ 0 → new ≡ old
-unchanged_equal old new n count none = alike new old (sym count ∙ none)
+unchanged_equal old new n count none = equal_if_no_difference new old (sym count ∙ none)
 
 -- a union of lists, and the counts of the program
-pub lacking_pixels : (list more : NumberSet) → set.len more - set.len (set.intersection list more) ≡ set.len (symmetric (set.union list more) list)
-lacking_pixels list more = lacking list more ∙ ap set.len (sym (changed_pixels-union list more))
+pub added_pixel_count : (list more : NumberSet) → set.len more - set.len (set.intersection list more) ≡ set.len (symmetric (set.union list more) list)
+added_pixel_count list more = difference_count list more ∙ ap set.len (sym (changed_pixels-union list more))
 
 pub common_pixels : (list others : NumberSet) → set.len (set.intersection list others) ≡ set.len (symmetric (set.difference list others) list)
 common_pixels list others = ap set.len (sym (changed_pixels-difference list others))
 
 pub dropped_pixels : (list others : NumberSet) → set.len list - set.len (set.intersection list others) ≡ set.len (symmetric (set.intersection list others) list)
-dropped_pixels list others = dropped list others ∙ ap set.len (sym (changed_pixels-intersection list others))
+dropped_pixels list others = removed_count list others ∙ ap set.len (sym (changed_pixels-intersection list others))
 
 pub added_pixels : (list : NumberSet) (order : ℕ) → IsWithin list pixels → set.len (degrade list order) - set.len list ≡ set.len (symmetric (degrade list order) list)
 added_pixels list order w = degrade_added list order w ∙ ap set.len (sym (changed_pixels-degrade list order w))

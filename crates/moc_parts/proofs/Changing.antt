@@ -12,7 +12,7 @@ use Rattle.moc_parts.proofs.PartTheorem.{part_theorem, changed_within}
 use Rattle.moc_parts.proofs.Sums.{size_none, size-next}
 use Rattle.moc_parts.proofs.ChangedPixels.{changed_in_part, changes_within, equal_unchanged}
 use Rattle.moc_parts.proofs.Twelve.{first_parts, first_parts-all}
-use Rattle.moc_parts.proofs.Drafting.{half_changed, half-none, half-all, part-half, with_next, with_own, part_lies}
+use Rattle.moc_parts.proofs.Drafting.{half_changed, half-none, half-all, part-half, with_next, with_unchanged_part, part_of_part_same}
 
 -- ---- unchanged parts
 
@@ -23,19 +23,19 @@ record IsSameBelow (new old : NumberSet) (n b : ℕ) : Type 0 where
 
 half-skip : (new old : NumberSet) (n : ℕ) → part_of new n ≡ part_of old n → half_changed new old n ≡ half_changed new old (n + 1)
 half-skip new old n same =
-    sym (with_own (half_changed new old n) n) ∙ ap (λ p. with_part (half_changed new old n) n p) (part-half new old n ∙ sym same) ∙ with_next new old n
+    sym (with_unchanged_part (half_changed new old n) n) ∙ ap (λ p. with_part (half_changed new old n) n p) (part-half new old n ∙ sym same) ∙ with_next new old n
 
 no_changes : (new old : NumberSet) (n : ℕ) → part_of new n ≡ part_of old n → 0 ≡ set.len (part_of (symmetric new old) n)
 no_changes new old n same =
     equal_unchanged (part_of old n) (part_of old n) refl ∙ changed_in_part new old (part_of old n) (part_of old n) n refl (sym same)
 
-passed : (new old : NumberSet) (n d : ℕ) → ((k : ℕ) → n ≤ k → k < n + d → part_of new k ≡ part_of old k) → IsSameBelow new old n (n + d)
-passed new old n zero same =
+same_below_if_parts_equal : (new old : NumberSet) (n d : ℕ) → ((k : ℕ) → n ≤ k → k < n + d → part_of new k ≡ part_of old k) → IsSameBelow new old n (n + d)
+same_below_if_parts_equal new old n zero same =
     let e : n ≡ n + 0 = omega arith in
     record { half = ap (half_changed new old) e; changed_pixels = ap (λ m. set.len (first_parts (symmetric new old) m)) e }
-passed new old n (suc d) same =
+same_below_if_parts_equal new old n (suc d) same =
     let e : (n + d) + 1 ≡ n + suc d = omega arith in
-    let before = passed new old n d (λ k l m. same k l (omega arith)) in
+    let before = same_below_if_parts_equal new old n d (λ k l m. same k l (omega arith)) in
     let here = same (n + d) (omega arith) (omega arith) in
     let none = no_changes new old (n + d) here in
     let next = size-next (symmetric new old) (n + d) in
@@ -50,7 +50,7 @@ left : (change : Change) → IsChange change → (old parts : NumberSet) → Lea
 left change is old parts leaves n b le small out =
     let new : NumberSet = set_after_change change old in
     let e : n + (b - n) ≡ b = omega arith in
-    let passes = passed new old n (b - n) (λ k l m. part_theorem change is old k ∙ leaves k (omega arith) (out k l (omega arith)) (part_of old k) (part_lies old k)) in
+    let passes = same_below_if_parts_equal new old n (b - n) (λ k l m. part_theorem change is old k ∙ leaves k (omega arith) (out k l (omega arith)) (part_of old k) (part_of_part_same old k)) in
     record {
       half = passes.half ∙ ap (half_changed new old) e;
       changed_pixels = passes.changed_pixels ∙ ap (λ m. set.len (first_parts (symmetric new old) m)) e;
@@ -85,9 +85,9 @@ walk_begins change old parts coming leaves is = record {
   count = size_none (symmetric (set_after_change change old) old);
 }
 
-pub turn_comes : (change : Change) → IsChange change → (old now : NumberSet) (changed_pixels n b : ℕ) (coming others : List ℕ) → coming ≡ b ∷ others
+pub next_part_to_change : (change : Change) → IsChange change → (old now : NumberSet) (changed_pixels n b : ℕ) (coming others : List ℕ) → coming ≡ b ∷ others
     → IsHalfway change old now changed_pixels n coming → IsTurn change old now changed_pixels b others
-turn_comes change is old now changed_pixels n b coming others next h =
+next_part_to_change change is old now changed_pixels n b coming others next h =
     let at = next_remaining (λ k. set.contains h.parts k) n b coming others h.remains next in
     let below = at.below in
     let stays = left change is old h.parts h.leaves n b at.after (omega arith) at.between in
@@ -100,10 +100,10 @@ turn_comes change is old now changed_pixels n b coming others next h =
       count = h.count ∙ stays.changed_pixels;
     }
 
-pub turn_done : (change : Change) (old now after : NumberSet) (changed_pixels more b : ℕ) (others : List ℕ) → IsTurn change old now changed_pixels b others
+pub turn_is_complete : (change : Change) (old now after : NumberSet) (changed_pixels more b : ℕ) (others : List ℕ) → IsTurn change old now changed_pixels b others
     → after ≡ half_changed (set_after_change change old) old (b + 1) → more ≡ set.len (part_of (symmetric (set_after_change change old) old) b)
     → IsHalfway change old after (changed_pixels + more) (b + 1) others
-turn_done change old now after changed_pixels more b others t half count = record {
+turn_is_complete change old now after changed_pixels more b others t half count = record {
   parts = t.parts;
   leaves = t.leaves;
   remains = t.remains;
@@ -112,12 +112,12 @@ turn_done change old now after changed_pixels more b others t half count = recor
 }
 
 -- part b stays unchanged
-pub turn_left : (change : Change) (old now : NumberSet) (changed_pixels b : ℕ) (others : List ℕ) → IsTurn change old now changed_pixels b others
+pub turn_parts_left : (change : Change) (old now : NumberSet) (changed_pixels b : ℕ) (others : List ℕ) → IsTurn change old now changed_pixels b others
     → part_of (set_after_change change old) b ≡ part_of old b → IsHalfway change old now changed_pixels (b + 1) others
-turn_left change old now changed_pixels b others t same =
+turn_parts_left change old now changed_pixels b others t same =
     let none : changed_pixels + 0 ≡ changed_pixels = omega arith in
     subst (λ k. IsHalfway change old now k (b + 1) others) none
-    (turn_done change old now now changed_pixels 0 b others t (t.half ∙ half-skip (set_after_change change old) old b same) (no_changes (set_after_change change old) old b same))
+    (turn_is_complete change old now now changed_pixels 0 b others t (t.half ∙ half-skip (set_after_change change old) old b same) (no_changes (set_after_change change old) old b same))
 
 -- at the end, the whole set is changed, and all changed pixels are counted
 pub walk_ends : (change : Change) → IsChange change → (old now : NumberSet) (changed_pixels n : ℕ) (coming : List ℕ) → IsWithin old pixels → coming ≡ []

@@ -11,11 +11,11 @@ use Rattle.moc_ranges.specs.Operations.{pixels, base_pixel_size, IsWithin, meets
 use Rattle.moc_ranges.specs.Cells.{degrade}
 use Rattle.moc_lists.specs.Lemmas.Sizes.{len_parts}
 use Rattle.moc_parts.proofs.Members.{has-intersection, and_true, both, same_test}
-use Rattle.moc_parts.proofs.DegradingParts.{to_degrade}
+use Rattle.moc_parts.proofs.DegradingParts.{contained_in_degrade}
 
 -- a set is a subset of its degraded set
 pub in_degrade : (a : NumberSet) (order : ℕ) → IsWithin a pixels → (q : ℕ) → set.contains a q ≡ true → set.contains (degrade a order) q ≡ true
-in_degrade a order w q h = let in_q = sym (contains-pixels q) ∙ w.each q h in to_degrade a order q q in_q in_q h refl
+in_degrade a order w q h = let in_q = sym (contains-pixels q) ∙ w.each q h in contained_in_degrade a order q q in_q in_q h refl
 
 common_degrade : (a : NumberSet) (order : ℕ) → IsWithin a pixels → set.intersection (degrade a order) a ≡ a
 common_degrade a order w = same_members _ _ (λ q. has-intersection (degrade a order) a q ∙ same_test _ _ (λ h. (and_true (set.contains (degrade a order) q) (set.contains a q) h).1) (λ h. both (in_degrade a order w q h) h))
@@ -49,8 +49,8 @@ parts_met_some a b not_empty = elim (cases_Bool (nat_eq (set.len a) 0)) [
 ]
 
 -- a set has no pixel in a part outside `parts_met`
-pub not_met : (a : NumberSet) (b : ℕ) → parts_met a b ≡ false → nat_lt 0 (set.len (part_of a b)) ≡ false
-not_met a b none = elim (cases_Bool (nat_eq (set.len a) 0)) [
+pub no_pixels_unless_met : (a : NumberSet) (b : ℕ) → parts_met a b ≡ false → nat_lt 0 (set.len (part_of a b)) ≡ false
+no_pixels_unless_met a b none = elim (cases_Bool (nat_eq (set.len a) 0)) [
   | inl t ↦
       let empty : part_of a b ≡ set.empty = same_members _ _ (λ q. contains-part_of a b q
       ∙ ap (λ s. set.contains s q && nat_eq (q / base_pixel_size) b) (set.empty_of_len a (eqb-true (set.len a) 0 t))

@@ -11,15 +11,15 @@ use Rattle.moc_ranges.specs.Cells.{span, degrade}
 use Rattle.moc_parts.proofs.Members.{and_true, both, same_test, meets_at, in_part, of_part}
 
 -- a cell is within one base pixel
-pub sizes : (order : ℕ) → order ≤ 29 → base_pixel_size ≡ cell_size order * 4 ^ order
+pub base_pixel_in_cells : (order : ℕ) → order ≤ 29 → base_pixel_size ≡ cell_size order * 4 ^ order
 unfolding cell_size
-sizes order l = ap (λ n. 4 ^ n) (let e : 29 ≡ (29 - order) + order = omega arith in e) ∙ pow-add 4 (29 - order) order
+base_pixel_in_cells order l = ap (λ n. 4 ^ n) (let e : 29 ≡ (29 - order) + order = omega arith in e) ∙ pow-add 4 (29 - order) order
 
 pub one_part : (order p q : ℕ) → order ≤ 29 → q / cell_size order ≡ p / cell_size order → q / base_pixel_size ≡ p / base_pixel_size
 one_part order p q l e =
-    ap (λ n. q / n) (sizes order l) ∙ sym (div-div-eq-div-mul q (cell_size order) (4 ^ order))
+    ap (λ n. q / n) (base_pixel_in_cells order l) ∙ sym (div-div-eq-div-mul q (cell_size order) (4 ^ order))
     ∙ ap (λ n. n / 4 ^ order) e
-    ∙ div-div-eq-div-mul p (cell_size order) (4 ^ order) ∙ ap (λ n. p / n) (sym (sizes order l))
+    ∙ div-div-eq-div-mul p (cell_size order) (4 ^ order) ∙ ap (λ n. p / n) (sym (base_pixel_in_cells order l))
 
 -- a pixel of a degraded set is in the same cell as a pixel of the set
 pub of_degrade : (a : NumberSet) (order p : ℕ) → set.contains (degrade a order) p ≡ true
@@ -31,8 +31,8 @@ of_degrade a order p h =
     (m.0, m.1, eqb-true _ _ n.1, k.0, n.0)
 
 -- conversely, a pixel in the same cell as a pixel of the set is in the degraded set
-pub to_degrade : (a : NumberSet) (order p q : ℕ) → nat_lt p pixel_count ≡ true → nat_lt q pixel_count ≡ true → set.contains a q ≡ true → q / cell_size order ≡ p / cell_size order → set.contains (degrade a order) p ≡ true
-to_degrade a order p q in_p in_q h e =
+pub contained_in_degrade : (a : NumberSet) (order p q : ℕ) → nat_lt p pixel_count ≡ true → nat_lt q pixel_count ≡ true → set.contains a q ≡ true → q / cell_size order ≡ p / cell_size order → set.contains (degrade a order) p ≡ true
+contained_in_degrade a order p q in_p in_q h e =
     contains-degrade a order p ∙ both in_p (meets-some a (span order (p / cell_size order)) q h (contains-span order (p / cell_size order) q ∙ both in_q (eq-eqb _ _ e)))
 
 -- part b of a degraded set is the degraded part b
@@ -41,8 +41,8 @@ part-degrade a order b l = same_members _ _ (λ p. same_test _ _
     (λ h.
     let k = of_part (degrade a order) b p h in
     let m = of_degrade a order p k.0 in
-    to_degrade (part_of a b) order p m.0 m.3 m.4 (in_part a b m.0 m.1 (one_part order p m.0 l m.2 ∙ k.1)) m.2)
+    contained_in_degrade (part_of a b) order p m.0 m.3 m.4 (in_part a b m.0 m.1 (one_part order p m.0 l m.2 ∙ k.1)) m.2)
     (λ h.
     let m = of_degrade (part_of a b) order p h in
     let k = of_part a b m.0 m.1 in
-    in_part (degrade a order) b p (to_degrade a order p m.0 m.3 m.4 k.0 m.2) (sym (one_part order p m.0 l m.2) ∙ k.1)))
+    in_part (degrade a order) b p (contained_in_degrade a order p m.0 m.3 m.4 k.0 m.2) (sym (one_part order p m.0 l m.2) ∙ k.1)))

@@ -89,16 +89,16 @@ part-with_part a b part lies = same_members _ _ (λ q.
     contains-part_of (with_part a b part) b q ∙ ap (λ t. t && nat_eq (q / base_pixel_size) b) (has-with_part a b part q)
     ∙ here (set.contains a q) (set.contains part q) (nat_eq (q / base_pixel_size) b) (has-lying part b q lies))
 
-there : (a x : Bool) (r b k : ℕ) → (k ≡ b → ⊥) → x ≡ (x && nat_eq r b) → (((a && not (nat_eq r b)) || x) && nat_eq r k) ≡ (a && nat_eq r k)
-there true true r b k other h = grind (arith, nat_tests)
-there true false r b k other h = grind (arith, nat_tests)
-there false true r b k other h = grind (arith, nat_tests)
-there false false r b k other h = refl
+in_part_or_added : (a x : Bool) (r b k : ℕ) → (k ≡ b → ⊥) → x ≡ (x && nat_eq r b) → (((a && not (nat_eq r b)) || x) && nat_eq r k) ≡ (a && nat_eq r k)
+in_part_or_added true true r b k other h = grind (arith, nat_tests)
+in_part_or_added true false r b k other h = grind (arith, nat_tests)
+in_part_or_added false true r b k other h = grind (arith, nat_tests)
+in_part_or_added false false r b k other h = refl
 
 part-with_other : (a : NumberSet) (b : ℕ) (part : NumberSet) (k : ℕ) → (k ≡ b → ⊥) → part_of part b ≡ part → part_of (with_part a b part) k ≡ part_of a k
 part-with_other a b part k other lies = same_members _ _ (λ q.
     contains-part_of (with_part a b part) k q ∙ ap (λ t. t && nat_eq (q / base_pixel_size) k) (has-with_part a b part q)
-    ∙ there (set.contains a q) (set.contains part q) (q / base_pixel_size) b k other (has-lying part b q lies)
+    ∙ in_part_or_added (set.contains a q) (set.contains part q) (q / base_pixel_size) b k other (has-lying part b q lies)
     ∙ sym (contains-part_of a k q))
 
 pub set-parts : (a : NumberSet) (b : ℕ) (part : NumberSet) → b < 12 → part_of part b ≡ part → set_at (parts_below a 12) b part ≡ parts_below (with_part a b part) 12
@@ -121,9 +121,9 @@ set-parts a b part l lies =
 abbrev pub IsFilled : {X : Type 0} → (X → NumberSet) → List NumberSet → List X → ℕ → Type 0
 IsFilled f lists before b = (length before ≡ 12) × ((k : ℕ) → k < b → get_or (map f before) k set.empty ≡ get_or lists k set.empty)
 
-pub filled_next : {X : Type 0} (f : X → NumberSet) (lists : List NumberSet) (before : List X) (b : ℕ) (list : X) → b < 12 → f list ≡ get_or lists b set.empty
+pub filled_lists_next : {X : Type 0} (f : X → NumberSet) (lists : List NumberSet) (before : List X) (b : ℕ) (list : X) → b < 12 → f list ≡ get_or lists b set.empty
     → IsFilled f lists before b → IsFilled f lists (set_at before b list) (b + 1)
-filled_next f lists before b list l is below =
+filled_lists_next f lists before b list l is below =
     let many : length (set_at before b list) ≡ 12 = length-set before b list ∙ below.0 in
     let here : (k : ℕ) → k < 12 → get_or (map f (set_at before b list)) k set.empty ≡ f (get_or (set_at before b list) k list) =
     λ k lt. get_or-map f (set_at before b list) k list set.empty (subst (λ n. k < n) (sym many) lt) in (
@@ -139,8 +139,8 @@ filled_next f lists before b list l is below =
       ],
     )
 
-pub filled_all : {X : Type 0} (f : X → NumberSet) (lists : List NumberSet) (before : List X) (b : ℕ) → length lists ≡ 12 → 12 ≤ b → IsFilled f lists before b → map f before ≡ lists
-filled_all f lists before b twelve all filled =
+pub filled_lists_are_all : {X : Type 0} (f : X → NumberSet) (lists : List NumberSet) (before : List X) (b : ℕ) → length lists ≡ 12 → 12 ≤ b → IsFilled f lists before b → map f before ≡ lists
+filled_lists_are_all f lists before b twelve all filled =
     let many : length (map f before) ≡ 12 = length-map before f ∙ filled.0 in
     ext_get_or set.empty (map f before) lists (many ∙ sym twelve) (λ k lt. let small : k < 12 = subst (λ n. k < n) many lt in filled.1 k (omega arith))
 
@@ -178,9 +178,9 @@ abbrev pub AreDoneBelow : List (Option NumberSet) → List (Option NumberSet) �
 AreDoneBelow made lists is b =
     (length lists ≡ 12) × ((k : ℕ) → k < b → get_or lists k None ≡ is k) × ((k : ℕ) → b ≤ k → get_or lists k None ≡ get_or made k None)
 
-pub one_done : (made lists after : List (Option NumberSet)) (is : ℕ → Option NumberSet) (b : ℕ) (x : Option NumberSet) → b < 12 → after ≡ set_at lists b x
+pub list_replaced : (made lists after : List (Option NumberSet)) (is : ℕ → Option NumberSet) (b : ℕ) (x : Option NumberSet) → b < 12 → after ≡ set_at lists b x
     → x ≡ is b → AreDoneBelow made lists is b → AreDoneBelow made after is (b + 1)
-one_done made lists after is b x l put right below = (
+list_replaced made lists after is b x l put right below = (
   ap length put ∙ length-set lists b x ∙ below.0,
   λ k lt. elim (cases_lt k b) [
     | inl earlier ↦ ap (λ xs. get_or xs k None) put ∙ get_or-set_other lists b k x None (λ e. omega arith) ∙ below.1 k earlier
@@ -192,9 +192,9 @@ one_done made lists after is b x l put right below = (
   λ k le. ap (λ xs. get_or xs k None) put ∙ get_or-set_other lists b k x None (λ e. omega arith) ∙ below.2 k (omega arith),
 )
 
-pub none_done : (made lists after : List (Option NumberSet)) (is : ℕ → Option NumberSet) (b : ℕ) → after ≡ lists → get_or lists b None ≡ is b
+pub list_is_missing : (made lists after : List (Option NumberSet)) (is : ℕ → Option NumberSet) (b : ℕ) → after ≡ lists → get_or lists b None ≡ is b
     → AreDoneBelow made lists is b → AreDoneBelow made after is (b + 1)
-none_done made lists after is b same right below = (
+list_is_missing made lists after is b same right below = (
   ap length same ∙ below.0,
   λ k lt. elim (cases_lt k b) [
     | inl earlier ↦ ap (λ xs. get_or xs k None) same ∙ below.1 k earlier
@@ -234,14 +234,14 @@ newest_set before made b part e twelve l lies =
     set-current_lists before made b part (subst (λ n. b < n) (sym (previous_twelve before made e)) l) (subst (λ n. b < n) (sym twelve) l)
     ∙ ap (λ parts. set_at parts b part) e ∙ set-parts (union_of (current_lists before made)) b part l lies
 
-lying_within : (b q : ℕ) → b < 12 → nat_eq (q / base_pixel_size) b ≡ true → q / base_pixel_size < 12
-lying_within b q l e = grind (arith, nat_tests)
+base_pixel_below_twelve : (b q : ℕ) → b < 12 → nat_eq (q / base_pixel_size) b ≡ true → q / base_pixel_size < 12
+base_pixel_below_twelve b q l e = grind (arith, nat_tests)
 
 pub with_part_within : (a : NumberSet) (b : ℕ) (part : NumberSet) → b < 12 → IsWithin a pixels → part_of part b ≡ part → IsWithin (with_part a b part) pixels
 with_part_within a b part l w lies = record {
   each = λ q h. elim (or_true (set.contains a q && not (nat_eq (q / base_pixel_size) b)) (set.contains part q) (sym (has-with_part a b part q) ∙ h)) [
     | inl old ↦ w.each q (and_true (set.contains a q) (not (nat_eq (q / base_pixel_size) b)) old).0
-    | inr new ↦ contains-pixels q ∙ is_pixel q (lying_within b q l (and_true (set.contains part q) (nat_eq (q / base_pixel_size) b) (sym (has-lying part b q lies) ∙ new)).1)
+    | inr new ↦ contains-pixels q ∙ is_pixel q (base_pixel_below_twelve b q l (and_true (set.contains part q) (nat_eq (q / base_pixel_size) b) (sym (has-lying part b q lies) ∙ new)).1)
   ];
 }
 
@@ -300,18 +300,18 @@ with_next new old n = same_members _ _ (λ q. has-with_part (half_changed new ol
     ∙ (λ i. (has-half new old n q i && not (nat_eq (q / base_pixel_size) n)) || contains-part_of new n q i)
     ∙ half-next (set.contains new q) (set.contains old q) (q / base_pixel_size) n ∙ sym (has-half new old (n + 1) q))
 
-own : (x e : Bool) → ((x && not e) || (x && e)) ≡ x
-own true true = refl
-own true false = refl
-own false e = refl
+or_of_complements : (x e : Bool) → ((x && not e) || (x && e)) ≡ x
+or_of_complements true true = refl
+or_of_complements true false = refl
+or_of_complements false e = refl
 
 -- replacing a part of a set by itself leaves the set unchanged
-pub with_own : (a : NumberSet) (b : ℕ) → with_part a b (part_of a b) ≡ a
-with_own a b = same_members _ _ (λ q. has-with_part a b (part_of a b) q ∙ ap (λ t. (set.contains a q && not (nat_eq (q / base_pixel_size) b)) || t) (contains-part_of a b q) ∙ own (set.contains a q) (nat_eq (q / base_pixel_size) b))
+pub with_unchanged_part : (a : NumberSet) (b : ℕ) → with_part a b (part_of a b) ≡ a
+with_unchanged_part a b = same_members _ _ (λ q. has-with_part a b (part_of a b) q ∙ ap (λ t. (set.contains a q && not (nat_eq (q / base_pixel_size) b)) || t) (contains-part_of a b q) ∙ or_of_complements (set.contains a q) (nat_eq (q / base_pixel_size) b))
 
 -- a part is within its base pixel
-pub part_lies : (a : NumberSet) (b : ℕ) → part_of (part_of a b) b ≡ part_of a b
-part_lies a b = same_members _ _ (λ q. contains-part_of (part_of a b) b q ∙ ap (λ t. t && nat_eq (q / base_pixel_size) b) (contains-part_of a b q) ∙ again (set.contains a q) (nat_eq (q / base_pixel_size) b) ∙ sym (contains-part_of a b q))
+pub part_of_part_same : (a : NumberSet) (b : ℕ) → part_of (part_of a b) b ≡ part_of a b
+part_of_part_same a b = same_members _ _ (λ q. contains-part_of (part_of a b) b q ∙ ap (λ t. t && nat_eq (q / base_pixel_size) b) (contains-part_of a b q) ∙ again (set.contains a q) (nat_eq (q / base_pixel_size) b) ∙ sym (contains-part_of a b q))
   where
     again : (x e : Bool) → ((x && e) && e) ≡ (x && e)
     again true true = refl

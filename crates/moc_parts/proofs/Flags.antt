@@ -37,27 +37,27 @@ parts_of_flags-set flags b l twelve = same_members _ _ (λ q.
     untied j k d = grind (arith, nat_tests)
 
 -- the parts of flags that are all equal
-steady : (flags : List Bool) (v : Bool) → ((b : ℕ) → b < 12 → get_or flags b false ≡ v) → (b : ℕ) → set.contains (parts_of_flags flags) b ≡ (nat_lt b 12 && v)
-steady flags v alike b = contains-parts_of_flags flags b ∙ elim (cases_lt b 12) [
+flags_all_equal : (flags : List Bool) (v : Bool) → ((b : ℕ) → b < 12 → get_or flags b false ≡ v) → (b : ℕ) → set.contains (parts_of_flags flags) b ≡ (nat_lt b 12 && v)
+flags_all_equal flags v alike b = contains-parts_of_flags flags b ∙ elim (cases_lt b 12) [
   | inl l ↦ ap (λ t. nat_lt b 12 && t) (alike b l)
   | inr ge ↦
       let past : nat_lt b 12 ≡ false = grind (arith, nat_tests) in
       ap (λ t. t && get_or flags b false) past ∙ sym (ap (λ t. t && v) past)
 ]
 
-never : (b : Bool) → (b && false) ≡ false
-never true = refl
-never false = refl
+and_with_false : (b : Bool) → (b && false) ≡ false
+and_with_false true = refl
+and_with_false false = refl
 
-always : (b : Bool) → (b && true) ≡ b
-always true = refl
-always false = refl
+and_with_true : (b : Bool) → (b && true) ≡ b
+and_with_true true = refl
+and_with_true false = refl
 
 pub none_flagged : parts_of_flags (false ∷ false ∷ false ∷ false ∷ false ∷ false ∷ false ∷ false ∷ false ∷ false ∷ false ∷ false ∷ []) ≡ set.empty
-none_flagged = same_members _ _ (λ q. steady (replicate 12 false) false (λ b l. get_or-replicate 12 b false false l) q ∙ never (nat_lt q 12) ∙ sym (set.contains-empty nat_cmp q))
+none_flagged = same_members _ _ (λ q. flags_all_equal (replicate 12 false) false (λ b l. get_or-replicate 12 b false false l) q ∙ and_with_false (nat_lt q 12) ∙ sym (set.contains-empty nat_cmp q))
 
 pub all_flagged : (b : ℕ) → set.contains (parts_of_flags (true ∷ true ∷ true ∷ true ∷ true ∷ true ∷ true ∷ true ∷ true ∷ true ∷ true ∷ true ∷ [])) b ≡ nat_lt b 12
-all_flagged b = steady (replicate 12 true) true (λ k l. get_or-replicate 12 k true false l) b ∙ always (nat_lt b 12)
+all_flagged b = flags_all_equal (replicate 12 true) true (λ k l. get_or-replicate 12 k true false l) b ∙ and_with_true (nat_lt b 12)
 
 -- the flagged parts below n
 unfoldable pub flagged_until : List Bool → ℕ → set.FinSet nat_cmp
@@ -112,8 +112,8 @@ until-unset a flags n is = same_members _ _ (λ q.
     ]
 
 -- flags are determined by the parts that they represent
-pub flags_behind : (flags : List Bool) (parts : set.FinSet nat_cmp) → parts_of_flags flags ≡ parts → length flags ≡ 12 → flags ≡ flags_of parts
-flags_behind flags parts shown twelve = sym (flags_of-parts_of_flags flags twelve) ∙ ap flags_of shown
+pub flags_of_parts : (flags : List Bool) (parts : set.FinSet nat_cmp) → parts_of_flags flags ≡ parts → length flags ≡ 12 → flags ≡ flags_of parts
+flags_of_parts flags parts shown twelve = sym (flags_of-parts_of_flags flags twelve) ∙ ap flags_of shown
 
 -- membership after an insertion
 pub inserted : (s t : set.FinSet nat_cmp) (n k : ℕ) → t ≡ set.insert s n → set.contains t k ≡ (nat_eq n k || set.contains s k)
@@ -123,8 +123,8 @@ inserted s t n k e = ap (λ parts. set.contains parts k) e ∙ set.contains-inse
     tie n k = grind (arith, nat_tests)
 
 -- membership in the empty set
-pub lacking : (t : set.FinSet nat_cmp) (k : ℕ) → t ≡ set.empty → set.contains t k ≡ false
-lacking t k e = ap (λ parts. set.contains parts k) e ∙ set.contains-empty nat_cmp k
+pub no_pixel_in_empty : (t : set.FinSet nat_cmp) (k : ℕ) → t ≡ set.empty → set.contains t k ≡ false
+no_pixel_in_empty t k e = ap (λ parts. set.contains parts k) e ∙ set.contains-empty nat_cmp k
 
 -- membership in a union
 pub either_has : (s t u : set.FinSet nat_cmp) (k : ℕ) → u ≡ set.union s t → set.contains u k ≡ (set.contains s k || set.contains t k)
@@ -160,7 +160,7 @@ set_at_some (false ∷ flags) (suc b) is = set_at_some flags b is
 -- no flag is set if and only if the set of parts is empty
 pub none_set : (flags : List Bool) → length flags ≡ 12 → (list_any (λ flag. flag) flags ≡ false → parts_of_flags flags ≡ set.empty) × (parts_of_flags flags ≡ set.empty → list_any (λ flag. flag) flags ≡ false)
 none_set flags twelve = (
-  λ none. same_members _ _ (λ q. contains-parts_of_flags flags q ∙ ap (λ t. nat_lt q 12 && t) (no_flag none q (get_or flags q false) refl) ∙ never (nat_lt q 12) ∙ sym (set.contains-empty nat_cmp q)),
+  λ none. same_members _ _ (λ q. contains-parts_of_flags flags q ∙ ap (λ t. nat_lt q 12 && t) (no_flag none q (get_or flags q false) refl) ∙ and_with_false (nat_lt q 12) ∙ sym (set.contains-empty nat_cmp q)),
   λ empty. no_part empty (list_any (λ flag. flag) flags) refl,
 )
   where
@@ -171,5 +171,5 @@ none_set flags twelve = (
     no_part : parts_of_flags flags ≡ set.empty → (t : Bool) → list_any (λ flag. flag) flags ≡ t → t ≡ false
     no_part empty true is = absurd (let at = some_set flags is in
         let has = contains-flagged_below flags at.0 (subst (λ n. at.0 < n) twelve at.1) ∙ at.2 in
-        let lacks = lacking (parts_of_flags flags) at.0 empty in cc)
+        let lacks = no_pixel_in_empty (parts_of_flags flags) at.0 empty in cc)
     no_part empty false is = refl

@@ -22,8 +22,8 @@ has-difference a b q = set.contains-difference nat_cmp_total a b q
 pub has-empty : (q : ℕ) → set.contains {R = nat_cmp} set.empty q ≡ false
 has-empty q = set.contains-empty nat_cmp q
 
-pub clash : {X : Type 0} (b : Bool) → b ≡ true → b ≡ false → X
-clash b t f = absurd (cc)
+pub absurd_bool : {X : Type 0} (b : Bool) → b ≡ true → b ≡ false → X
+absurd_bool b t f = absurd (cc)
 
 pub and_true : (x y : Bool) → (x && y) ≡ true → (x ≡ true) × (y ≡ true)
 and_true true true h = (refl, refl)
@@ -60,14 +60,14 @@ pub some_member : (a : NumberSet) → nat_lt 0 (set.len a) ≡ true → (p : ℕ
 some_member a h = go (set.items a) refl
   where
     go : (xs : List ℕ) → set.items a ≡ xs → (p : ℕ) × (set.contains a p ≡ true)
-    go [] e = clash (nat_lt 0 (set.len a)) h (ap (λ (s : NumberSet). nat_lt 0 (set.len s)) (same_members a set.empty (λ q. set.contains-items a q ∙ ap (list_any (eq_by_cmp nat_cmp q)) e ∙ sym (has-empty q))) ∙ ap (λ n. nat_lt 0 n) (set.len-empty nat_cmp))
+    go [] e = absurd_bool (nat_lt 0 (set.len a)) h (ap (λ (s : NumberSet). nat_lt 0 (set.len s)) (same_members a set.empty (λ q. set.contains-items a q ∙ ap (list_any (eq_by_cmp nat_cmp q)) e ∙ sym (has-empty q))) ∙ ap (λ n. nat_lt 0 n) (set.len-empty nat_cmp))
     go (x ∷ xs) e = (x, set.contains-items a x ∙ ap (list_any (eq_by_cmp nat_cmp x)) e ∙ or_left _ _ (unsigned_tied x x ∙ eq-eqb x x refl))
 
 -- a set with a member is not empty
 pub is_some : (a : NumberSet) (p : ℕ) → set.contains a p ≡ true → nat_lt 0 (set.len a) ≡ true
 is_some a p h = elim (cases_lt 0 (set.len a)) [
   | inl lt ↦ lt-ltb 0 (set.len a) lt
-  | inr none ↦ clash (set.contains a p) h (ap (λ (s : NumberSet). set.contains s p) (set.empty_of_len a (omega arith)) ∙ has-empty p)
+  | inr none ↦ absurd_bool (set.contains a p) h (ap (λ (s : NumberSet). set.contains s p) (set.empty_of_len a (omega arith)) ∙ has-empty p)
 ]
 
 -- two sets that meet have a pixel in common

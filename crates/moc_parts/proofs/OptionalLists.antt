@@ -32,13 +32,13 @@ not_both : (a b k : ℕ) → (a ≡ b → ⊥) → (nat_eq a k && nat_eq b k) �
 not_both a b k e = grind (arith, nat_tests)
 
 -- two tests that exclude each other, in either order
-swapped : (s t : Bool) (x y z : Option NumberSet) → (s && t) ≡ false → (if s then x else (if t then y else z)) ≡ (if t then y else (if s then x else z))
-swapped true true x y z e = absurd (cc)
-swapped true false x y z e = refl
-swapped false t x y z e = refl
+swap_conditions : (s t : Bool) (x y z : Option NumberSet) → (s && t) ≡ false → (if s then x else (if t then y else z)) ≡ (if t then y else (if s then x else z))
+swap_conditions true true x y z e = absurd (cc)
+swap_conditions true false x y z e = refl
+swap_conditions false t x y z e = refl
 
-place_here : (n : ℕ) (entry : ℕ × Option NumberSet) (lists : List (ℕ × Option NumberSet)) (b : ℕ) → entry.0 ≡ b → index_of_part_from n (entry ∷ lists) b ≡ Some n
-place_here n entry lists b same = ap (λ t. if t then Some n else index_of_part_from (suc n) lists b) (eq_same entry.0 b same)
+index_of_first_part : (n : ℕ) (entry : ℕ × Option NumberSet) (lists : List (ℕ × Option NumberSet)) (b : ℕ) → entry.0 ≡ b → index_of_part_from n (entry ∷ lists) b ≡ Some n
+index_of_first_part n entry lists b same = ap (λ t. if t then Some n else index_of_part_from (suc n) lists b) (eq_same entry.0 b same)
 
 place_later : (n : ℕ) (entry : ℕ × Option NumberSet) (lists : List (ℕ × Option NumberSet)) (b : ℕ) → (entry.0 ≡ b → ⊥) → index_of_part_from n (entry ∷ lists) b ≡ index_of_part_from (suc n) lists b
 place_later n entry lists b other = ap (λ t. if t then Some n else index_of_part_from (suc n) lists b) (eq_other entry.0 b other)
@@ -56,9 +56,9 @@ abbrev pub IsPut : List (ℕ × Option NumberSet) → List (ℕ × Option Number
 IsPut lists new b list = (k : ℕ) → list_of_part new k ≡ (if nat_eq b k then list else list_of_part lists k)
 
 -- the replacement in the twelve optional lists
-put_twelve : (lists new : List (ℕ × Option NumberSet)) (b : ℕ) (list : Option NumberSet) → b < 12 → IsPut lists new b list
+put_into_twelve : (lists new : List (ℕ × Option NumberSet)) (b : ℕ) (list : Option NumberSet) → b < 12 → IsPut lists new b list
     → twelve_lists new ≡ set_at (twelve_lists lists) b list
-put_twelve lists new b list l put =
+put_into_twelve lists new b list l put =
     let old : List (Option NumberSet) = twelve_lists lists in
     let many : length old ≡ 12 = length-twelve_lists lists in
     ext_get_or None (twelve_lists new) (set_at old b list) (length-twelve_lists new ∙ sym (length-set old b list ∙ many))
@@ -73,20 +73,20 @@ put_twelve lists new b list l put =
 
 -- ---- a part without an entry
 
-missing : (n : ℕ) (lists : List (ℕ × Option NumberSet)) (b : ℕ) → index_of_part_from n lists b ≡ None → list_of_part lists b ≡ None
-missing n [] b e = refl
-missing n (entry ∷ lists) b e = elim (cases_eq entry.0 b) [
-  | inl same ↦ absurd (not_none n (sym (place_here n entry lists b same) ∙ e))
+list_of_missing_part : (n : ℕ) (lists : List (ℕ × Option NumberSet)) (b : ℕ) → index_of_part_from n lists b ≡ None → list_of_part lists b ≡ None
+list_of_missing_part n [] b e = refl
+list_of_missing_part n (entry ∷ lists) b e = elim (cases_eq entry.0 b) [
+  | inl same ↦ absurd (not_none n (sym (index_of_first_part n entry lists b same) ∙ e))
   | inr other ↦ ap (λ t. if t then entry.1 else list_of_part lists b) (eq_other entry.0 b other)
-      ∙ missing (suc n) lists b (sym (place_later n entry lists b other) ∙ e)
+      ∙ list_of_missing_part (suc n) lists b (sym (place_later n entry lists b other) ∙ e)
 ]
 
-missing_put : (n : ℕ) (lists : List (ℕ × Option NumberSet)) (b : ℕ) (list : Option NumberSet) → index_of_part_from n lists b ≡ None → IsPut lists (lists ++ (b, list) ∷ []) b list
-missing_put n [] b list e k = refl
-missing_put n (entry ∷ lists) b list e k = elim (cases_eq entry.0 b) [
-  | inl same ↦ absurd (not_none n (sym (place_here n entry lists b same) ∙ e))
-  | inr other ↦ ap (λ o. if nat_eq entry.0 k then entry.1 else o) (missing_put (suc n) lists b list (sym (place_later n entry lists b other) ∙ e) k)
-      ∙ swapped (nat_eq entry.0 k) (nat_eq b k) entry.1 list (list_of_part lists k) (not_both entry.0 b k other)
+put_missing_appends : (n : ℕ) (lists : List (ℕ × Option NumberSet)) (b : ℕ) (list : Option NumberSet) → index_of_part_from n lists b ≡ None → IsPut lists (lists ++ (b, list) ∷ []) b list
+put_missing_appends n [] b list e k = refl
+put_missing_appends n (entry ∷ lists) b list e k = elim (cases_eq entry.0 b) [
+  | inl same ↦ absurd (not_none n (sym (index_of_first_part n entry lists b same) ∙ e))
+  | inr other ↦ ap (λ o. if nat_eq entry.0 k then entry.1 else o) (put_missing_appends (suc n) lists b list (sym (place_later n entry lists b other) ∙ e) k)
+      ∙ swap_conditions (nat_eq entry.0 k) (nat_eq b k) entry.1 list (list_of_part lists k) (not_both entry.0 b k other)
 ]
 
 -- ---- a part with an entry
@@ -98,8 +98,8 @@ pub record IsFirst (lists : List (ℕ × Option NumberSet)) (b : ℕ) (j : ℕ) 
   pub list : (d : ℕ × Option NumberSet) → (get_or lists j d).1 ≡ list_of_part lists b
   pub put : (entry : ℕ × Option NumberSet) → entry.0 ≡ b → IsPut lists (set_at lists j entry) b entry.1
 
-first_here : (entry : ℕ × Option NumberSet) (lists : List (ℕ × Option NumberSet)) (b : ℕ) → entry.0 ≡ b → IsFirst (entry ∷ lists) b 0
-first_here entry lists b same = record {
+first_entry_of_part : (entry : ℕ × Option NumberSet) (lists : List (ℕ × Option NumberSet)) (b : ℕ) → entry.0 ≡ b → IsFirst (entry ∷ lists) b 0
+first_entry_of_part entry lists b same = record {
   within = omega arith;
   part = λ d. same;
   list = λ d. sym (ap (λ t. if t then entry.1 else list_of_part lists b) (eq_same entry.0 b same));
@@ -119,24 +119,24 @@ first_later entry lists b j other first = record {
   list = λ d. first.list d ∙ sym (ap (λ t. if t then entry.1 else list_of_part lists b) (eq_other entry.0 b other));
   put = λ new is k.
       ap (λ o. if nat_eq entry.0 k then entry.1 else o) (first.put new is k)
-      ∙ swapped (nat_eq entry.0 k) (nat_eq b k) entry.1 new.1 (list_of_part lists k) (not_both entry.0 b k other);
+      ∙ swap_conditions (nat_eq entry.0 k) (nat_eq b k) entry.1 new.1 (list_of_part lists k) (not_both entry.0 b k other);
 }
 
 not_before : (n : ℕ) (lists : List (ℕ × Option NumberSet)) (b i : ℕ) → index_of_part_from n lists b ≡ Some i → n ≤ i
 not_before n [] b i e = absurd (cc)
 not_before n (entry ∷ lists) b i e = elim (cases_eq entry.0 b) [
-  | inl same ↦ (let is : n ≡ i = some_same n i (sym (place_here n entry lists b same) ∙ e) in omega arith)
+  | inl same ↦ (let is : n ≡ i = some_same n i (sym (index_of_first_part n entry lists b same) ∙ e) in omega arith)
   | inr other ↦ (let past : suc n ≤ i = not_before (suc n) lists b i (sym (place_later n entry lists b other) ∙ e) in omega arith)
 ]
 
 first_from : (n : ℕ) (lists : List (ℕ × Option NumberSet)) (b i j : ℕ) → index_of_part_from n lists b ≡ Some i → i ≡ n + j → IsFirst lists b j
 first_from n [] b i j e at = absurd (cc)
 first_from n (entry ∷ lists) b i zero e at = elim (cases_eq entry.0 b) [
-  | inl same ↦ first_here entry lists b same
+  | inl same ↦ first_entry_of_part entry lists b same
   | inr other ↦ absurd (let past : suc n ≤ i = not_before (suc n) lists b i (sym (place_later n entry lists b other) ∙ e) in omega arith)
 ]
 first_from n (entry ∷ lists) b i (suc j) e at = elim (cases_eq entry.0 b) [
-  | inl same ↦ absurd (let is : n ≡ i = some_same n i (sym (place_here n entry lists b same) ∙ e) in omega arith)
+  | inl same ↦ absurd (let is : n ≡ i = some_same n i (sym (index_of_first_part n entry lists b same) ∙ e) in omega arith)
   | inr other ↦ first_later entry lists b j other (first_from (suc n) lists b i j (sym (place_later n entry lists b other) ∙ e) (omega arith))
 ]
 
@@ -145,24 +145,24 @@ is_first lists b i e = first_from 0 lists b i i e (omega arith)
 
 -- ---- setting or removing one list
 
-pub put_at : (lists : List (ℕ × Option NumberSet)) (b i : ℕ) (entry : ℕ × Option NumberSet) → b < 12 → index_of_part_from 0 lists b ≡ Some i → entry.0 ≡ b
+pub entry_at_index : (lists : List (ℕ × Option NumberSet)) (b i : ℕ) (entry : ℕ × Option NumberSet) → b < 12 → index_of_part_from 0 lists b ≡ Some i → entry.0 ≡ b
     → twelve_lists (set_at lists i entry) ≡ set_at (twelve_lists lists) b entry.1
-put_at lists b i entry l e is = put_twelve lists (set_at lists i entry) b entry.1 l ((is_first lists b i e).put entry is)
+entry_at_index lists b i entry l e is = put_into_twelve lists (set_at lists i entry) b entry.1 l ((is_first lists b i e).put entry is)
 
-pub put_new : (lists : List (ℕ × Option NumberSet)) (b : ℕ) (list : Option NumberSet) → b < 12 → index_of_part_from 0 lists b ≡ None
+pub entry_is_new : (lists : List (ℕ × Option NumberSet)) (b : ℕ) (list : Option NumberSet) → b < 12 → index_of_part_from 0 lists b ≡ None
     → twelve_lists (lists ++ (b, list) ∷ []) ≡ set_at (twelve_lists lists) b list
-put_new lists b list l e = put_twelve lists (lists ++ (b, list) ∷ []) b list l (missing_put 0 lists b list e)
+entry_is_new lists b list l e = put_into_twelve lists (lists ++ (b, list) ∷ []) b list l (put_missing_appends 0 lists b list e)
 
-pub got_at : (lists : List (ℕ × Option NumberSet)) (b i : ℕ) (entry : ℕ × Option NumberSet) → b < 12 → index_of_part_from 0 lists b ≡ Some i → entry ≡ get_or lists i entry
+pub get_at_index : (lists : List (ℕ × Option NumberSet)) (b i : ℕ) (entry : ℕ × Option NumberSet) → b < 12 → index_of_part_from 0 lists b ≡ Some i → entry ≡ get_or lists i entry
     → entry.1 ≡ get_or (twelve_lists lists) b None
-got_at lists b i entry l e is = ap (λ x. x.1) is ∙ (is_first lists b i e).list entry ∙ sym (get-twelve_lists lists b None l)
+get_at_index lists b i entry l e is = ap (λ x. x.1) is ∙ (is_first lists b i e).list entry ∙ sym (get-twelve_lists lists b None l)
 
-pub got_none : (lists : List (ℕ × Option NumberSet)) (b : ℕ) → b < 12 → index_of_part_from 0 lists b ≡ None → None ≡ get_or (twelve_lists lists) b None
-got_none lists b l e = sym (get-twelve_lists lists b None l ∙ missing 0 lists b e)
+pub get_of_missing : (lists : List (ℕ × Option NumberSet)) (b : ℕ) → b < 12 → index_of_part_from 0 lists b ≡ None → None ≡ get_or (twelve_lists lists) b None
+get_of_missing lists b l e = sym (get-twelve_lists lists b None l ∙ list_of_missing_part 0 lists b e)
 
 -- removing the list of a part without a list has no effect
 pub none_left : (lists : List (ℕ × Option NumberSet)) (b : ℕ) → b < 12 → index_of_part_from 0 lists b ≡ None → twelve_lists lists ≡ set_at (twelve_lists lists) b None
-none_left lists b l e = put_twelve lists lists b None l (λ k. elim (cases_eq b k) [
-  | inl same ↦ ap (list_of_part lists) (sym same) ∙ missing 0 lists b e ∙ sym (ap (λ t. if t then None else list_of_part lists k) (eq_same b k same))
+none_left lists b l e = put_into_twelve lists lists b None l (λ k. elim (cases_eq b k) [
+  | inl same ↦ ap (list_of_part lists) (sym same) ∙ list_of_missing_part 0 lists b e ∙ sym (ap (λ t. if t then None else list_of_part lists k) (eq_same b k same))
   | inr other ↦ sym (ap (λ t. if t then None else list_of_part lists k) (eq_other b k other))
 ])

@@ -7,9 +7,9 @@ use Rattle.moc_parts.specs.declared.command.Command.TheVariants.{Add, Remove, Ke
 use Rattle.moc_parts.specs.Commands.{is_update, set_after}
 use Rattle.moc_parts.specs.Batches.{set_after_all}
 
-neither : (x y : Bool) → (x || y) ≡ false → (x ≡ false) × (y ≡ false)
-neither true y e = absurd (cc)
-neither false y e = (refl, e)
+both_false : (x y : Bool) → (x || y) ≡ false → (x ≡ false) × (y ≡ false)
+both_false true y e = absurd (cc)
+both_false false y e = (refl, e)
 
 leaves : (c : Command) (a : NumberSet) → is_update c ≡ false → set_after a c ≡ a
 leaves (Add x) a e = absurd (cc)
@@ -25,5 +25,5 @@ leaves (Near x) a e = refl
 pub leave_the_set : (cs : List Command) → list_any is_update cs ≡ false → (a : NumberSet) → set_after_all a cs ≡ a
 leave_the_set [] e a = refl
 leave_the_set (c ∷ cs) e a =
-    let parts = neither (is_update c) (list_any is_update cs) e in
+    let parts = both_false (is_update c) (list_any is_update cs) e in
     ap (λ s. set_after_all s cs) (leaves c a parts.0) ∙ leave_the_set cs parts.1 a

@@ -18,10 +18,10 @@ use Rattle.moc_parts.specs.Private.Drafts.{AreParts}
 use Rattle.moc_parts.specs.declared.command.Command.{Command}
 use Rattle.moc_parts.specs.declared.reply.Reply.{Reply}
 use Rattle.moc_parts.proofs.Members as members
-use Rattle.moc_parts.proofs.ChangedPixels.{alike, changed_pixels-union, changed_pixels-difference}
+use Rattle.moc_parts.proofs.ChangedPixels.{equal_if_no_difference, changed_pixels-union, changed_pixels-difference}
 use Rattle.moc_parts.proofs.Counts.{parts_met_some}
 use Rattle.moc_parts.proofs.Locality.{command_local}
-use Rattle.moc_parts.proofs.Twelve.{parts_within, parts_length, get-parts, get-parts_below, length-parts_below, made_parts}
+use Rattle.moc_parts.proofs.Twelve.{parts_within, parts_length, get-parts, get-parts_below, length-parts_below, parts_below_are_parts}
 
 -- ---- the part that contains a set
 
@@ -30,10 +30,10 @@ eq_true a b e = grind (arith, nat_tests)
 
 none_past : (next : Option ℕ) (k : ℕ) → is_some next ≡ false → MatchOption next ⊥ (λ c. c ≤ k) → ⊥
 none_past None k none past = past
-none_past (Some c) k none past = members.clash true refl none
+none_past (Some c) k none past = members.absurd_bool true refl none
 
-alone_at : (a : NumberSet) (b q : ℕ) (next : Option ℕ) → ((k : ℕ) → nat_lt 0 (set.len (part_of a k)) ≡ true → b ≤ k) → ((k : ℕ) → b + 1 ≤ k → nat_lt 0 (set.len (part_of a k)) ≡ true → MatchOption next ⊥ (λ c. c ≤ k)) → is_some next ≡ false → set.contains a q ≡ true → q / base_pixel_size ≡ b
-alone_at a b q next first later none has =
+contained_in_single_part : (a : NumberSet) (b q : ℕ) (next : Option ℕ) → ((k : ℕ) → nat_lt 0 (set.len (part_of a k)) ≡ true → b ≤ k) → ((k : ℕ) → b + 1 ≤ k → nat_lt 0 (set.len (part_of a k)) ≡ true → MatchOption next ⊥ (λ c. c ≤ k)) → is_some next ≡ false → set.contains a q ≡ true → q / base_pixel_size ≡ b
+contained_in_single_part a b q next first later none has =
     let k : ℕ = q / base_pixel_size in
     let some = members.is_some (part_of a k) q (members.in_part a k q has refl) in
     let low : b ≤ k = first k some in
@@ -42,15 +42,15 @@ alone_at a b q next first later none has =
       | inr other ↦ absurd (none_past next k none (later k (omega arith) some))
     ]
 
-pub lies_alone : (a : NumberSet) (b : ℕ) (next : Option ℕ) → ((k : ℕ) → nat_lt 0 (set.len (part_of a k)) ≡ true → b ≤ k) → ((k : ℕ) → b + 1 ≤ k → nat_lt 0 (set.len (part_of a k)) ≡ true → MatchOption next ⊥ (λ c. c ≤ k)) → is_some next ≡ false → part_of a b ≡ a
-lies_alone a b next first later none = same_members _ _ (λ q. contains-part_of a b q ∙ elim (cases_Bool (set.contains a q)) [
-  | inl has ↦ (λ i. has i && eq_true (q / base_pixel_size) b (alone_at a b q next first later none has) i) ∙ sym has
+pub single_part_is_whole : (a : NumberSet) (b : ℕ) (next : Option ℕ) → ((k : ℕ) → nat_lt 0 (set.len (part_of a k)) ≡ true → b ≤ k) → ((k : ℕ) → b + 1 ≤ k → nat_lt 0 (set.len (part_of a k)) ≡ true → MatchOption next ⊥ (λ c. c ≤ k)) → is_some next ≡ false → part_of a b ≡ a
+single_part_is_whole a b next first later none = same_members _ _ (λ q. contains-part_of a b q ∙ elim (cases_Bool (set.contains a q)) [
+  | inl has ↦ (λ i. has i && eq_true (q / base_pixel_size) b (contained_in_single_part a b q next first later none has) i) ∙ sym has
   | inr lacks ↦ ap (λ t. t && nat_eq (q / base_pixel_size) b) lacks ∙ sym lacks
 ])
 
 -- a set that is within one part has pixels only in that part
-pub met_alone : (a : NumberSet) (b k : ℕ) → part_of a b ≡ a → nat_lt 0 (set.len (part_of a b)) ≡ true → (a ≡ set.empty → ⊥) → parts_met a k ≡ nat_eq b k
-met_alone a b k lies has some = parts_met_some a k some ∙ members.same_test _ _
+pub parts_met_is_single : (a : NumberSet) (b k : ℕ) → part_of a b ≡ a → nat_lt 0 (set.len (part_of a b)) ≡ true → (a ≡ set.empty → ⊥) → parts_met a k ≡ nat_eq b k
+parts_met_is_single a b k lies has some = parts_met_some a k some ∙ members.same_test _ _
     (λ h.
     let m = members.some_member (part_of a k) h in
     let there = members.of_part a k m.0 m.1 in
@@ -75,8 +75,8 @@ module _ (c : Command) (b : ℕ) (needs : NeedsOnly c b) (sets : List NumberSet)
   after_within = local.stays before (parts_within sets are)
 
   -- the lists with the new list of the part are the parts of the new set
-  pub put_new : (old new : NumberSet) → old ≡ part_of before b → new ≡ set_after old c → set_at sets b new ≡ parts_below after 12
-  put_new old new was is =
+  pub entry_is_new : (old new : NumberSet) → old ≡ part_of before b → new ≡ set_after old c → set_at sets b new ≡ parts_below after 12
+  entry_is_new old new was is =
       let there : new ≡ part_of after b = is ∙ ap (λ (s : NumberSet). set_after s c) was
       ∙ part_after commands c b needs.met local before (parts_within sets are) in
       let many : length sets ≡ 12 = parts_length sets are in
@@ -97,7 +97,7 @@ module _ (c : Command) (b : ℕ) (needs : NeedsOnly c b) (sets : List NumberSet)
   -- the lists are parts, whether the command was executed or an allocation failed
   pub parts_after : (r : Result Reply Memory) (d old new : NumberSet) → old ≡ get_or sets b d → OnOk r (new ≡ set_after old c) → OnErr r (new ≡ old) → AreParts (set_at sets b new)
   parts_after (Ok x) d old new at ok err =
-      made_parts (set_at sets b new) after (put_new old new (at ∙ get-parts sets b d are lt) ok) after_within
+      parts_below_are_parts (set_at sets b new) after (entry_is_new old new (at ∙ get-parts sets b d are lt) ok) after_within
   parts_after (Err e) d old new at ok err =
       subst AreParts (sym (ap (λ s. set_at sets b s) (err ∙ at) ∙ set-get_or sets b d)) are
 
@@ -110,8 +110,8 @@ module _ (c : Command) (b : ℕ) (needs : NeedsOnly c b) (sets : List NumberSet)
 
 pub no_addition : (a s new : NumberSet) (n : ℕ) → new ≡ set.union a s → n ≡ set.len (set.difference s a) → nat_eq n 0 ≡ true → new ≡ a
 no_addition a s new n is counted t =
-    is ∙ alike (set.union a s) a (ap set.len (changed_pixels-union a s) ∙ sym counted ∙ eqb-true n 0 t)
+    is ∙ equal_if_no_difference (set.union a s) a (ap set.len (changed_pixels-union a s) ∙ sym counted ∙ eqb-true n 0 t)
 
 pub no_removal : (a s new : NumberSet) (n : ℕ) → new ≡ set.difference a s → n ≡ set.len (set.intersection a s) → nat_eq n 0 ≡ true → new ≡ a
 no_removal a s new n is counted t =
-    is ∙ alike (set.difference a s) a (ap set.len (changed_pixels-difference a s) ∙ sym counted ∙ eqb-true n 0 t)
+    is ∙ equal_if_no_difference (set.difference a s) a (ap set.len (changed_pixels-difference a s) ∙ sym counted ∙ eqb-true n 0 t)

@@ -12,14 +12,14 @@ use Rattle.moc_lists.specs.Lemmas.Ranges.{len_bounded}
 use Rattle.std.specs.Cmp.{nat_cmp_total}
 use Rattle.std.specs.Ordering.{nat_cmp}
 use Rattle.moc_parts.specs.Commands.{parts_met}
-use Rattle.moc_parts.proofs.Counts.{not_met}
+use Rattle.moc_parts.proofs.Counts.{no_pixels_unless_met}
 use Rattle.moc_parts.proofs.Members.{has-union, has-intersection, has-difference, has-empty, and_true, both, same_test, meets_at, in_part, of_part}
-use Rattle.moc_parts.proofs.Twelve.{first_parts, has-first_parts, first_parts-next, first_parts-none, or_nothing, within_base}
+use Rattle.moc_parts.proofs.Twelve.{first_parts, has-first_parts, first_parts-next, first_parts-none, or_with_false, within_base}
 
-early : (x s : Bool) (r n : ℕ) → (((x && nat_lt r (n + 1)) && s) && (x && nat_lt r n)) ≡ ((x && nat_lt r n) && s)
-early true true r n = grind (arith, nat_tests)
-early true false r n = grind (arith, nat_tests)
-early false s r n = refl
+and_with_weaker_bound : (x s : Bool) (r n : ℕ) → (((x && nat_lt r (n + 1)) && s) && (x && nat_lt r n)) ≡ ((x && nat_lt r n) && s)
+and_with_weaker_bound true true r n = grind (arith, nat_tests)
+and_with_weaker_bound true false r n = grind (arith, nat_tests)
+and_with_weaker_bound false s r n = refl
 
 late : (x s : Bool) (r n : ℕ) → (((x && nat_lt r (n + 1)) && s) && not (x && nat_lt r n)) ≡ ((x && nat_eq r n) && s)
 late true true r n = grind (arith, nat_tests)
@@ -33,7 +33,7 @@ len-next a s n =
     let old : set.intersection whole (first_parts a n) ≡ set.intersection (first_parts a n) s = same_members _ _ (λ q.
     has-intersection whole (first_parts a n) q
     ∙ (λ i. (has-intersection (first_parts a (n + 1)) s q ∙ ap (λ t. t && set.contains s q) (has-first_parts a (n + 1) q)) i && has-first_parts a n q i)
-    ∙ early (set.contains a q) (set.contains s q) (q / base_pixel_size) n
+    ∙ and_with_weaker_bound (set.contains a q) (set.contains s q) (q / base_pixel_size) n
     ∙ sym (has-intersection (first_parts a n) s q ∙ ap (λ t. t && set.contains s q) (has-first_parts a n q))) in
     let new : set.difference whole (first_parts a n) ≡ set.intersection (part_of a n) s = same_members _ _ (λ q.
     has-difference whole (first_parts a n) q
@@ -121,8 +121,8 @@ pub size_none : (a : NumberSet) → 0 ≡ set.len (first_parts a 0)
 size_none a = sym (ap set.len (first_parts-none a) ∙ set.len-empty nat_cmp)
 
 -- the number of missing pixels, from the number of common pixels
-pub lacking : (a s : NumberSet) → set.len s - set.len (set.intersection a s) ≡ set.len (set.difference s a)
-lacking a s =
+pub difference_count : (a s : NumberSet) → set.len s - set.len (set.intersection a s) ≡ set.len (set.difference s a)
+difference_count a s =
     let changed_pixels : set.intersection s a ≡ set.intersection a s = same_members _ _ (λ q. has-intersection s a q ∙ swap (set.contains s q) (set.contains a q) ∙ sym (has-intersection a s q)) in
     let e : set.len (set.intersection s a) ≡ set.len (set.intersection a s) = ap set.len changed_pixels in
     let parts = len_parts s a in omega arith
@@ -145,11 +145,11 @@ shared_less a s =
     swap false true = refl
     swap false false = refl
 
-pub kept_less : (a s : NumberSet) → set.len (set.intersection a s) ≤ set.len a
-kept_less a s = let parts = len_parts a s in omega arith
+pub common_count_at_most : (a s : NumberSet) → set.len (set.intersection a s) ≤ set.len a
+common_count_at_most a s = let parts = len_parts a s in omega arith
 
-pub dropped : (a s : NumberSet) → set.len a - set.len (set.intersection a s) ≡ set.len (set.difference a s)
-dropped a s = let parts = len_parts a s in omega arith
+pub removed_count : (a s : NumberSet) → set.len a - set.len (set.intersection a s) ≡ set.len (set.difference a s)
+removed_count a s = let parts = len_parts a s in omega arith
 
 -- ---- whether two sets meet, part by part
 
@@ -157,19 +157,19 @@ pub meets-none : (a s : NumberSet) → meets (first_parts a 0) s ≡ false
 unfolding meets
 meets-none a s = ap (λ n. nat_lt 0 n) (sym (len_none a s))
 
-no_more : (x y z : ℕ) → x + y ≡ z → nat_lt 0 x ≡ false → nat_lt 0 y ≡ false → nat_lt 0 z ≡ false
-no_more x y z e f g = grind (arith, nat_tests)
+sum_of_zeros : (x y z : ℕ) → x + y ≡ z → nat_lt 0 x ≡ false → nat_lt 0 y ≡ false → nat_lt 0 z ≡ false
+sum_of_zeros x y z e f g = grind (arith, nat_tests)
 
 pub meets-next : (a s : NumberSet) (n : ℕ) → meets (first_parts a n) s ≡ false → meets (part_of a n) s ≡ false → meets (first_parts a (n + 1)) s ≡ false
 unfolding meets
-meets-next a s n f g = no_more _ _ _ (len-next a s n) f g
+meets-next a s n f g = sum_of_zeros _ _ _ (len-next a s n) f g
 
 pub meets-part : (a s : NumberSet) (b : ℕ) → meets (part_of a b) s ≡ true → meets a s ≡ true
 meets-part a s b h = let m = meets_at (part_of a b) s h in meets-some a s m.0 (of_part a b m.0 m.1).0 m.2
 
 -- a union with the empty set
 pub union-no_pixels : (a b : NumberSet) → b ≡ set.empty → set.union a b ≡ a
-union-no_pixels a b e = same_members _ _ (λ q. has-union a b q ∙ ap (λ t. set.contains a q || set.contains t q) e ∙ ap (λ t. set.contains a q || t) (has-empty q) ∙ or_nothing (set.contains a q))
+union-no_pixels a b e = same_members _ _ (λ q. has-union a b q ∙ ap (λ t. set.contains a q || set.contains t q) e ∙ ap (λ t. set.contains a q || t) (has-empty q) ∙ or_with_false (set.contains a q))
 
 pub no_pixels-union : (a b : NumberSet) → a ≡ set.empty → set.union a b ≡ b
 no_pixels-union a b e = same_members _ _ (λ q. has-union a b q ∙ ap (λ t. set.contains t q || set.contains b q) e ∙ ap (λ t. t || set.contains b q) (has-empty q))
@@ -205,13 +205,13 @@ part-missed a s b missed =
 
 -- ---- skipped parts
 
-common_passed : (a s : NumberSet) (n d : ℕ) → ((k : ℕ) → n ≤ k → k < n + d → parts_met s k ≡ false) → set.intersection (first_parts a n) s ≡ set.intersection (first_parts a (n + d)) s
-common_passed a s n zero none = let e : n ≡ n + 0 = omega arith in ap (λ m. set.intersection (first_parts a m) s) e
-common_passed a s n (suc d) none =
+common_part_unchanged : (a s : NumberSet) (n d : ℕ) → ((k : ℕ) → n ≤ k → k < n + d → parts_met s k ≡ false) → set.intersection (first_parts a n) s ≡ set.intersection (first_parts a (n + d)) s
+common_part_unchanged a s n zero none = let e : n ≡ n + 0 = omega arith in ap (λ m. set.intersection (first_parts a m) s) e
+common_part_unchanged a s n (suc d) none =
     let e : (n + d) + 1 ≡ n + suc d = omega arith in
     let no_pixels : set.intersection (part_of a (n + d)) s ≡ set.empty =
-    set.empty_of_len (set.intersection (part_of a (n + d)) s) (sym (part-missed a s (n + d) (not_met s (n + d) (none (n + d) (omega arith) (omega arith))))) in
-    common_passed a s n d (λ k l m. none k l (omega arith))
+    set.empty_of_len (set.intersection (part_of a (n + d)) s) (sym (part-missed a s (n + d) (no_pixels_unless_met s (n + d) (none (n + d) (omega arith) (omega arith))))) in
+    common_part_unchanged a s n d (λ k l m. none k l (omega arith))
     ∙ sym (union-no_pixels (set.intersection (first_parts a (n + d)) s) (set.intersection (part_of a (n + d)) s) no_pixels)
     ∙ common-next a s (n + d) ∙ ap (λ m. set.intersection (first_parts a m) s) e
 
@@ -219,7 +219,7 @@ common_passed a s n (suc d) none =
 pub common-upto : (a s : NumberSet) (n b : ℕ) → n ≤ b → ((k : ℕ) → n ≤ k → k < b → parts_met s k ≡ false) → set.intersection (first_parts a n) s ≡ set.intersection (first_parts a b) s
 common-upto a s n b le none =
     let e : n + (b - n) ≡ b = omega arith in
-    common_passed a s n (b - n) (λ k l m. none k l (omega arith)) ∙ ap (λ m. set.intersection (first_parts a m) s) e
+    common_part_unchanged a s n (b - n) (λ k l m. none k l (omega arith)) ∙ ap (λ m. set.intersection (first_parts a m) s) e
 
 pub len-upto : (a s : NumberSet) (n b : ℕ) → n ≤ b → ((k : ℕ) → n ≤ k → k < b → parts_met s k ≡ false) → set.len (set.intersection (first_parts a n) s) ≡ set.len (set.intersection (first_parts a b) s)
 len-upto a s n b le none = ap set.len (common-upto a s n b le none)

@@ -12,7 +12,7 @@ use Rattle.moc_ranges.specs.Lemmas.{in_base_pixels, is_pixel}
 use Rattle.moc_ranges.specs.Operations.{pixels, base_pixel_size, part_of, IsWithin}
 use Rattle.moc_parts.specs.Objects.{base_pixel}
 use Rattle.moc_parts.specs.Parts.{union_of, parts_below, AreWithinParts}
-use Rattle.moc_parts.proofs.Members.{has-union, has-empty, and_true, or_true, or_left, or_right, both, same_test, clash, in_part, of_part}
+use Rattle.moc_parts.proofs.Members.{has-union, has-empty, and_true, or_true, or_left, or_right, both, same_test, absurd_bool, in_part, of_part}
 use Rattle.moc_parts.specs.Private.Drafts.{AreParts}
 
 -- the pixels of a set in its first n parts
@@ -47,16 +47,16 @@ pub has-first_parts : (a : NumberSet) (n q : ℕ) → set.contains (first_parts 
 unfolding first_parts
 has-first_parts a n q = contains-kept a (λ p. nat_lt (p / base_pixel_size) n) q
 
-pub or_nothing : (x : Bool) → (x || false) ≡ x
-or_nothing true = refl
-or_nothing false = refl
+pub or_with_false : (x : Bool) → (x || false) ≡ x
+or_with_false true = refl
+or_with_false false = refl
 
 or_shift : (x y z : Bool) → (x || (y || z)) ≡ ((x || y) || z)
 or_shift true y z = refl
 or_shift false y z = refl
 
 pub has-union_of_append : (xs : List NumberSet) (y : NumberSet) (q : ℕ) → set.contains (union_of (xs ++ (y ∷ []))) q ≡ (set.contains (union_of xs) q || set.contains y q)
-has-union_of_append [] y q = has-union y set.empty q ∙ ap (λ t. set.contains y q || t) (has-empty q) ∙ or_nothing (set.contains y q) ∙ sym (ap (λ t. t || set.contains y q) (has-empty q))
+has-union_of_append [] y q = has-union y set.empty q ∙ ap (λ t. set.contains y q || t) (has-empty q) ∙ or_with_false (set.contains y q) ∙ sym (ap (λ t. t || set.contains y q) (has-empty q))
 has-union_of_append (x ∷ xs) y q = has-union x (union_of (xs ++ (y ∷ []))) q ∙ ap (λ t. set.contains x q || t) (has-union_of_append xs y q)
     ∙ or_shift (set.contains x q) (set.contains (union_of xs) q) (set.contains y q) ∙ ap (λ t. t || set.contains y q) (sym (has-union x (union_of xs) q))
 
@@ -70,12 +70,12 @@ first_parts-next a n = same_members _ _ (λ q.
     has-union (first_parts a n) (part_of a n) q ∙ (λ i. has-first_parts a n q i || contains-part_of a n q i)
     ∙ next_test (set.contains a q) (q / base_pixel_size) n ∙ sym (has-first_parts a (n + 1) q))
 
-never : (x : Bool) (r : ℕ) → (x && nat_lt r 0) ≡ false
-never true r = grind (arith, nat_tests)
-never false r = refl
+no_part_below_zero : (x : Bool) (r : ℕ) → (x && nat_lt r 0) ≡ false
+no_part_below_zero true r = grind (arith, nat_tests)
+no_part_below_zero false r = refl
 
 pub first_parts-none : (a : NumberSet) → first_parts a 0 ≡ set.empty
-first_parts-none a = same_members _ _ (λ q. has-first_parts a 0 q ∙ never (set.contains a q) (q / base_pixel_size) ∙ sym (has-empty q))
+first_parts-none a = same_members _ _ (λ q. has-first_parts a 0 q ∙ no_part_below_zero (set.contains a q) (q / base_pixel_size) ∙ sym (has-empty q))
 
 pub union_of-parts_below : (a : NumberSet) (n : ℕ) → union_of (parts_below a n) ≡ first_parts a n
 union_of-parts_below a zero = ap union_of (parts_below-none a) ∙ sym (first_parts-none a)
@@ -124,21 +124,21 @@ parts_length sets e = ap length e ∙ length-parts_below (union_of sets) 12
 pub get-parts : (sets : List NumberSet) (b : ℕ) (d : NumberSet) → AreParts sets → b < 12 → get_or sets b d ≡ part_of (union_of sets) b
 get-parts sets b d e l = ap (λ xs. get_or xs b d) e ∙ get-parts_below (union_of sets) 12 b d l
 
-pub made_parts : (sets : List NumberSet) (a : NumberSet) → sets ≡ parts_below a 12 → IsWithin a pixels → AreParts sets
-made_parts sets a e w = subst AreParts (sym e) (AreParts-parts a w)
+pub parts_below_are_parts : (sets : List NumberSet) (a : NumberSet) → sets ≡ parts_below a 12 → IsWithin a pixels → AreParts sets
+parts_below_are_parts sets a e w = subst AreParts (sym e) (AreParts-parts a w)
 
-pub made_union : (sets : List NumberSet) (a : NumberSet) → sets ≡ parts_below a 12 → IsWithin a pixels → union_of sets ≡ a
-made_union sets a e w = ap union_of e ∙ union_of-parts a w
+pub union_of_parts_below : (sets : List NumberSet) (a : NumberSet) → sets ≡ parts_below a 12 → IsWithin a pixels → union_of sets ≡ a
+union_of_parts_below sets a e w = ap union_of e ∙ union_of-parts a w
 
 -- one more list
-pub made_next : (sets : List NumberSet) (a : NumberSet) (n : ℕ) → sets ≡ parts_below a n → (part : NumberSet) → part ≡ part_of a n → sets ++ (part ∷ []) ≡ parts_below a (n + 1)
-made_next sets a n e part p = (λ i. e i ++ (p i ∷ [])) ∙ sym (parts_below-next a n)
+pub parts_below_next : (sets : List NumberSet) (a : NumberSet) (n : ℕ) → sets ≡ parts_below a n → (part : NumberSet) → part ≡ part_of a n → sets ++ (part ∷ []) ≡ parts_below a (n + 1)
+parts_below_next sets a n e part p = (λ i. e i ++ (p i ∷ [])) ∙ sym (parts_below-next a n)
 
 -- ---- sets that are each within their own base pixel
 
 -- a pixel of the union is in one of the sets
 one_of : (sets : List NumberSet) (q : ℕ) → set.contains (union_of sets) q ≡ true → (k : ℕ) × (k < length sets) × (set.contains (get_or sets k set.empty) q ≡ true)
-one_of [] q h = clash (set.contains {R = nat_cmp} set.empty q) h (has-empty q)
+one_of [] q h = absurd_bool (set.contains {R = nat_cmp} set.empty q) h (has-empty q)
 one_of (a ∷ sets) q h = elim (or_true (set.contains a q) (set.contains (union_of sets) q) (sym (has-union a (union_of sets) q) ∙ h)) [
   | inl here ↦ (0, omega arith, here)
   | inr later ↦ let m = one_of sets q later in (suc m.0, omega (arith, m.1), m.2)
@@ -162,8 +162,8 @@ single_part sets lie b l = same_members _ _ (λ q. same_test _ _
     at n q lt h = (of_part (get_or sets n set.empty) n q (ap (λ a. set.contains a q) (lie.own n lt) ∙ h)).1
 
 -- the sets are the parts of their union
-pub lying_parts : (sets : List NumberSet) → AreWithinParts sets → AreParts sets
-lying_parts sets lie = ext_get_or set.empty sets (parts_below (union_of sets) 12)
+pub within_parts_are_parts : (sets : List NumberSet) → AreWithinParts sets → AreParts sets
+within_parts_are_parts sets lie = ext_get_or set.empty sets (parts_below (union_of sets) 12)
     (lie.twelve ∙ sym (length-parts_below (union_of sets) 12))
     (λ b l. let lt : b < 12 = subst (λ n. b < n) lie.twelve l in single_part sets lie b lt ∙ sym (get-parts_below (union_of sets) 12 b set.empty lt))
 
@@ -182,8 +182,8 @@ contains_by_part sets lie p l =
     and_yes true = refl
     and_yes false = refl
 
-part_again : (a : NumberSet) (b : ℕ) → part_of (part_of a b) b ≡ part_of a b
-part_again a b = same_members _ _ (λ q. contains-part_of (part_of a b) b q ∙ ap (λ t. t && nat_eq (q / base_pixel_size) b) (contains-part_of a b q) ∙ twice (set.contains a q) (nat_eq (q / base_pixel_size) b) ∙ sym (contains-part_of a b q))
+part_of_part : (a : NumberSet) (b : ℕ) → part_of (part_of a b) b ≡ part_of a b
+part_of_part a b = same_members _ _ (λ q. contains-part_of (part_of a b) b q ∙ ap (λ t. t && nat_eq (q / base_pixel_size) b) (contains-part_of a b q) ∙ twice (set.contains a q) (nat_eq (q / base_pixel_size) b) ∙ sym (contains-part_of a b q))
   where
     twice : (x e : Bool) → ((x && e) && e) ≡ (x && e)
     twice true true = refl
@@ -191,8 +191,8 @@ part_again a b = same_members _ _ (λ q. contains-part_of (part_of a b) b q ∙ 
     twice false e = refl
 
 -- the twelve parts of a set are each within their own base pixel
-pub parts_lie : (a : NumberSet) → IsWithin a pixels → AreWithinParts (parts_below a 12)
-parts_lie a w = record {
+pub parts_below_within : (a : NumberSet) → IsWithin a pixels → AreWithinParts (parts_below a 12)
+parts_below_within a w = record {
   twelve = length-parts_below a 12;
-  own = λ b l. let at = get-parts_below a 12 b set.empty l in ap (λ s. part_of s b) at ∙ part_again a b ∙ sym at;
+  own = λ b l. let at = get-parts_below a 12 b set.empty l in ap (λ s. part_of s b) at ∙ part_of_part a b ∙ sym at;
 }

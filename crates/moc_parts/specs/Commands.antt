@@ -3,7 +3,7 @@ use Rattle.std.specs.Prelude.{◌≡◌, ℕ, ◌≤◌, Bool, true, false, nat_
 use Rattle.std.specs.List.{list_any}
 use Rattle.std.specs.FinSet as set
 use Rattle.std.specs.Option.{option_map_or}
-use Rattle.moc_sphere.specs.CellNumber.{CellNumber, cell_number, IsCell}
+use Rattle.moc_sphere.specs.CellNumber.{CellNumber, cell_number, IsCell, max_order}
 use Rattle.moc_sphere.specs.Faces.{face_of}
 use Rattle.moc_sphere.specs.Touching.{touching_cells}
 use Rattle.moc_lists.specs.RangeList.{NumberSet, pixel_count}
@@ -17,6 +17,7 @@ use Rattle.moc_parts.specs.declared.command.Command.TheVariants.{Near}
 use Rattle.moc_parts.specs.declared.reply.Reply.{Reply}
 use Rattle.moc_parts.specs.declared.reply.Reply.TheVariants as reply
 use Rattle.moc_parts.specs.declared.reply.Reply.TheVariants.{Changed, Taken}
+use Rattle.moc_parts.specs.Parts.{part_count}
 
 -- the effective set of an operand: its set, degraded if an order is given
 abbrev pub operand_set : Operand → NumberSet
@@ -42,10 +43,10 @@ parts_around c b = list_any (λ index. nat_eq (face_of c.order index) b) (cells_
 abbrev pub footprint : Command → ℕ → Bool
 footprint (Add x) b = parts_met x.set b
 footprint (Remove x) b = parts_met x.set b
-footprint (Keep x) b = nat_lt b 12
+footprint (Keep x) b = nat_lt b part_count
 footprint (Claim x) b = parts_met x.set b
-footprint Invert b = nat_lt b 12
-footprint (Degrade order) b = nat_lt b 12
+footprint Invert b = nat_lt b part_count
+footprint (Degrade order) b = nat_lt b part_count
 footprint (Count x) b = parts_met x.set b
 footprint (Read x) b = parts_met x.set b
 footprint (Near c) b = parts_around c b
@@ -97,7 +98,7 @@ commands = record { footprint = footprint; answer = λ a c. (set_after a c, repl
 
 -- an operand is a set of pixels within the sky with an optional order from 0 to 29
 abbrev pub IsOperand : Operand → Type 0
-IsOperand x = IsWithin x.set pixels × IfSome x.coarse (λ order. order ≤ 29)
+IsOperand x = IsWithin x.set pixels × IfSome x.coarse (λ order. order ≤ max_order)
 
 -- a command is valid if its set is within the sky, its order is 0 to 29, and its cell is a cell
 abbrev pub IsCommand : Command → Type 0
@@ -106,7 +107,7 @@ IsCommand (Remove x) = IsOperand x
 IsCommand (Keep x) = IsOperand x
 IsCommand (Claim x) = IsOperand x
 IsCommand Invert = Unit {0}
-IsCommand (Degrade order) = order ≤ 29
+IsCommand (Degrade order) = order ≤ max_order
 IsCommand (Count x) = IsOperand x
 IsCommand (Read x) = IsOperand x
 IsCommand (Near c) = IsCell c

@@ -3,6 +3,7 @@ use Rattle.std.specs.Prelude.{◌≡◌, ℕ, ◌/◌, ◌<◌, Bool, true, fals
 use Rattle.std.specs.FinSet as set
 use Rattle.moc_lists.specs.RangeList.{NumberSet}
 use Rattle.moc_ranges.specs.Operations.{base_pixel_size, pixels, IsWithin}
+use Rattle.moc_parts.specs.Parts.{part_count}
 
 -- the base pixel of a pixel
 unfoldable pub base_pixel : ℕ → ℕ
@@ -21,7 +22,7 @@ AgreeOn parts a b = (p : ℕ) → parts (base_pixel p) ≡ true → set.contains
 
 -- an operation is local if its footprint is not empty, it accesses nothing else, and sets of pixels stay within the sky
 pub record IsLocal {Op Reply : Type 0} (o : Object Op Reply) (op : Op) : Type 0 where
-  pub some : (b : ℕ) × (b < 12) × (o.footprint op b ≡ true)
+  pub some : (b : ℕ) × (b < part_count) × (o.footprint op b ≡ true)
   pub reply : (a b : NumberSet) → IsWithin a pixels → IsWithin b pixels → AgreeOn (o.footprint op) a b
       → (o.answer a op).1 ≡ (o.answer b op).1
   pub inside : (a b : NumberSet) → IsWithin a pixels → IsWithin b pixels → AgreeOn (o.footprint op) a b

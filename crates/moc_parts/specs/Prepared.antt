@@ -9,6 +9,7 @@ use Rattle.moc_parts.specs.Objects.{AgreeOn, base_pixel}
 use Rattle.moc_parts.specs.Batches.{set_after_all, replies_on, footprint_of_all}
 use Rattle.moc_parts.specs.declared.command.Command.{Command}
 use Rattle.moc_parts.specs.declared.reply.Reply.{Reply}
+use Rattle.moc_parts.specs.Parts.{part_count}
 
 -- the content of a part; empty if the part was not read
 abbrev pub content_or_empty : Option NumberSet → NumberSet
@@ -50,10 +51,10 @@ pub record IsDeterminedBy (cs : List Command) (before : NumberSet) (replies : Li
 -- the replies, and the new contents of exactly the given parts
 pub record IsPrepared (cs : List Command) (given : ℕ → Bool) (before : NumberSet) (p : Preparation) : Type 0 where
   pub determined : IsDeterminedBy cs before p.replies
-  pub parts : (b : ℕ) → b < 12 → get_or p.lists b None ≡ part_if (given b) (set_after_all before cs) b
+  pub parts : (b : ℕ) → b < part_count → get_or p.lists b None ≡ part_if (given b) (set_after_all before cs) b
 
 -- the replies, and the new contents of the parts that changed
 pub record AreChanges (cs : List Command) (before : NumberSet) (p : Preparation) : Type 0 where
   pub determined : IsDeterminedBy cs before p.replies
-  pub parts : (b : ℕ) → b < 12
+  pub parts : (b : ℕ) → b < part_count
       → unwrap_or (get_or p.lists b None) (part_of before b) ≡ part_of (set_after_all before cs) b

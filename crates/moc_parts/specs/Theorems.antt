@@ -7,7 +7,7 @@ use Rattle.moc_ranges.specs.Operations.{part_of, IsWithin, pixels}
 use Rattle.moc_parts.specs.Objects.{base_pixel, IsLocal}
 use Rattle.moc_parts.specs.Commands.{commands, is_update, operand_set, parts_met, IsCommand, IsOperand}
 use Rattle.moc_parts.specs.Batches.{batches, set_after_all, AreCommands}
-use Rattle.moc_parts.specs.Parts.{parts_below, union_of, AreWithinParts}
+use Rattle.moc_parts.specs.Parts.{parts_below, union_of, AreWithinParts, part_count}
 use Rattle.moc_parts.specs.declared.command.Operand.{Operand}
 use Rattle.moc_parts.specs.declared.command.Command.{Command}
 
@@ -31,9 +31,9 @@ QueriesLeaveTheSet = (cs : List Command) → list_any is_update cs ≡ false →
 -- Twelve sets, each within its own base pixel, are the parts of their union. The union is within the sky, and a pixel
 -- is in the union if and only if it is in the set of its base pixel.
 pub record SetsAreUnitedByParts : Type 0 where
-  pub parts : (sets : List NumberSet) → AreWithinParts sets → sets ≡ parts_below (union_of sets) 12
+  pub parts : (sets : List NumberSet) → AreWithinParts sets → sets ≡ parts_below (union_of sets) part_count
   pub within : (sets : List NumberSet) → AreWithinParts sets → IsWithin (union_of sets) pixels
-  pub contains : (sets : List NumberSet) → AreWithinParts sets → (p : ℕ) → base_pixel p < 12
+  pub contains : (sets : List NumberSet) → AreWithinParts sets → (p : ℕ) → base_pixel p < part_count
       → set.contains (union_of sets) p ≡ set.contains (get_or sets (base_pixel p) set.empty) p
 
 -- The list of the first n parts has length n, and its element b is part b. The twelve parts of a set of pixels are each
@@ -41,5 +41,5 @@ pub record SetsAreUnitedByParts : Type 0 where
 pub record SetsHaveTwelveParts : Type 0 where
   pub many : (a : NumberSet) (n : ℕ) → length (parts_below a n) ≡ n
   pub each : (a : NumberSet) (n b : ℕ) → b < n → get_or (parts_below a n) b set.empty ≡ part_of a b
-  pub lie : (a : NumberSet) → IsWithin a pixels → AreWithinParts (parts_below a 12)
-  pub whole : (a : NumberSet) → IsWithin a pixels → union_of (parts_below a 12) ≡ a
+  pub lie : (a : NumberSet) → IsWithin a pixels → AreWithinParts (parts_below a part_count)
+  pub whole : (a : NumberSet) → IsWithin a pixels → union_of (parts_below a part_count) ≡ a

@@ -5,6 +5,7 @@ ghost use Rattle.std.specs.FinSet as set;
 ghost use Rattle.std.specs.List.{list_any};
 ghost use Rattle.moc_parts.specs.Batches.{footprint_of_all, AreCommands};
 ghost use Rattle.moc_parts.specs.Commands.{is_update};
+ghost use Rattle.moc_parts.specs.Parts.{part_count};
 
 use crate::command::Command;
 use crate::part::PartSet;
@@ -140,10 +141,10 @@ impl Batch {
     /// Returns the union of the footprints of all commands: the parts that the batch reads or changes. Takes O(log n)
     /// for each command, for an operand of n ranges; allocates nothing.
     pub fn footprint(&self, alloc: Global) -> PartSet
-        ensures parts { (b : ℕ) → b < 12 → set.contains result b ≡ footprint_of_all self.now b }
+        ensures parts { (b : ℕ) → b < part_count → set.contains result b ≡ footprint_of_all self.now b }
 
         // The footprint is never empty.
-        ensures some { (b : ℕ) × (b < 12) × (set.contains result b ≡ true) }
+        ensures some { (b : ℕ) × (b < part_count) × (set.contains result b ≡ true) }
     {
         footprint_of_all(self.commands(), alloc)
     }
@@ -176,7 +177,7 @@ fn prove_all_in_sky(commands: &[Command])
 
 /// Returns the union of the footprints of the commands.
 fn footprint_of_all(commands: &[Command], alloc: Global) -> PartSet
-    ensures { (b : ℕ) → b < 12 → set.contains result b ≡ footprint_of_all commands.now b }
+    ensures { (b : ℕ) → b < part_count → set.contains result b ≡ footprint_of_all commands.now b }
 {
     match commands.split_first() {
         Some((only, rest)) if rest.is_empty() => only.footprint(alloc),

@@ -5,6 +5,7 @@ ghost use Rattle.moc_ranges.specs.Operations.{part_of};
 ghost use Rattle.moc_parts.specs.Commands.{footprint, is_update, operand_set, parts_met};
 ghost use Rattle.moc_parts.specs.Commands.{IsCommand, IsOperand, NeedsOnly};
 ghost use Rattle.moc_parts.specs.Private.EffectiveSet.{effective_pixels};
+ghost use Rattle.moc_parts.specs.Parts.{part_count};
 
 use crate::effective_set::EffectiveSet;
 use crate::footprint::{parts_around, parts_met, single_part};
@@ -125,7 +126,7 @@ impl Command {
     /// # Complexity
     /// O(log n) for an operand of n ranges. Allocates nothing.
     pub fn footprint(&self, alloc: Global) -> PartSet
-        ensures { (b : ℕ) → b < 12 → set.contains result b ≡ footprint self.now b }
+        ensures { (b : ℕ) → b < part_count → set.contains result b ≡ footprint self.now b }
     {
         match self {
             Command::Add(x)

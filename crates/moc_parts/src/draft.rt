@@ -5,7 +5,7 @@ ghost use Rattle.moc_ranges.specs.Operations.{meets, part_of, symmetric, IsWithi
 ghost use Rattle.moc_parts.specs.Private.Changes.{set_after_change, IsChange};
 ghost use Rattle.moc_parts.specs.Commands.{parts_met};
 ghost use Rattle.moc_parts.specs.Private.Drafts.{current_lists, sets_of, with_part, AreParts};
-ghost use Rattle.moc_parts.specs.Parts.{union_of, parts_below};
+ghost use Rattle.moc_parts.specs.Parts.{union_of, parts_below, part_count};
 ghost use Rattle.moc_parts.specs.Prepared.{given_sets, is_given, part_if};
 
 mod commands;
@@ -28,7 +28,7 @@ pub(crate) struct Draft<'a> {
 impl<'a> Model for Draft<'a> {
     ghost use Rattle.std.specs.Prelude.{◌≡◌, length};
     ghost use Rattle.moc_parts.specs.Private.Drafts.{DraftState, draft_state_code, current_lists, sets_of, AreParts};
-    ghost use Rattle.moc_parts.specs.Parts.{union_of};
+    ghost use Rattle.moc_parts.specs.Parts.{union_of, part_count};
 
     ghost Value = { DraftState };
 
@@ -40,7 +40,7 @@ impl<'a> Model for Draft<'a> {
     } };
 
     ghost invariant = { λ d. AreParts (current_lists (sets_of d.before) d.new_lists)
-        × (length d.new_lists ≡ 12) };
+        × (length d.new_lists ≡ part_count) };
 }
 
 impl<'a> Draft<'a> {
@@ -191,9 +191,9 @@ impl<'a> Draft<'a> {
 
     /// Returns the replaced lists.
     pub(crate) fn into_new_lists(self) -> Lists
-        ensures lists { current_lists self.entry.before result ≡ parts_below self.entry.set 12 }
+        ensures lists { current_lists self.entry.before result ≡ parts_below self.entry.set part_count }
         ensures within { IsWithin self.entry.set pixels }
-        ensures twelve { length result ≡ 12 }
+        ensures twelve { length result ≡ part_count }
     {
         self.new_lists
     }
@@ -205,7 +205,7 @@ impl<'a> Draft<'a> {
         given: &[Option<&Coverage>; 12],
     ) -> Result<Lists, Memory>
         ensures { IfOk result (λ lists.
-            (b : ℕ) → b < 12 → get_or lists b None ≡ part_if (is_given given.now b) self.entry.set b) }
+            (b : ℕ) → b < part_count → get_or lists b None ≡ part_if (is_given given.now b) self.entry.set b) }
     {
         let Draft { before, new_lists } = self;
         let mut lists = new_lists;

@@ -4,6 +4,7 @@ ghost use Rattle.std.specs.FinSet as set;
 ghost use Rattle.moc_parts.specs.Commands.{parts_around, parts_met};
 ghost use Rattle.moc_ranges.specs.Operations.{part_of, IsWithin, pixels};
 ghost use Rattle.moc_sphere.specs.Faces.{face_of};
+ghost use Rattle.moc_parts.specs.Parts.{part_count};
 
 use crate::part::{Part, PartSet};
 use moc_ranges::Coverage;
@@ -12,7 +13,7 @@ use std::alloc::Global;
 
 /// Returns the parts in which a set has a pixel; returns part 0 if the set is empty.
 pub(crate) fn parts_met(operand: &Coverage) -> PartSet
-    ensures parts { (b : ℕ) → b < 12 → set.contains result b ≡ parts_met operand.now b }
+    ensures parts { (b : ℕ) → b < part_count → set.contains result b ≡ parts_met operand.now b }
     ensures within { IsWithin operand.now pixels }
 {
     let mut parts = PartSet::none();
@@ -46,7 +47,7 @@ pub(crate) fn single_part(operand: &Coverage) -> Option<Part>
 
 /// Returns the base pixels of a cell and of the cells that touch it.
 pub(crate) fn parts_around(cell: Cell, alloc: Global) -> PartSet
-    ensures { (b : ℕ) → b < 12 → set.contains result b ≡ parts_around cell b }
+    ensures { (b : ℕ) → b < part_count → set.contains result b ≡ parts_around cell b }
 {
     let mut parts = PartSet::none();
     parts.insert(part_of_cell(cell));

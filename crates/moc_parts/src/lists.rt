@@ -2,6 +2,7 @@
 ghost use Rattle.std.specs.Prelude.{◌≡◌, ◌<◌, None, Some, OnOk, OnErr, get_or, replicate, set as set_at};
 ghost use Rattle.std.specs.Option.{option_copied};
 ghost use Rattle.moc_parts.specs.Private.Drafts.{index_of_part_from};
+ghost use Rattle.moc_parts.specs.Parts.{part_count};
 
 use crate::part::Part;
 use moc_ranges::{Coverage, Memory};
@@ -32,7 +33,7 @@ impl Model for Lists {
 impl Lists {
     /// Creates a collection without any list. Allocates nothing.
     pub(crate) fn new(alloc: Global) -> Lists
-        ensures { result ≡ replicate 12 None }
+        ensures { result ≡ replicate part_count None }
     {
         Lists {
             lists: Vec::new(alloc),
@@ -53,7 +54,7 @@ impl Lists {
     pub(crate) fn put(&mut self, part: Part, list: Coverage) -> Result<(), Memory>
         ensures put { OnOk result (self.new ≡ set_at self.old part (Some list)) }
         ensures unchanged { OnErr result (self.new ≡ self.old) }
-        ensures in_range { part < 12 }
+        ensures in_range { part < part_count }
     {
         match index_of_part(&self.lists, part) {
             Some(i) => {
@@ -91,7 +92,7 @@ impl Lists {
 /// Returns the index of the first entry for a part.
 fn index_of_part(lists: &[(Part, Option<Coverage>)], part: Part) -> Option<usize>
     ensures place { result ≡ index_of_part_from 0 lists.now part }
-    ensures in_range { part < 12 }
+    ensures in_range { part < part_count }
 {
     let number = part.get();
     for (i, (other, _)) in lists.iter().enumerate() {

@@ -5,6 +5,7 @@ ghost use Rattle.moc_parts.specs.Batches.{replies_on, set_after_all};
 ghost use Rattle.moc_parts.specs.Commands.{reply_on, set_after, NeedsOnly};
 ghost use Rattle.moc_parts.specs.Private.Drafts.{current_lists};
 ghost use Rattle.moc_parts.specs.Prepared.{given_sets};
+ghost use Rattle.moc_parts.specs.Parts.{part_count};
 
 use crate::batch::Batch;
 use crate::command::Command;
@@ -155,7 +156,7 @@ impl Map {
 
 /// Returns the lists of all parts.
 fn lists(parts: &[Coverage]) -> [Option<&Coverage>; 12]
-    requires { length parts.now ≡ 12 }
+    requires { length parts.now ≡ part_count }
     ensures { given_sets result ≡ parts.now }
 {
     let mut lists = [None; 12];
@@ -167,8 +168,8 @@ fn lists(parts: &[Coverage]) -> [Option<&Coverage>; 12]
 
 /// Replaces the lists of those parts that have a new list.
 fn replace_lists(parts: &mut [Coverage], mut new_lists: Lists)
-    requires twelve { length parts.old ≡ 12 }
-    requires places { length new_lists ≡ 12 }
+    requires twelve { length parts.old ≡ part_count }
+    requires places { length new_lists ≡ part_count }
     ensures { parts.new ≡ current_lists parts.old new_lists }
 {
     for part in Part::ALL {

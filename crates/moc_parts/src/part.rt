@@ -3,7 +3,7 @@ ghost use Rattle.std.specs.Prelude.{◌≡◌, ◌↔◌, ℕ, ◌+◌, ◌<◌,
 ghost use Rattle.std.specs.List.{list_any};
 ghost use Rattle.std.specs.FinSet as set;
 ghost use Rattle.std.specs.Iterator.{item_count, YieldsFirst};
-ghost use Rattle.moc_parts.specs.Parts.{parts_from};
+ghost use Rattle.moc_parts.specs.Parts.{parts_from, part_count};
 
 use std::marker::Model;
 
@@ -18,7 +18,7 @@ impl Model for Part {
 
     ghost view = { λ part. part.number };
 
-    ghost invariant = { λ part. part.number < 12 };
+    ghost invariant = { λ part. part.number < part_count };
 
     ghost inverse = { λ n. record { number = n } };
 }
@@ -42,7 +42,7 @@ impl Part {
 
     /// Returns the part of a base pixel, or `None` if the number is above 11.
     pub fn new(number: u8) -> Option<Part>
-        ensures { SomeIff result (number < 12) number }
+        ensures { SomeIff result (number < part_count) number }
     {
         if number < 12 {
             Some(Part { number })
@@ -53,7 +53,7 @@ impl Part {
 
     /// Returns the part of a base pixel. Requires a number below 12.
     pub fn of(number: u8) -> Part
-        requires { number < 12 }
+        requires { number < part_count }
         ensures { result ≡ number }
     {
         Part { number }
@@ -62,7 +62,7 @@ impl Part {
     /// Returns the number of the base pixel.
     pub fn get(self) -> u8
         ensures value { result ≡ self }
-        ensures in_range { result < 12 }
+        ensures in_range { result < part_count }
     {
         self.number
     }
@@ -70,7 +70,7 @@ impl Part {
     /// Returns the number of the base pixel as an index into an array of twelve.
     pub fn index(self) -> usize
         ensures value { result ≡ self }
-        ensures in_range { result < 12 }
+        ensures in_range { result < part_count }
     {
         usize::from(self.number)
     }
@@ -88,6 +88,7 @@ impl Model for PartSet {
     ghost use Rattle.std.specs.Ordering.{nat_cmp};
     ghost use Rattle.std.specs.FinSet as set;
     ghost use Rattle.std.specs.Coded.{coded_ℕ};
+    ghost use Rattle.moc_parts.specs.Parts.{part_count};
     ghost use Rattle.moc_parts.specs.Private.PartSets.{parts_of_flags, flags_of, flags_of-parts_of_flags};
 
     ghost Value = { set.FinSet nat_cmp };
@@ -96,7 +97,7 @@ impl Model for PartSet {
 
     ghost view = { λ parts. parts_of_flags parts.flags };
 
-    ghost invariant = { λ parts. length parts.flags ≡ 12 };
+    ghost invariant = { λ parts. length parts.flags ≡ part_count };
 
     ghost inverse = { λ parts. record { flags = flags_of parts } };
 
@@ -113,7 +114,7 @@ impl PartSet {
 
     /// Returns the set of all twelve parts. O(1); allocates nothing.
     pub fn all() -> PartSet
-        ensures { (b : ℕ) → set.contains result b ≡ nat_lt b 12 }
+        ensures { (b : ℕ) → set.contains result b ≡ nat_lt b part_count }
     {
         PartSet { flags: [true; 12] }
     }

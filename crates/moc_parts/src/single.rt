@@ -18,10 +18,9 @@ impl Command {
     /// Fails with `Memory` if an allocation fails; the set is then unchanged.
     ///
     /// # Complexity
-    /// `Add` costs as much as `Coverage::insert_all`: one range is inserted into the list in place. `Remove` and
-    /// `Claim` first cost as much as `Coverage::count_common`; then `Remove` computes the new list in one pass if the
-    /// sets have a pixel in common, and `Claim` inserts the operand if they have none. Queries cost as much as
-    /// `query_on`.
+    /// `Add` costs as much as `Coverage::insert_all`, and `Remove` as much as `Coverage::remove_all`: one range is
+    /// inserted into the list in place, or removed from it. `Claim` first costs as much as `Coverage::count_common`,
+    /// and then inserts the operand if the sets have no pixel in common. Queries cost as much as `query_on`.
     pub fn execute_on(&self, alloc: Global, pixels: &mut Coverage) -> Result<Reply, Memory>
         requires { IsPlain self.now }
         ensures set { OnOk result (pixels.new ≡ set_after pixels.old self.now) }
@@ -33,7 +32,7 @@ impl Command {
     {
         match self {
             Command::Add(x) => Ok(Reply::Changed(pixels.insert_all(alloc, &x.set)?)),
-            Command::Remove(x) => Ok(Reply::Changed(remove(alloc, pixels, &x.set)?)),
+            Command::Remove(x) => Ok(Reply::Changed(pixels.remove_all(alloc, &x.set)?)),
             Command::Claim(x) => claim(alloc, pixels, &x.set),
             _ => self.query_on(alloc, pixels),
         }
@@ -58,19 +57,6 @@ impl Command {
             _ => unreachable!(),
         }
     }
-}
-
-/// Removes the pixels of another set, and returns the number of removed pixels.
-fn remove(alloc: Global, pixels: &mut Coverage, others: &Coverage) -> Result<u64, Memory>
-    ensures set { OnOk result (pixels.new ≡ set.difference pixels.old others.now) }
-    ensures removed { IfOk result (λ n. n ≡ set.len (set.intersection pixels.old others.now)) }
-    ensures unchanged { OnErr result (pixels.new ≡ pixels.old) }
-{
-    let removed = pixels.count_common(others);
-    if removed > 0 {
-        *pixels = pixels.difference(alloc, others)?;
-    }
-    Ok(removed)
 }
 
 /// Adds the pixels of another set if none of them is in the set.

@@ -1,7 +1,7 @@
 //! Splitting a set into its twelve parts, and merging the parts.
 ghost use Rattle.std.specs.Prelude.{◌≡◌, IfOk, OnOk};
 ghost use Rattle.moc_ranges.specs.Operations.{IsWithin, pixels};
-ghost use Rattle.moc_parts.specs.Parts.{parts_below, union_of};
+ghost use Rattle.moc_parts.specs.Parts.{parts_below, union_of, part_count};
 ghost use Rattle.moc_parts.specs.Prepared.{given_sets};
 
 use crate::part::Part;
@@ -13,7 +13,7 @@ use std::alloc::Global;
 /// # Errors
 /// Fails with `Memory` if an allocation fails.
 pub fn split_by_base_pixel(alloc: Global, set: &Coverage) -> Result<Vec<Coverage>, Memory>
-    ensures parts { IfOk result (λ parts. parts.items ≡ parts_below set.now 12) }
+    ensures parts { IfOk result (λ parts. parts.items ≡ parts_below set.now part_count) }
 
     // A caller that merges the parts again requires this fact.
     ensures within { OnOk result (IsWithin set.now pixels) }

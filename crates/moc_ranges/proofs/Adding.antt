@@ -11,25 +11,25 @@ use Rattle.moc_blocks.specs.RangeList.{IsNormal, set_of, NumberSet, numbers}
 use Rattle.moc_blocks.specs.Lemmas.Members.{in_range, in_ranges, contains-set_of, contains-numbers, same_members}
 use Rattle.moc_blocks.specs.Lemmas.Sizes.{len_parts}
 use Rattle.moc_blocks.specs.Private.Blocks.{width_of}
-use Rattle.moc_blocks.specs.Private.Added.{AddsRange}
+use Rattle.moc_blocks.specs.Private.Edits.{AddsRange}
 use Rattle.moc_ranges.proofs.Views.{range_view}
 use Rattle.moc_operations.proofs.Walking.{and_swap}
-use Rattle.moc_blocks.proofs.Adding.{grown_width}
+use Rattle.moc_blocks.proofs.Editing.{width_after_insertion}
 
 -- ---- sets
 
-pub grown_set : (from to added : ℕ) (old new : List (ℕ × ℕ)) → AddsRange from to old new added → set_of new ≡ set.union (set_of old) (numbers from to)
-grown_set from to added old new g = same_members _ _ (λ q.
+pub set_is_union : (from to added : ℕ) (old new : List (ℕ × ℕ)) → AddsRange from to old new added → set_of new ≡ set.union (set_of old) (numbers from to)
+set_is_union from to added old new g = same_members _ _ (λ q.
     contains-set_of new q ∙ g.same q ∙ (λ i. sym (contains-set_of old q) i || sym (contains-numbers from to q) i)
     ∙ sym (set.contains-union nat_cmp_total (set_of old) (numbers from to) q))
 
-pub grown_count : (from to added : ℕ) (old new : List (ℕ × ℕ)) → IsNormal old → IsNormal new → AddsRange from to old new added → added ≡ set.len (set.difference (numbers from to) (set_of old))
-grown_count from to added old new normal normal' g = omega (arith, grown_width from to old new normal normal' g.same, g.more)
+pub added_count_is_new : (from to added : ℕ) (old new : List (ℕ × ℕ)) → IsNormal old → IsNormal new → AddsRange from to old new added → added ≡ set.len (set.difference (numbers from to) (set_of old))
+added_count_is_new from to added old new normal normal' g = omega (arith, width_after_insertion from to old new normal normal' g.same, g.more)
 
-old_or : (o n : Bool) → (n ≡ true → o ≡ true) → (o || n) ≡ o
-old_or true n say = refl
-old_or false true say = sym (say refl)
-old_or false false say = refl
+or_with_implied : (o n : Bool) → (n ≡ true → o ≡ true) → (o || n) ≡ o
+or_with_implied true n say = refl
+or_with_implied false true say = sym (say refl)
+or_with_implied false false say = refl
 
 new_not : (o n : Bool) → (n ≡ true → o ≡ true) → (n && not o) ≡ false
 new_not true true say = refl
@@ -37,27 +37,27 @@ new_not true false say = refl
 new_not false true say = sym (say refl)
 new_not false false say = refl
 
-pub there_union : (a b : NumberSet) → ((q : ℕ) → set.contains b q ≡ true → set.contains a q ≡ true) → set.union a b ≡ a
-there_union a b all = same_members _ _ (λ q. set.contains-union nat_cmp_total a b q ∙ old_or (set.contains a q) (set.contains b q) (all q))
+pub union_with_contained : (a b : NumberSet) → ((q : ℕ) → set.contains b q ≡ true → set.contains a q ≡ true) → set.union a b ≡ a
+union_with_contained a b all = same_members _ _ (λ q. set.contains-union nat_cmp_total a b q ∙ or_with_implied (set.contains a q) (set.contains b q) (all q))
 
-pub there_count : (a b : NumberSet) → ((q : ℕ) → set.contains b q ≡ true → set.contains a q ≡ true) → set.len (set.difference b a) ≡ 0
-there_count a b all =
+pub contained_adds_nothing : (a b : NumberSet) → ((q : ℕ) → set.contains b q ≡ true → set.contains a q ≡ true) → set.len (set.difference b a) ≡ 0
+contained_adds_nothing a b all =
     let none : set.difference b a ≡ set.empty = same_members _ _ (λ q. set.contains-difference nat_cmp_total b a q ∙ new_not (set.contains a q) (set.contains b q) (all q) ∙ sym (set.contains-empty nat_cmp q)) in
     ap set.len none ∙ set.len-empty nat_cmp
 
-backwards : (from to q : ℕ) → to ≤ from → (nat_le from q && nat_lt q to) ≡ false
-backwards from to q le = grind (arith, nat_tests)
+reversed_range_is_empty : (from to q : ℕ) → to ≤ from → (nat_le from q && nat_lt q to) ≡ false
+reversed_range_is_empty from to q le = grind (arith, nat_tests)
 
 pub no_numbers : (from to : ℕ) (a : NumberSet) → to ≤ from → (q : ℕ) → set.contains (numbers from to) q ≡ true → set.contains a q ≡ true
-no_numbers from to a le q has = absurd (false≢true (sym (contains-numbers from to q ∙ backwards from to q le) ∙ has))
+no_numbers from to a le q has = absurd (false≢true (sym (contains-numbers from to q ∙ reversed_range_is_empty from to q le) ∙ has))
 
 pub new_count : (a b : NumberSet) (n m k : ℕ) → n ≡ set.len b → m ≡ set.len (set.intersection a b) → k ≡ n - m → k ≡ set.len (set.difference b a)
 new_count a b n m k is_n is_m is_k =
     let swapped : set.intersection a b ≡ set.intersection b a = same_members _ _ (λ q. set.contains-intersection nat_cmp_total a b q ∙ and_swap (set.contains a q) (set.contains b q) ∙ sym (set.contains-intersection nat_cmp_total b a q)) in
     omega (arith, len_parts b a, ap set.len swapped, is_n, is_m, is_k)
 
-pub common_fewer : (a b : NumberSet) → set.len (set.intersection a b) ≤ set.len b
-common_fewer a b =
+pub common_count_at_most_second : (a b : NumberSet) → set.len (set.intersection a b) ≤ set.len b
+common_count_at_most_second a b =
     let swapped : set.intersection a b ≡ set.intersection b a = same_members _ _ (λ q. set.contains-intersection nat_cmp_total a b q ∙ and_swap (set.contains a q) (set.contains b q) ∙ sym (set.contains-intersection nat_cmp_total b a q)) in
     omega (arith, len_parts b a, ap set.len swapped)
 
@@ -75,7 +75,7 @@ union_width from to old new a is normal normal' union =
     let same : (q : ℕ) → in_ranges new q ≡ (in_ranges old q || in_range (from, to) q) = λ q.
     sym (contains-set_of new q) ∙ ap (λ s. set.contains s q) union ∙ set.contains-union nat_cmp_total a (numbers from to) q
     ∙ (λ i. set.contains (sym is i) q || contains-numbers from to q i) ∙ ap (λ b. b || in_range (from, to) q) (contains-set_of old q) in
-    subst (λ (s : NumberSet). width_of new ≡ width_of old + set.len (set.difference (numbers from to) s)) is (grown_width from to old new normal normal' same)
+    subst (λ (s : NumberSet). width_of new ≡ width_of old + set.len (set.difference (numbers from to) s)) is (width_after_insertion from to old new normal normal' same)
 
 pub match_some : {X : Type 0} (P : X → Type 0) (Q : Type 0) (o : Option X) (x : X) → o ≡ Some x → MatchOption o Q P → P x
 match_some {X} P Q o x is holds = subst (λ (p : Option X). MatchOption p Q P) is holds

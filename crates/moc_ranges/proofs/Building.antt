@@ -8,7 +8,7 @@ use Rattle.moc_ranges.specs.Private.Sorted.{IsSortedFrom}
 use Rattle.moc_blocks.specs.Lemmas.Members.{in_range, in_ranges, in_ranges-append, or_false, or_assoc}
 use Rattle.moc_blocks.specs.Private.Blocks.{last_of}
 use Rattle.moc_blocks.proofs.Blocking.{IsNormal-suffix}
-use Rattle.moc_blocks.proofs.Building.{longer_normal, last_of-last, longer_range, last_filled}
+use Rattle.moc_blocks.proofs.Building.{longer_normal, last_of-last, longer_range, last_range_nonempty}
 use Rattle.moc_ranges.proofs.Sorting.{IsSortedFrom-less}
 
 -- the last range of a list, extended in its place
@@ -30,7 +30,7 @@ pub lengthened_same : (rs : List (ℕ × ℕ)) (i : ℕ) (last : ℕ × ℕ) (fr
 lengthened_same rs i last from to end normal at is longer begins reached filled q =
     let split = last_split rs i last at is in
     let b : from ≤ last.1 = omega (arith, ap last_of split ∙ last_of-last (take i rs) last) in
-    let ab : last.0 < last.1 = last_filled (take i rs) last (subst IsNormal split normal) in
+    let ab : last.0 < last.1 = last_range_nonempty (take i rs) last (subst IsNormal split normal) in
     ap (λ (l : List (ℕ × ℕ)). in_ranges l q) (last_set rs i (last.0, end) at)
     ∙ in_ranges-append (take i rs) ((last.0, end) ∷ []) q
     ∙ ap (λ e. in_ranges (take i rs) q || in_ranges ((last.0, e) ∷ []) q) longer

@@ -181,9 +181,9 @@ split_count r rs k normal small =
     ap (λ (l : List CellNumber). length l) (cells_split r rs k normal small) ∙ length-append (cells_at (set_of (r ∷ [])) k) (cells_at (set_of rs) k)
 
 -- a set has at most all cells of an order
-few_cells : (a : NumberSet) (k : ℕ) → k ≤ 29 → cell_count_at a k ≤ pixel_count
+cell_count_bounded : (a : NumberSet) (k : ℕ) → k ≤ 29 → cell_count_at a k ≤ pixel_count
 unfolding cell_count_at cells_at
-few_cells a k small =
+cell_count_bounded a k small =
     let all = map (cell_number k) (range_with_len 0 (cell_count k)) in
     omega (
       arith,
@@ -198,7 +198,7 @@ few_cells a k small =
 pub count_fits : (a : NumberSet) (r : ℕ × ℕ) (rs : List (ℕ × ℕ)) (counts : List ℕ) → IsCounting a (r ∷ rs) counts
     → (k : ℕ) → k ≤ 29 → slice_index counts k + range_cell_count r.0 r.1 k ≤ pixel_count
 count_fits a r rs counts so_far k small =
-    omega (arith, so_far.each k small, split_count r rs k so_far.normal small, few_cells a k small)
+    omega (arith, so_far.each k small, split_count r rs k so_far.normal small, cell_count_bounded a k small)
 
 -- the cells of one more range are counted
 pub range_counted : (a : NumberSet) (r : ℕ × ℕ) (rs : List (ℕ × ℕ)) (counts more : List ℕ) → IsCounting a (r ∷ rs) counts

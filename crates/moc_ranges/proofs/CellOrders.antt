@@ -18,7 +18,7 @@ use Rattle.moc_blocks.specs.RangeList.{set_of, IsNormal, NumberSet}
 use Rattle.moc_ranges.specs.Cells.{is_cell_of, cells_below, cells_of}
 use Rattle.moc_ranges.specs.Lemmas.Cells.{four_parts}
 use Rattle.moc_ranges.specs.Private.CellRuns.{HasOrders, cells_at}
-use Rattle.moc_ranges.proofs.CellRuns.{fits, fits_any, fits_from, fits_parts, is_part, part_at, is_cell_any, two_pow}
+use Rattle.moc_ranges.proofs.CellRuns.{is_inside, fits_any, fits_from, fits_parts, is_part, part_at, is_cell_any, two_pow}
 use Rattle.moc_ranges.proofs.CellRuns.{filter-map, filter_none}
 
 -- both bounds of each range are multiples of n
@@ -60,7 +60,7 @@ scan_step ends widest r rest whole s = record {
 
 narrow_fits : (w n i : ℕ) (rs : List (ℕ × ℕ)) → AllNarrow n rs → fits_any w rs i ≡ true → w ≤ n
 narrow_fits w n i [] narrow is = absurd (false≢true is)
-narrow_fits w n i (r ∷ rs) narrow is = elim (or_cases (fits w r i) (fits_any w rs i) is) [
+narrow_fits w n i (r ∷ rs) narrow is = elim (or_cases (is_inside w r i) (fits_any w rs i) is) [
   | inl here ↦
       let parts = fits_parts w r i here in
       let next : (i + 1) * w ≡ i * w + w = omega arith in
@@ -71,7 +71,7 @@ narrow_fits w n i (r ∷ rs) narrow is = elim (or_cases (fits w r i) (fits_any w
 any_fits : (k i : ℕ) (rs : List (ℕ × ℕ)) → list_any (part_at k i) rs ≡ true → fits_any (cell_size k) rs i ≡ true
 any_fits k i [] is = is
 any_fits k i (r ∷ rs) is = elim (or_cases (part_at k i r) (list_any (part_at k i) rs) is) [
-  | inl here ↦ or_left _ _ (and_parts (fits (cell_size k) r i) (nat_eq k 0 || not (fits (cell_size (k - 1)) r (i / 4))) here).0
+  | inl here ↦ or_left _ _ (and_parts (is_inside (cell_size k) r i) (nat_eq k 0 || not (is_inside (cell_size (k - 1)) r (i / 4))) here).0
   | inr later ↦ or_right _ _ (any_fits k i rs later)
 ]
 
@@ -96,7 +96,7 @@ pub multiple_of : (a n : ℕ) → a % n ≡ 0 → a ≡ a / n * n
 multiple_of a n none = omega (arith, div-add-mod' a n)
 
 -- if both bounds are multiples of the parent's size, the parent of a cell inside a range is inside it too
-parent_in : (w i : ℕ) (r : ℕ × ℕ) → 0 < w → r.0 % (w * 4) ≡ 0 → r.1 % (w * 4) ≡ 0 → fits w r i ≡ true → fits (w * 4) r (i / 4) ≡ true
+parent_in : (w i : ℕ) (r : ℕ × ℕ) → 0 < w → r.0 % (w * 4) ≡ 0 → r.1 % (w * 4) ≡ 0 → is_inside w r i ≡ true → is_inside (w * 4) r (i / 4) ≡ true
 parent_in w i r pos low high is =
     let parts = fits_parts w r i is in
     let a = r.0 / (w * 4) in
@@ -117,7 +117,7 @@ no_part false y up = refl
 
 no_parts : (w i : ℕ) (rs : List (ℕ × ℕ)) → 0 < w → AllMultiples (w * 4) rs → list_any (is_part w (w * 4) false i (i / 4)) rs ≡ false
 no_parts w i [] pos all = refl
-no_parts w i (r ∷ rs) pos all = or_from _ _ (no_part (fits w r i) (fits (w * 4) r (i / 4)) (parent_in w i r pos all.0 all.1)) (no_parts w i rs pos all.2)
+no_parts w i (r ∷ rs) pos all = or_from _ _ (no_part (is_inside w r i) (is_inside (w * 4) r (i / 4)) (parent_in w i r pos all.0 all.1)) (no_parts w i rs pos all.2)
 
 no_deeper : (k i : ℕ) (rs : List (ℕ × ℕ)) → k < 29 → AllMultiples (cell_size k) rs → list_any (part_at (suc k) i) rs ≡ false
 no_deeper k i rs small all =
@@ -165,8 +165,8 @@ scan_end ends widest l rs s normal fits_in high = record {
 }
 
 -- a set without a range that is wide enough has no cell
-pub scan_nothing : (ends : ℕ) (rs : List (ℕ × ℕ)) → Scanning ends 0 [] rs → IsNormal rs → HasOrders (set_of rs) 0 0
-scan_nothing ends rs s normal = record {
+pub orders_of_empty_scan : (ends : ℕ) (rs : List (ℕ × ℕ)) → Scanning ends 0 [] rs → IsNormal rs → HasOrders (set_of rs) 0 0
+orders_of_empty_scan ends rs s normal = record {
   each = λ k i small lt is.
       let any : list_any (part_at k i) rs ≡ true = sym (is_cell_any rs k i normal small lt) ∙ is in
       let wide = narrow_fits (cell_size k) 0 i rs (s.narrow 0 (omega arith) tt) (any_fits k i rs any) in
@@ -191,9 +191,9 @@ none_at a first last k has small out =
     ∙ ap (map (cell_number k)) (filter_none (λ i. is_cell_of a (cell_number k i)) 0 (cell_count k) (λ i low high.
     false_from_ne_true (is_cell_of a (cell_number k i)) (λ is. let at = has.each k i small (omega arith) is in elim out [ inl before ↦ omega arith | inr past ↦ omega arith ])))
 
-none_yet : (a : NumberSet) → filter (is_cell_of a) (cells_below 0) ≡ []
+no_cells_below_zero : (a : NumberSet) → filter (is_cell_of a) (cells_below 0) ≡ []
 unfolding cells_below
-none_yet a = refl
+no_cells_below_zero a = refl
 
 all_orders : (a : NumberSet) → filter (is_cell_of a) (cells_below 30) ≡ cells_of a
 unfolding cells_of
@@ -201,7 +201,7 @@ all_orders a = refl
 
 -- the orders before the first have no cells
 pub cells_before : (a : NumberSet) (first last k : ℕ) → HasOrders a first last → k ≤ first → k ≤ 30 → filter (is_cell_of a) (cells_below k) ≡ []
-cells_before a first last zero has le small = none_yet a
+cells_before a first last zero has le small = no_cells_below_zero a
 cells_before a first last (suc k) has le small =
     cells_step a k ∙ (λ s. cells_before a first last k has (omega arith) (omega arith) s ++ none_at a first last k has (omega arith) (inl (omega arith)) s)
 

@@ -28,23 +28,23 @@ cells_in-append k (x ∷ xs) ys =
     let here = map (cell_number k) (range_with_len x.0 (x.1 - x.0)) in
     ap (λ l. here ++ l) (cells_in-append k xs ys) ∙ sym (append_assoc here (cells_in k xs) (cells_in k ys))
 
-nothing_between : (k first last : ℕ) → last ≤ first → cells_of_range k (first, last) ≡ []
-nothing_between k first last le =
+no_cells_between : (k first last : ℕ) → last ≤ first → cells_of_range k (first, last) ≡ []
+no_cells_between k first last le =
     let none : last - first ≡ 0 = omega arith in
     ap (λ n. map (cell_number k) (range_with_len first n)) none
 
-filled_cells : (k first last : ℕ) → cells_in k (nonempty_range (first, last)) ≡ cells_of_range k (first, last)
-filled_cells k first last = elim (cases_lt first last) [
+cells_of_nonempty : (k first last : ℕ) → cells_in k (nonempty_range (first, last)) ≡ cells_of_range k (first, last)
+cells_of_nonempty k first last = elim (cases_lt first last) [
   | inl lt ↦ ap (λ b. cells_in k (list_if b (first, last))) (lt-ltb first last lt) ∙ append-nil (cells_of_range k (first, last))
-  | inr le ↦ ap (λ b. cells_in k (list_if b (first, last))) (le-ltb first last le) ∙ sym (nothing_between k first last le)
+  | inr le ↦ ap (λ b. cells_in k (list_if b (first, last))) (le-ltb first last le) ∙ sym (no_cells_between k first last le)
 ]
 
 -- the cells of both pieces
-abbrev both : ℕ → (ℕ × ℕ) × (ℕ × ℕ) → List CellNumber
-both k p = cells_in k (nonempty_range p.0 ++ nonempty_range p.1)
+abbrev cells_of_both : ℕ → (ℕ × ℕ) × (ℕ × ℕ) → List CellNumber
+cells_of_both k p = cells_in k (nonempty_range p.0 ++ nonempty_range p.1)
 
-both_cells : (k : ℕ) (p : (ℕ × ℕ) × (ℕ × ℕ)) → both k p ≡ cells_of_range k p.0 ++ cells_of_range k p.1
-both_cells k p = cells_in-append k (nonempty_range p.0) (nonempty_range p.1) ∙ (λ i. filled_cells k p.0.0 p.0.1 i ++ filled_cells k p.1.0 p.1.1 i)
+both_cells : (k : ℕ) (p : (ℕ × ℕ) × (ℕ × ℕ)) → cells_of_both k p ≡ cells_of_range k p.0 ++ cells_of_range k p.1
+both_cells k p = cells_in-append k (nonempty_range p.0) (nonempty_range p.1) ∙ (λ i. cells_of_nonempty k p.0.0 p.0.1 i ++ cells_of_nonempty k p.1.0 p.1.1 i)
 
 -- the parents that are inside the range
 pub parents_are : (k from to first last : ℕ) → 0 < k → k ≤ 29 → AreInnerCells k from to first last → AreInnerCells (k - 1) from to ((first + 3) / 4) (last / 4)
@@ -82,9 +82,9 @@ parents_are (suc k) from to first last some small whole =
     below = omega (arith, whole.in_range, four_children (suc k) (omega arith))
 
 -- the pieces of a run of cells inside a range have the range's cells of the order
-around_cells : (k from to first last : ℕ) → k ≤ 29 → from < to → to ≤ pixel_count → AreInnerCells k from to first last → both k (around_parents k (first, last)) ≡ cells_at (set_of ((from, to) ∷ [])) k
+around_cells : (k from to first last : ℕ) → k ≤ 29 → from < to → to ≤ pixel_count → AreInnerCells k from to first last → cells_of_both k (around_parents k (first, last)) ≡ cells_at (set_of ((from, to) ∷ [])) k
 around_cells zero from to first last small some fits whole =
-    both_cells 0 ((first, last), (last, last)) ∙ ap (λ l. cells_of_range 0 (first, last) ++ l) (nothing_between 0 last last (omega arith)) ∙ append-nil (cells_of_range 0 (first, last))
+    both_cells 0 ((first, last), (last, last)) ∙ ap (λ l. cells_of_range 0 (first, last) ++ l) (no_cells_between 0 last last (omega arith)) ∙ append-nil (cells_of_range 0 (first, last))
     ∙ sym (run_top 0 from to first last refl some fits whole)
 around_cells (suc k) from to first last small some fits whole =
     let low = (first + 3) / 4 in
@@ -96,13 +96,13 @@ around_cells (suc k) from to first last small some fits whole =
           let is : (nat_lt 0 (suc k) && nat_lt (low * 4) (high * 4)) ≡ true = and_from _ _ top (lt-ltb (low * 4) (high * 4) lt) in
           let a : 4 * low ≡ low * 4 = omega arith in
           let b : 4 * high ≡ high * 4 = omega arith in
-          ap (λ b. both (suc k) (cond b ((first, low * 4), (high * 4, last)) ((first, last), (last, last)))) is
+          ap (λ b. cells_of_both (suc k) (cond b ((first, low * 4), (high * 4, last)) ((first, last), (last, last)))) is
           ∙ both_cells (suc k) ((first, low * 4), (high * 4, last))
           ∙ sym (run_two (suc k) from to first last low high (omega arith) small some fits whole parents (omega arith) ∙ (λ i. cells_of_range (suc k) (first, a i) ++ cells_of_range (suc k) (b i, last)))
       | inr le ↦
           let is : (nat_lt 0 (suc k) && nat_lt (low * 4) (high * 4)) ≡ false = ap (λ b. b && nat_lt (low * 4) (high * 4)) top ∙ le-ltb (low * 4) (high * 4) le in
-          ap (λ b. both (suc k) (cond b ((first, low * 4), (high * 4, last)) ((first, last), (last, last)))) is
-          ∙ both_cells (suc k) ((first, last), (last, last)) ∙ ap (λ l. cells_of_range (suc k) (first, last) ++ l) (nothing_between (suc k) last last (omega arith))
+          ap (λ b. cells_of_both (suc k) (cond b ((first, low * 4), (high * 4, last)) ((first, last), (last, last)))) is
+          ∙ both_cells (suc k) ((first, last), (last, last)) ∙ ap (λ l. cells_of_range (suc k) (first, last) ++ l) (no_cells_between (suc k) last last (omega arith))
           ∙ append-nil (cells_of_range (suc k) (first, last))
           ∙ sym (run_one (suc k) from to first last low high (omega arith) small some fits whole parents (omega arith))
     ]
@@ -148,23 +148,23 @@ begins_sooner : (x y : ℕ) (l : List (ℕ × ℕ)) → x ≤ y → BeginsAfter 
 begins_sooner x y [] le after = tt
 begins_sooner x y (r ∷ rs) le after = omega (arith, after)
 
-begins_filled : (x : ℕ) (a : ℕ × ℕ) (l : List (ℕ × ℕ)) → (a.0 < a.1 → x < a.0) → BeginsAfter x l → BeginsAfter x (nonempty_range a ++ l)
-begins_filled x a l here later =
+begins_after_nonempty : (x : ℕ) (a : ℕ × ℕ) (l : List (ℕ × ℕ)) → (a.0 < a.1 → x < a.0) → BeginsAfter x l → BeginsAfter x (nonempty_range a ++ l)
+begins_after_nonempty x a l here later =
     elim (nat_lt a.0 a.1) as (λ b. nat_lt a.0 a.1 ≡ b → BeginsAfter x (list_if b a ++ l)) [
       | true ↦ λ e. here (ltb-true a.0 a.1 e)
       | false ↦ λ e. later
     ] refl
 
-normal_filled : (a : ℕ × ℕ) (l : List (ℕ × ℕ)) → a.1 ≤ pixel_count → (a.0 < a.1 → BeginsAfter a.1 l) → IsNormal l → IsNormal (nonempty_range a ++ l)
-normal_filled a l fits after normal =
+normal_after_nonempty : (a : ℕ × ℕ) (l : List (ℕ × ℕ)) → a.1 ≤ pixel_count → (a.0 < a.1 → BeginsAfter a.1 l) → IsNormal l → IsNormal (nonempty_range a ++ l)
+normal_after_nonempty a l fits after normal =
     elim (nat_lt a.0 a.1) as (λ b. nat_lt a.0 a.1 ≡ b → IsNormal (list_if b a ++ l)) [
       | true ↦ λ e. let lt = ltb-true a.0 a.1 e in (lt, fits, after lt, normal)
       | false ↦ λ e. normal
     ] refl
 
 -- the first cell inside a range begins after everything that ends before the range
-first_behind : (k y from : ℕ) → y < from → y / cell_size k < (from + (cell_size k - 1)) / cell_size k
-first_behind k y from lt =
+first_cell_after : (k y from : ℕ) → y < from → y / cell_size k < (from + (cell_size k - 1)) / cell_size k
+first_cell_after k y from lt =
     let w = cell_size k in
     let pos = cell_size-positive k in
     let n = from + (w - 1) in
@@ -179,10 +179,10 @@ pieces_begin k y (r ∷ rs) normal after =
     let x = y / cell_size k in
     let p = pieces_of k r in
     let is = parts k (inner_cells_of k r).0 (inner_cells_of k r).1 in
-    let first = first_behind k y r.0 after in
+    let first = first_cell_after k y r.0 after in
     let rest = pieces_begin k y rs normal.3 (begins_sooner y r.1 rs (omega (arith, after, normal.0)) normal.2) in
-    begins_filled x p.0 (nonempty_range p.1 ++ pieces_along k rs) (λ some. omega (arith, first, is.starts))
-    (begins_filled x p.1 (pieces_along k rs) (λ some. omega (arith, first, (is.gap some).1)) rest)
+    begins_after_nonempty x p.0 (nonempty_range p.1 ++ pieces_along k rs) (λ some. omega (arith, first, is.starts))
+    (begins_after_nonempty x p.1 (pieces_along k rs) (λ some. omega (arith, first, (is.gap some).1)) rest)
 
 pub pieces_normal : (k : ℕ) (rs : List (ℕ × ℕ)) → IsNormal rs → k ≤ 29 → IsNormal (pieces_along k rs)
 pieces_normal k [] normal small = tt
@@ -193,8 +193,8 @@ pieces_normal k (r ∷ rs) normal small =
     let fits : last ≤ pixel_count = omega (arith, (inner_cells_of-is k r.0 r.1 small normal.1).in_range, count_bound k small) in
     let rest = pieces_begin k r.1 rs normal.3 normal.2 in
     let after : BeginsAfter p.0.1 (pieces_along k rs) = begins_sooner p.0.1 last (pieces_along k rs) is.within rest in
-    normal_filled p.0 (nonempty_range p.1 ++ pieces_along k rs) (omega (arith, fits, is.within)) (λ some. begins_filled p.0.1 p.1 (pieces_along k rs) (λ more. (is.gap more).0) after)
-    (normal_filled p.1 (pieces_along k rs) (omega (arith, fits, is.ends)) (λ some. begins_sooner p.1.1 last (pieces_along k rs) (omega (arith, is.ends)) rest) (pieces_normal k rs normal.3 small))
+    normal_after_nonempty p.0 (nonempty_range p.1 ++ pieces_along k rs) (omega (arith, fits, is.within)) (λ some. begins_after_nonempty p.0.1 p.1 (pieces_along k rs) (λ more. (is.gap more).0) after)
+    (normal_after_nonempty p.1 (pieces_along k rs) (omega (arith, fits, is.ends)) (λ some. begins_sooner p.1.1 last (pieces_along k rs) (omega (arith, is.ends)) rest) (pieces_normal k rs normal.3 small))
 
 -- ---- the cells of one order among all
 
@@ -244,18 +244,18 @@ cells_of_order a k small = sym (all_below a k 30 (omega arith))
 
 -- ---- the orders of all cells
 
-each_kept : (P : CellNumber → Type 0) (p : CellNumber → Bool) (cells : List CellNumber) → AllByRecursion IsCell (filter p cells) → ((c : CellNumber) → IsCell c → p c ≡ true → P c) → AllByRecursion P (filter p cells)
-each_kept P p [] are has = tt
-each_kept P p (c ∷ cells) are has =
+all_of_filtered : (P : CellNumber → Type 0) (p : CellNumber → Bool) (cells : List CellNumber) → AllByRecursion IsCell (filter p cells) → ((c : CellNumber) → IsCell c → p c ≡ true → P c) → AllByRecursion P (filter p cells)
+all_of_filtered P p [] are has = tt
+all_of_filtered P p (c ∷ cells) are has =
     elim (p c) as (λ b. p c ≡ b → AllByRecursion IsCell (cond b (c ∷ filter p cells) (filter p cells)) → AllByRecursion P (cond b (c ∷ filter p cells) (filter p cells))) [
-      | true ↦ λ e all. (has c all.0 e, each_kept P p cells all.1 has)
-      | false ↦ λ e all. each_kept P p cells all has
+      | true ↦ λ e all. (has c all.0 e, all_of_filtered P p cells all.1 has)
+      | false ↦ λ e all. all_of_filtered P p cells all has
     ] refl are
 
 pub orders_of_cells : (a : NumberSet) (first last : ℕ) → HasOrders a first last → HaveOrders first last (cells_of a)
 unfolding cells_of
 orders_of_cells a first last has =
-    each_kept (λ c. (first ≤ c.order) × (c.order < last)) (is_cell_of a) (cells_below 30) (cells_are a) (λ c is of_it. has.each c.order c.index is.order_in_range is.index_in_range of_it)
+    all_of_filtered (λ c. (first ≤ c.order) × (c.order < last)) (is_cell_of a) (cells_below 30) (cells_are a) (λ c is of_it. has.each c.order c.index is.order_in_range is.index_in_range of_it)
 
 -- ---- the buffer of runs
 
@@ -296,9 +296,9 @@ order_cells a k = kept (cells_of a) (cells_are a)
 
 -- ---- the number of runs
 
-kept_one : (b : Bool) (range : ℕ × ℕ) → length (list_if b range) ≤ 1
-kept_one true range = omega arith
-kept_one false range = omega arith
+at_most_one_range : (b : Bool) (range : ℕ × ℕ) → length (list_if b range) ≤ 1
+at_most_one_range true range = omega arith
+at_most_one_range false range = omega arith
 
 pub pieces_count : (k : ℕ) (rs : List (ℕ × ℕ)) → length (pieces_along k rs) ≤ 2 * length rs
 pieces_count k [] = omega arith
@@ -308,8 +308,8 @@ pieces_count k (r ∷ rs) =
       arith,
       length-append (nonempty_range p.0) (nonempty_range p.1 ++ pieces_along k rs),
       length-append (nonempty_range p.1) (pieces_along k rs),
-      kept_one (nat_lt p.0.0 p.0.1) p.0,
-      kept_one (nat_lt p.1.0 p.1.1) p.1,
+      at_most_one_range (nat_lt p.0.0 p.0.1) p.0,
+      at_most_one_range (nat_lt p.1.0 p.1.1) p.1,
       pieces_count k rs,
     )
 

@@ -32,15 +32,15 @@ filter-map p f (x ∷ xs) = elim (p (f x)) as (λ b. cond b (f x ∷ filter p (m
   | false ↦ filter-map p f xs
 ]
 
-skip : (p : ℕ → Bool) (from n : ℕ) → p from ≡ false → filter p (range_with_len from (suc n)) ≡ filter p (range_with_len (from + 1) n)
-skip p from n lacks = ap (λ b. cond b (from ∷ filter p (range_with_len (from + 1) n)) (filter p (range_with_len (from + 1) n))) lacks
+filter_skips_first : (p : ℕ → Bool) (from n : ℕ) → p from ≡ false → filter p (range_with_len from (suc n)) ≡ filter p (range_with_len (from + 1) n)
+filter_skips_first p from n lacks = ap (λ b. cond b (from ∷ filter p (range_with_len (from + 1) n)) (filter p (range_with_len (from + 1) n))) lacks
 
-take_it : (p : ℕ → Bool) (from n : ℕ) → p from ≡ true → filter p (range_with_len from (suc n)) ≡ from ∷ filter p (range_with_len (from + 1) n)
-take_it p from n has = ap (λ b. cond b (from ∷ filter p (range_with_len (from + 1) n)) (filter p (range_with_len (from + 1) n))) has
+filter_takes_first : (p : ℕ → Bool) (from n : ℕ) → p from ≡ true → filter p (range_with_len from (suc n)) ≡ from ∷ filter p (range_with_len (from + 1) n)
+filter_takes_first p from n has = ap (λ b. cond b (from ∷ filter p (range_with_len (from + 1) n)) (filter p (range_with_len (from + 1) n))) has
 
 pub filter_none : (p : ℕ → Bool) (from n : ℕ) → ((i : ℕ) → from ≤ i → i < from + n → p i ≡ false) → filter p (range_with_len from n) ≡ []
 filter_none p from zero none = refl
-filter_none p from (suc n) none = skip p from n (none from (omega arith) (omega arith)) ∙ filter_none p (from + 1) n (λ i low high. none i (omega arith) (omega arith))
+filter_none p from (suc n) none = filter_skips_first p from n (none from (omega arith) (omega arith)) ∙ filter_none p (from + 1) n (λ i low high. none i (omega arith) (omega arith))
 
 filter_same : (p q : ℕ → Bool) (from n : ℕ) → ((i : ℕ) → from ≤ i → i < from + n → p i ≡ q i) → filter p (range_with_len from n) ≡ filter q (range_with_len from n)
 filter_same p q from zero same = refl
@@ -51,13 +51,13 @@ pub filter_run : (p : ℕ → Bool) (low high from n : ℕ) → from ≤ low →
 filter_run p low high from zero begins ends is = let none : high - low ≡ 0 = omega arith in ap (range_with_len low) (sym none)
 filter_run p low high from (suc n) begins ends is = elim (cases_lt from low) [
   | inl before ↦
-      skip p from n (is from (omega arith) (omega arith) ∙ too_low low high from before)
+      filter_skips_first p from n (is from (omega arith) (omega arith) ∙ too_low low high from before)
       ∙ filter_run p low high (from + 1) n (omega arith) (omega arith) (λ i above lt. is i (omega arith) (omega arith))
   | inr here ↦ elim (cases_lt from high) [
     | inl inside ↦
         let same : from ≡ low = omega arith in
         let one : suc (high - (from + 1)) ≡ high - low = omega arith in
-        take_it p from n (is from (omega arith) (omega arith) ∙ within low high from here inside)
+        filter_takes_first p from n (is from (omega arith) (omega arith) ∙ within low high from here inside)
         ∙ ap (λ l. from ∷ l) (filter_run p (from + 1) high (from + 1) n (omega arith) (omega arith) (λ i above lt. is i (omega arith) (omega arith) ∙ later low high from i here above))
         ∙ (λ k. range_with_len (same k) (one k))
     | inr past ↦
@@ -87,8 +87,8 @@ filter_parts s p q middle from (suc n) is low high = elim (cases_lt from middle)
       let rest = filter_parts s p q middle (from + 1) n (λ i above lt. is i (omega arith) (omega arith)) (λ i past lt. low i past (omega arith)) (λ i under lt. high i under (omega arith)) in
       let none : q from ≡ false = high from before (omega arith) in
       elim (cases_Bool (p from)) [
-        | inl here ↦ take_it s from n (is from (omega arith) (omega arith) ∙ or_left _ _ here) ∙ ap (λ l. from ∷ l) rest ∙ (λ k. sym (take_it p from n here) k ++ sym (skip q from n none) k)
-        | inr lacks ↦ skip s from n (is from (omega arith) (omega arith) ∙ or_from _ _ lacks none) ∙ rest ∙ (λ k. sym (skip p from n lacks) k ++ sym (skip q from n none) k)
+        | inl here ↦ filter_takes_first s from n (is from (omega arith) (omega arith) ∙ or_left _ _ here) ∙ ap (λ l. from ∷ l) rest ∙ (λ k. sym (filter_takes_first p from n here) k ++ sym (filter_skips_first q from n none) k)
+        | inr lacks ↦ filter_skips_first s from n (is from (omega arith) (omega arith) ∙ or_from _ _ lacks none) ∙ rest ∙ (λ k. sym (filter_skips_first p from n lacks) k ++ sym (filter_skips_first q from n none) k)
       ]
   | inr past ↦
       filter_same s q from (suc n) (λ i above lt. is i above lt ∙ ap (λ b. b || q i) (low i (omega arith) lt))
@@ -98,17 +98,17 @@ filter_parts s p q middle from (suc n) is low high = elim (cases_lt from middle)
 -- ---- cells inside ranges
 
 -- the cell i of size w is inside a range
-abbrev pub fits : ℕ → ℕ × ℕ → ℕ → Bool
-fits w r i = nat_le r.0 (i * w) && nat_le ((i + 1) * w) r.1
+abbrev pub is_inside : ℕ → ℕ × ℕ → ℕ → Bool
+is_inside w r i = nat_le r.0 (i * w) && nat_le ((i + 1) * w) r.1
 
 -- the cell i of size w is inside a range of the list
 abbrev pub fits_any : ℕ → List (ℕ × ℕ) → ℕ → Bool
-fits_any w rs i = list_any (λ r. fits w r i) rs
+fits_any w rs i = list_any (λ r. is_inside w r i) rs
 
-pub fits_from : (w : ℕ) (r : ℕ × ℕ) (i : ℕ) → r.0 ≤ i * w → (i + 1) * w ≤ r.1 → fits w r i ≡ true
+pub fits_from : (w : ℕ) (r : ℕ × ℕ) (i : ℕ) → r.0 ≤ i * w → (i + 1) * w ≤ r.1 → is_inside w r i ≡ true
 fits_from w r i low high = and_from _ _ (le-leb r.0 (i * w) low) (le-leb ((i + 1) * w) r.1 high)
 
-pub fits_parts : (w : ℕ) (r : ℕ × ℕ) (i : ℕ) → fits w r i ≡ true → (r.0 ≤ i * w) × ((i + 1) * w ≤ r.1)
+pub fits_parts : (w : ℕ) (r : ℕ × ℕ) (i : ℕ) → is_inside w r i ≡ true → (r.0 ≤ i * w) × ((i + 1) * w ≤ r.1)
 fits_parts w r i is = let parts = and_parts (nat_le r.0 (i * w)) (nat_le ((i + 1) * w) r.1) is in (leb-true r.0 (i * w) parts.0, leb-true ((i + 1) * w) r.1 parts.1)
 
 next_cell : (i w : ℕ) → (i + 1) * w ≡ i * w + w
@@ -123,7 +123,7 @@ fits_one w i (r ∷ rs) lies = elim lies [
 
 fits_has : (w i : ℕ) (rs : List (ℕ × ℕ)) (q : ℕ) → fits_any w rs i ≡ true → i * w ≤ q → q < (i + 1) * w → in_ranges rs q ≡ true
 fits_has w i [] q is low high = absurd (false≢true is)
-fits_has w i (r ∷ rs) q is low high = elim (or_cases (fits w r i) (fits_any w rs i) is) [
+fits_has w i (r ∷ rs) q is low high = elim (or_cases (is_inside w r i) (fits_any w rs i) is) [
   | inl here ↦
       let parts = fits_parts w r i here in
       or_left _ _ (and_from _ _ (le-leb r.0 q (omega arith)) (lt-ltb q r.1 (omega arith)))
@@ -164,20 +164,20 @@ any_step false a false c d z no_c no_d down rest = rest refl
 
 -- the cell i is inside a range, and its parent j, if it has one, is not
 abbrev pub is_part : ℕ → ℕ → Bool → ℕ → ℕ → ℕ × ℕ → Bool
-is_part w w4 top i j r = fits w r i && (top || not (fits w4 r j))
+is_part w w4 top i j r = is_inside w r i && (top || not (is_inside w4 r j))
 
-fits_down : (w w4 i j : ℕ) (r : ℕ × ℕ) → j * w4 ≤ i * w → (i + 1) * w ≤ (j + 1) * w4 → fits w4 r j ≡ true → fits w r i ≡ true
+fits_down : (w w4 i j : ℕ) (r : ℕ × ℕ) → j * w4 ≤ i * w → (i + 1) * w ≤ (j + 1) * w4 → is_inside w4 r j ≡ true → is_inside w r i ≡ true
 fits_down w w4 i j r low high is = let parts = fits_parts w4 r j is in fits_from w r i (omega arith) (omega arith)
 
-parts_any : (w w4 i j : ℕ) (top : Bool) (rs : List (ℕ × ℕ)) → 0 < w → j * w4 ≤ i * w → (i + 1) * w ≤ (j + 1) * w4 → IsNormal rs → (fits_any w rs i && (top || not (fits_any w4 rs j))) ≡ list_any (is_part w w4 top i j) rs
-parts_any w w4 i j top [] pos low high normal = refl
-parts_any w w4 i j top (r ∷ rs) pos low high normal =
-    let early : fits w r i ≡ true → i * w ≤ r.1 = λ is. let parts = fits_parts w r i is in let next = next_cell i w in omega arith in
-    any_step (fits w r i) (fits_any w rs i) (fits w4 r j) (fits_any w4 rs j) (list_any (is_part w w4 top i j) rs) top
+any_part_of_cells : (w w4 i j : ℕ) (top : Bool) (rs : List (ℕ × ℕ)) → 0 < w → j * w4 ≤ i * w → (i + 1) * w ≤ (j + 1) * w4 → IsNormal rs → (fits_any w rs i && (top || not (fits_any w4 rs j))) ≡ list_any (is_part w w4 top i j) rs
+any_part_of_cells w w4 i j top [] pos low high normal = refl
+any_part_of_cells w w4 i j top (r ∷ rs) pos low high normal =
+    let early : is_inside w r i ≡ true → i * w ≤ r.1 = λ is. let parts = fits_parts w r i is in let next = next_cell i w in omega arith in
+    any_step (is_inside w r i) (fits_any w rs i) (is_inside w4 r j) (fits_any w4 rs j) (list_any (is_part w w4 top i j) rs) top
     (λ is. let e = early is in none_later r.1 w4 j rs normal.3 normal.2 (omega arith))
-    (λ is. any_and (λ r. fits w r i) (λ r. top || not (fits w4 r j)) rs (none_later r.1 w i rs normal.3 normal.2 (early is)))
+    (λ is. any_and (λ r. is_inside w r i) (λ r. top || not (is_inside w4 r j)) rs (none_later r.1 w i rs normal.3 normal.2 (early is)))
     (fits_down w w4 i j r low high)
-    (λ other. parts_any w w4 i j top rs pos low high normal.3)
+    (λ other. any_part_of_cells w w4 i j top rs pos low high normal.3)
 
 -- the position of the parent of cell i of order k
 parent_around : (k i : ℕ) → 0 < k → k ≤ 29 → (i / 4 * cell_size (k - 1) ≤ i * cell_size k) × ((i + 1) * cell_size k ≤ (i / 4 + 1) * cell_size (k - 1))
@@ -209,11 +209,11 @@ pub is_cell_any : (rs : List (ℕ × ℕ)) (k i : ℕ) → IsNormal rs → k ≤
 unfolding is_cell_of
 is_cell_any rs zero i normal small lt =
     ap (λ b. b && true) (subset_fits rs 0 i normal small lt)
-    ∙ parts_any (cell_size 0) (cell_size 0) i i true rs (cell_size-positive 0) (omega arith) (omega arith) normal
+    ∙ any_part_of_cells (cell_size 0) (cell_size 0) i i true rs (cell_size-positive 0) (omega arith) (omega arith) normal
 is_cell_any rs (suc k) i normal small lt =
     let around = parent_around (suc k) i (omega arith) small in
     (λ n. subset_fits rs (suc k) i normal small lt n && (nat_eq (suc k) 0 || not (subset_fits rs (suc k - 1) (i / 4) normal (omega arith) (parent_fits k i lt) n)))
-    ∙ parts_any (cell_size (suc k)) (cell_size (suc k - 1)) i (i / 4) (nat_eq (suc k) 0) rs (cell_size-positive (suc k)) around.0 around.1 normal
+    ∙ any_part_of_cells (cell_size (suc k)) (cell_size (suc k - 1)) i (i / 4) (nat_eq (suc k) 0) rs (cell_size-positive (suc k)) around.0 around.1 normal
 
 cells_at_any : (rs : List (ℕ × ℕ)) (k : ℕ) → IsNormal rs → k ≤ 29 → cells_at (set_of rs) k ≡ map (cell_number k) (filter (λ i. list_any (part_at k i) rs) (range_with_len 0 (cell_count k)))
 unfolding cells_at
@@ -221,9 +221,9 @@ cells_at_any rs k normal small =
     filter-map (is_cell_of (set_of rs)) (cell_number k) (range_with_len 0 (cell_count k))
     ∙ ap (map (cell_number k)) (filter_same (λ i. is_cell_of (set_of rs) (cell_number k i)) (λ i. list_any (part_at k i) rs) 0 (cell_count k) (λ i low high. is_cell_any rs k i normal small (omega arith)))
 
-or_again : (a b : Bool) → (a || b) ≡ ((a || false) || b)
-or_again true b = refl
-or_again false b = refl
+or_with_false_inside : (a b : Bool) → (a || b) ≡ ((a || false) || b)
+or_with_false_inside true b = refl
+or_with_false_inside false b = refl
 
 -- the cells of the first range of a normal list come first
 pub cells_split : (r : ℕ × ℕ) (rs : List (ℕ × ℕ)) (k : ℕ) → IsNormal (r ∷ rs) → k ≤ 29 → cells_at (set_of (r ∷ rs)) k ≡ cells_at (set_of (r ∷ [])) k ++ cells_at (set_of rs) k
@@ -231,11 +231,11 @@ cells_split r rs k normal small =
     let w = cell_size k in
     let pos = cell_size-positive k in
     let n = cell_count k in
-    let other = λ (r : ℕ × ℕ) (i : ℕ). nat_eq k 0 || not (fits (cell_size (k - 1)) r (i / 4)) in
+    let other = λ (r : ℕ × ℕ) (i : ℕ). nat_eq k 0 || not (is_inside (cell_size (k - 1)) r (i / 4)) in
     let parts = filter_parts (λ i. list_any (part_at k i) (r ∷ rs)) (λ i. list_any (part_at k i) (r ∷ [])) (λ i. list_any (part_at k i) rs) (r.1 / w) 0 n
-    (λ i low high. or_again (part_at k i r) (list_any (part_at k i) rs))
-    (λ i past high. or_from _ _ (and_left _ _ (false_from_ne_true (fits w r i) (λ is. let at = le-div (i + 1) r.1 w pos (fits_parts w r i is).1 in omega arith))) refl)
-    (λ i under high. any_and (λ r. fits w r i) (λ r. nat_eq k 0 || not (fits (cell_size (k - 1)) r (i / 4))) rs
+    (λ i low high. or_with_false_inside (part_at k i r) (list_any (part_at k i) rs))
+    (λ i past high. or_from _ _ (and_left _ _ (false_from_ne_true (is_inside w r i) (λ is. let at = le-div (i + 1) r.1 w pos (fits_parts w r i is).1 in omega arith))) refl)
+    (λ i under high. any_and (λ r. is_inside w r i) (λ r. nat_eq k 0 || not (is_inside (cell_size (k - 1)) r (i / 4))) rs
     (none_later r.1 w i rs normal.3 normal.2 (let a : i * w ≤ r.1 / w * w = mul-le-mul_right w (omega arith) in omega (arith, div-mul-le_self r.1 w)))) in
     cells_at_any (r ∷ rs) k normal small ∙ ap (map (cell_number k)) parts
     ∙ map-append (cell_number k) (filter (λ i. list_any (part_at k i) (r ∷ [])) (range_with_len 0 n)) (filter (λ i. list_any (part_at k i) rs) (range_with_len 0 n))
@@ -243,8 +243,8 @@ cells_split r rs k normal small =
 
 -- ---- the cells of one range
 
-whole_tests : (k from to first last i : ℕ) → AreInnerCells k from to first last → fits (cell_size k) (from, to) i ≡ (nat_le first i && nat_lt i last)
-whole_tests k from to first last i whole = same_truth _ _
+fits_whole_cell : (k from to first last i : ℕ) → AreInnerCells k from to first last → is_inside (cell_size k) (from, to) i ≡ (nat_le first i && nat_lt i last)
+fits_whole_cell k from to first last i whole = same_truth _ _
     (λ is. let at = (whole.each i).1 (fits_parts (cell_size k) (from, to) i is) in and_from _ _ (le-leb first i at.0) (lt-ltb i last at.1))
     (λ is. let parts = and_parts (nat_le first i) (nat_lt i last) is in
     let at = (whole.each i).0 (leb-true first i parts.0, ltb-true i last parts.1) in fits_from (cell_size k) (from, to) i at.0 at.1)
@@ -254,14 +254,14 @@ one_test : (first last low high i : ℕ) → high ≤ low → (((nat_le first i 
 one_test first last low high i none = let j = i / 4 in grind (arith, nat_tests)
 
 -- the parents from `low` up to `high` are inside the range
-two_tests : (first last low high i : ℕ) → low < high → first ≤ 4 * low → 4 * high ≤ last → (((nat_le first i && nat_lt i last) && (false || not (nat_le low (i / 4) && nat_lt (i / 4) high))) || false) ≡ ((nat_le first i && nat_lt i (4 * low)) || (nat_le (4 * high) i && nat_lt i last))
-two_tests first last low high i some a b = grind (arith, nat_tests)
+inner_cells_between : (first last low high i : ℕ) → low < high → first ≤ 4 * low → 4 * high ≤ last → (((nat_le first i && nat_lt i last) && (false || not (nat_le low (i / 4) && nat_lt (i / 4) high))) || false) ≡ ((nat_le first i && nat_lt i (4 * low)) || (nat_le (4 * high) i && nat_lt i last))
+inner_cells_between first last low high i some a b = grind (arith, nat_tests)
 
 pub run_top : (k from to first last : ℕ) → k ≡ 0 → from < to → to ≤ pixel_count → AreInnerCells k from to first last → cells_at (set_of ((from, to) ∷ [])) k ≡ cells_of_range k (first, last)
 run_top zero from to first last top some fits_in whole =
     cells_at_any ((from, to) ∷ []) 0 (some, fits_in, tt, tt) (omega arith)
     ∙ ap (map (cell_number 0)) (filter_run (λ i. list_any (part_at 0 i) ((from, to) ∷ [])) first last 0 (cell_count 0) (omega arith) (omega (arith, whole.in_range))
-    (λ i low high. ap (λ b. (b && true) || false) (whole_tests 0 from to first last i whole) ∙ plain (nat_le first i && nat_lt i last)))
+    (λ i low high. ap (λ b. (b && true) || false) (fits_whole_cell 0 from to first last i whole) ∙ plain (nat_le first i && nat_lt i last)))
   where
     plain : (b : Bool) → ((b && true) || false) ≡ b
     plain true = refl
@@ -271,17 +271,17 @@ run_top (suc k) from to first last top some fits_in whole = absurd (omega arith)
 not_top : (k : ℕ) → nat_eq (suc k) 0 ≡ false
 not_top k = ne_eqb (suc k) 0 (λ e. omega arith)
 
-part_tests : (k from to first last low high i : ℕ) → AreInnerCells (suc k) from to first last → AreInnerCells (suc k - 1) from to low high
+inner_cells_of_part : (k from to first last low high i : ℕ) → AreInnerCells (suc k) from to first last → AreInnerCells (suc k - 1) from to low high
     → list_any (part_at (suc k) i) ((from, to) ∷ []) ≡ (((nat_le first i && nat_lt i last) && (false || not (nat_le low (i / 4) && nat_lt (i / 4) high))) || false)
-part_tests k from to first last low high i whole parents =
-    (λ n. (whole_tests (suc k) from to first last i whole n && (not_top k n || not (whole_tests (suc k - 1) from to low high (i / 4) parents n))) || false)
+inner_cells_of_part k from to first last low high i whole parents =
+    (λ n. (fits_whole_cell (suc k) from to first last i whole n && (not_top k n || not (fits_whole_cell (suc k - 1) from to low high (i / 4) parents n))) || false)
 
 pub run_one : (k from to first last low high : ℕ) → 0 < k → k ≤ 29 → from < to → to ≤ pixel_count → AreInnerCells k from to first last → AreInnerCells (k - 1) from to low high → high ≤ low → cells_at (set_of ((from, to) ∷ [])) k ≡ cells_of_range k (first, last)
 run_one zero from to first last low high deep small some fits_in whole parents none = absurd (omega arith)
 run_one (suc k) from to first last low high deep small some fits_in whole parents none =
     cells_at_any ((from, to) ∷ []) (suc k) (some, fits_in, tt, tt) small
     ∙ ap (map (cell_number (suc k))) (filter_run (λ i. list_any (part_at (suc k) i) ((from, to) ∷ [])) first last 0 (cell_count (suc k)) (omega arith) (omega (arith, whole.in_range))
-    (λ i above lt. part_tests k from to first last low high i whole parents ∙ one_test first last low high i none))
+    (λ i above lt. inner_cells_of_part k from to first last low high i whole parents ∙ one_test first last low high i none))
 
 -- the four cells of a parent are inside the range too
 child_in : (k from to first last low high i : ℕ) → k ≤ 28 → AreInnerCells (suc k) from to first last → AreInnerCells (suc k - 1) from to low high → low ≤ i / 4 → i / 4 < high → (first ≤ i) × (i < last)
@@ -303,7 +303,7 @@ run_two (suc k) from to first last low high deep small some fits_in whole parent
     cells_at_any ((from, to) ∷ []) (suc k) (some, fits_in, tt, tt) small
     ∙ ap (map (cell_number (suc k))) (
     filter_parts (λ i. list_any (part_at (suc k) i) ((from, to) ∷ [])) p q (4 * low) 0 n
-    (λ i above lt. part_tests k from to first last low high i whole parents ∙ two_tests first last low high i more a b)
+    (λ i above lt. inner_cells_of_part k from to first last low high i whole parents ∙ inner_cells_between first last low high i more a b)
     (λ i past lt. not_before first (4 * low) i past)
     (λ i under lt. not_after (4 * high) last i (omega arith))
     ∙ (λ s. filter_run p first (4 * low) 0 n (omega arith) (omega arith) (λ i above lt. refl) s ++ filter_run q (4 * high) last 0 n (omega arith) (omega arith) (λ i above lt. refl) s))

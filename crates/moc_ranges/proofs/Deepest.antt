@@ -18,7 +18,7 @@ use Rattle.moc_ranges.specs.Lemmas.Ranges.{in_first, not_before, at_end}
 use Rattle.moc_ranges.specs.Private.Widen.{widen}
 use Rattle.moc_ranges.proofs.CellRuns.{two_pow}
 use Rattle.moc_ranges.proofs.CellOrders.{AllMultiples, multiple_of, or_multiple, low_zeros}
-use Rattle.moc_ranges.proofs.Widening.{degraded, in_widened, increases, same_quotient}
+use Rattle.moc_ranges.proofs.Widening.{widened_is_degraded, in_widened, increases, same_quotient}
 
 -- ---- a set whose bounds are multiples of a cell size is a union of such cells
 
@@ -37,8 +37,8 @@ last_floor w t pos some none =
     not_none w zero t is some = absurd (omega arith)
     not_none w (suc n) t is some = omega arith
 
-widened : (w : ℕ) (r : ℕ × ℕ) → 0 < w → r.0 < r.1 → r.0 % w ≡ 0 → r.1 % w ≡ 0 → widen w r ≡ r
-widened w r pos some low high =
+widen_aligned : (w : ℕ) (r : ℕ × ℕ) → 0 < w → r.0 < r.1 → r.0 % w ≡ 0 → r.1 % w ≡ 0 → widen w r ≡ r
+widen_aligned w r pos some low high =
     let from : r.0 / w * w ≡ r.0 = sym (multiple_of r.0 w low) in
     let to : (r.1 - 1) / w * w + w ≡ r.1 = last_floor w r.1 pos (omega arith) high in
     λ i. (from i, to i)
@@ -46,11 +46,11 @@ widened w r pos some low high =
 map-widen : (w : ℕ) (rs : List (ℕ × ℕ)) → 0 < w → IsNormal rs → AllMultiples w rs → map (widen w) rs ≡ rs
 map-widen w [] pos normal all = refl
 map-widen w (r ∷ rs) pos normal all =
-    λ i. widened w r pos normal.0 all.0 all.1 i ∷ map-widen w rs pos normal.3 all.2 i
+    λ i. widen_aligned w r pos normal.0 all.0 all.1 i ∷ map-widen w rs pos normal.3 all.2 i
 
 pub degrade_of_multiples : (k : ℕ) (rs : List (ℕ × ℕ)) → k ≤ 29 → IsNormal rs → AllMultiples (cell_size k) rs → degrade (set_of rs) k ≡ set_of rs
 degrade_of_multiples k rs small normal all = same_members _ _ (λ q.
-    sym (degraded k rs (set_of rs) q small normal refl)
+    sym (widened_is_degraded k rs (set_of rs) q small normal refl)
     ∙ ap (λ (ss : List (ℕ × ℕ)). in_ranges ss q) (map-widen (cell_size k) rs (cell_size-positive k) normal all)
     ∙ sym (contains-set_of rs q))
 
@@ -64,7 +64,7 @@ inner_cells : (k : ℕ) (rs : List (ℕ × ℕ)) → k ≤ 29 → IsNormal rs �
 inner_cells k rs small normal same = λ p q has cell.
     sym (contains-set_of rs q)
     ∙ ap (λ (a : NumberSet). set.contains a q) (sym same)
-    ∙ sym (degraded k rs (set_of rs) q small normal refl)
+    ∙ sym (widened_is_degraded k rs (set_of rs) q small normal refl)
     ∙ in_widened (cell_size k) rs p q (cell_size-positive k) has cell
 
 -- a number that is not a multiple is in the cell of the number before it

@@ -14,7 +14,7 @@ use Rattle.std.specs.Option.{option_or}
 use Rattle.moc_ranges.specs.Errors.{first_error_of, pair_error}
 use Rattle.moc_ranges.specs.Private.Collected.{pixels_of_builder}
 use Rattle.moc_ranges.specs.Lemmas.{empty-union, union-empty, union-assoc, pixels_of-append, run_of_cells, in_union}
-use Rattle.moc_ranges.proofs.Sorting.{in_ranges-push, no_fault_parts}
+use Rattle.moc_ranges.proofs.Sorting.{in_ranges-push, neither_option}
 use Rattle.moc_ranges.proofs.Spans.{span_view}
 
 -- no range waits
@@ -34,8 +34,8 @@ or_swap false false true = refl
 or_swap false false false = refl
 
 -- one more range is merged
-pub joined_more : (joined waiting added : NumberSet) → set.union (set.union joined added) waiting ≡ set.union (set.union joined waiting) added
-joined_more joined waiting added = same_members _ _ (λ q.
+pub union_swap_waiting : (joined waiting added : NumberSet) → set.union (set.union joined added) waiting ≡ set.union (set.union joined waiting) added
+union_swap_waiting joined waiting added = same_members _ _ (λ q.
     in_union (set.union joined added) waiting q ∙ ap (λ b. b || set.contains waiting q) (in_union joined added q)
     ∙ or_swap (set.contains joined q) (set.contains added q) (set.contains waiting q)
     ∙ sym (in_union (set.union joined waiting) added q ∙ ap (λ b. b || set.contains added q) (in_union joined waiting q)))
@@ -47,26 +47,26 @@ set_of-push ranges range = same_members _ _ (λ q.
     ∙ sym (in_union (set_of ranges) (numbers range.0 range.1) q))
 
 -- the builder is empty, or all its ranges are merged
-pub gathered_joined : (joined : NumberSet) (ascending waiting : List (ℕ × ℕ)) → ascending ≡ [] → waiting ≡ [] → pixels_of_builder joined ascending waiting ≡ joined
-gathered_joined joined ascending waiting none_rose none_wait =
+pub builder_pixels_of_merged : (joined : NumberSet) (ascending waiting : List (ℕ × ℕ)) → ascending ≡ [] → waiting ≡ [] → pixels_of_builder joined ascending waiting ≡ joined
+builder_pixels_of_merged joined ascending waiting none_rose none_wait =
     (λ i. pixels_of_builder joined (none_rose i) (none_wait i)) ∙ none_waits (set.union joined (set_of [])) ∙ none_waits joined
 
 -- all ranges came in order
-pub gathered_rising : (joined : NumberSet) (ascending waiting : List (ℕ × ℕ)) → joined ≡ set.empty → length waiting ≡ 0 → pixels_of_builder joined ascending waiting ≡ set_of ascending
-gathered_rising joined ascending waiting none none_wait =
+pub builder_pixels_ascending : (joined : NumberSet) (ascending waiting : List (ℕ × ℕ)) → joined ≡ set.empty → length waiting ≡ 0 → pixels_of_builder joined ascending waiting ≡ set_of ascending
+builder_pixels_ascending joined ascending waiting none none_wait =
     sym (none_waits-length (set.union joined (set_of ascending)) waiting none_wait)
     ∙ ap (λ (a : NumberSet). set.union a (set_of ascending)) none ∙ empty-union (set_of ascending)
 
 -- one more range came in order
-pub gathered_risen : (joined : NumberSet) (ascending ascending' waiting : List (ℕ × ℕ)) (added : NumberSet) → set_of ascending' ≡ set.union (set_of ascending) added → pixels_of_builder joined ascending' waiting ≡ set.union (pixels_of_builder joined ascending waiting) added
-gathered_risen joined ascending ascending' waiting added is =
+pub builder_pixels_after_ascending : (joined : NumberSet) (ascending ascending' waiting : List (ℕ × ℕ)) (added : NumberSet) → set_of ascending' ≡ set.union (set_of ascending) added → pixels_of_builder joined ascending' waiting ≡ set.union (pixels_of_builder joined ascending waiting) added
+builder_pixels_after_ascending joined ascending ascending' waiting added is =
     ap (λ (a : NumberSet). set.union (set.union joined a) (set_of waiting)) is
     ∙ ap (λ (a : NumberSet). set.union a (set_of waiting)) (sym (union-assoc joined (set_of ascending) added))
-    ∙ joined_more (set.union joined (set_of ascending)) (set_of waiting) added
+    ∙ union_swap_waiting (set.union joined (set_of ascending)) (set_of waiting) added
 
 -- one more range waits
-pub waits_more : (joined : NumberSet) (waiting : List (ℕ × ℕ)) (range : ℕ × ℕ) → set.union joined (set_of (waiting ++ range ∷ [])) ≡ set.union (set.union joined (set_of waiting)) (numbers range.0 range.1)
-waits_more joined waiting range = ap (λ a. set.union joined a) (set_of-push waiting range) ∙ sym (union-assoc joined (set_of waiting) (numbers range.0 range.1))
+pub waiting_set_after_push : (joined : NumberSet) (waiting : List (ℕ × ℕ)) (range : ℕ × ℕ) → set.union joined (set_of (waiting ++ range ∷ [])) ≡ set.union (set.union joined (set_of waiting)) (numbers range.0 range.1)
+waiting_set_after_push joined waiting range = ap (λ a. set.union joined a) (set_of-push waiting range) ∙ sym (union-assoc joined (set_of waiting) (numbers range.0 range.1))
 
 -- the pixels of a cell, as consecutive numbers
 pub span_numbers : (order index from to : ℕ) → ((p : ℕ) → ((from ≤ p) × (p < to)) ↔ IsInSpan (cell_number order index) p) → to ≤ pixel_count → numbers from to ≡ span order index
@@ -77,21 +77,21 @@ span_numbers order index from to pixels within = sym (union-empty (numbers from 
 pub spans_numbers : (k first last : ℕ) → k ≤ 29 → last < cell_count k → numbers (first * cell_size k) ((last + 1) * cell_size k) ≡ spans k first last
 spans_numbers k first last small fits = same_members _ _ (λ q. contains-numbers (first * cell_size k) ((last + 1) * cell_size k) q ∙ run_of_cells k first last q small fits)
 
-or_nothing : (a b : Bool) → b ≡ false → (a || b) ≡ a
-or_nothing true b none = refl
-or_nothing false b none = none
+or_with_false : (a b : Bool) → b ≡ false → (a || b) ≡ a
+or_with_false true b none = refl
+or_with_false false b none = none
 
 no_cell : (k first last q : ℕ) → last < first → set.contains (spans k first last) q ≡ false
 no_cell k first last q none = contains-spans k first last q ∙ grind (arith, nat_tests)
 
 -- a run that ends before it begins has no cell
 pub no_row : (a : NumberSet) (k first last : ℕ) → last < first → a ≡ set.union a (spans k first last)
-no_row a k first last none = same_members _ _ (λ q. sym (set.contains-union nat_cmp_total a (spans k first last) q ∙ or_nothing _ _ (no_cell k first last q none)))
+no_row a k first last none = same_members _ _ (λ q. sym (set.contains-union nat_cmp_total a (spans k first last) q ∙ or_with_false _ _ (no_cell k first last q none)))
 
 pub valid-push : (at : ℕ) (pairs : List (ℕ × ℕ)) (pair : ℕ × ℕ) → first_error_of pair_error at pairs ≡ None → pair.0 ≤ pair.1 → pair.1 ≤ pixel_count → first_error_of pair_error at (pairs ++ pair ∷ []) ≡ None
 valid-push at [] pair none ascending within = grind (arith, nat_tests)
 valid-push at (p ∷ pairs) pair none ascending within =
-    let parts = no_fault_parts (pair_error at p) (first_error_of pair_error (at + 1) pairs) none in
+    let parts = neither_option (pair_error at p) (first_error_of pair_error (at + 1) pairs) none in
     ap (λ f. option_or f (first_error_of pair_error (at + 1) (pairs ++ pair ∷ []))) parts.0 ∙ valid-push (at + 1) pairs pair parts.1 ascending within
 
 -- no cell is added yet
@@ -99,12 +99,12 @@ pub no_cells_added : (a : NumberSet) → a ≡ set.union a (pixels_of [])
 unfolding pixels_of
 no_cells_added a = sym (union-empty a)
 
-one_cell : (c : CellNumber) → pixels_of (c ∷ []) ≡ span c.order c.index
+pixels_of_single_cell : (c : CellNumber) → pixels_of (c ∷ []) ≡ span c.order c.index
 unfolding pixels_of
-one_cell c = union-empty (span c.order c.index)
+pixels_of_single_cell c = union-empty (span c.order c.index)
 
 -- one more cell is added
 pub cell_added : (a : NumberSet) (cells : List CellNumber) (c : CellNumber) → set.union (set.union a (pixels_of cells)) (span c.order c.index) ≡ set.union a (pixels_of (cells ++ c ∷ []))
 cell_added a cells c =
     union-assoc a (pixels_of cells) (span c.order c.index)
-    ∙ ap (λ (b : NumberSet). set.union a b) (ap (λ (b : NumberSet). set.union (pixels_of cells) b) (sym (one_cell c)) ∙ sym (pixels_of-append cells (c ∷ [])))
+    ∙ ap (λ (b : NumberSet). set.union a b) (ap (λ (b : NumberSet). set.union (pixels_of cells) b) (sym (pixels_of_single_cell c)) ∙ sym (pixels_of-append cells (c ∷ [])))

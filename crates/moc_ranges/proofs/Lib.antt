@@ -11,3 +11,4 @@ pub mod Gathering
 pub mod Looking
 pub mod Deepest
 pub mod Adding
+pub mod Removing

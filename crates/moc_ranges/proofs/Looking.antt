@@ -19,7 +19,7 @@ use Rattle.moc_blocks.specs.Lemmas.Ranges.{later_only}
 use Rattle.moc_ranges.specs.Private.Walks.{IsNextRange, IsEmptyFrom}
 use Rattle.moc_ranges.specs.Lemmas.Ranges.{at_end}
 use Rattle.moc_blocks.proofs.Blocking.{IsNormal-suffix}
-use Rattle.moc_blocks.proofs.Basics.{none_ended}
+use Rattle.moc_blocks.proofs.Basics.{none_after_limit}
 use Rattle.moc_ranges.proofs.Views.{and_no, none_in_part, in_base}
 
 -- the ranges that a search has skipped
@@ -32,10 +32,10 @@ pub record IsSearching (limit : ℕ) (rest whole : List (ℕ × ℕ)) : Type 0 w
 left_in : (limit q : ℕ) (rest whole : List (ℕ × ℕ)) → IsSearching limit rest whole → limit ≤ q → in_ranges whole q ≡ in_ranges rest q
 left_in limit q rest whole i le =
     ap (λ (l : List (ℕ × ℕ)). in_ranges l q) i.parts ∙ in_ranges-append i.removed rest q
-    ∙ ap (λ b. b || in_ranges rest q) (none_ended limit q i.removed i.ended le)
+    ∙ ap (λ b. b || in_ranges rest q) (none_after_limit limit q i.removed i.ended le)
 
 pub search_none : (limit : ℕ) (whole : List (ℕ × ℕ)) → EndsBy limit whole → IsEmptyFrom limit (set_of whole)
-search_none limit whole ended = record { none = λ q le. contains-set_of whole q ∙ none_ended limit q whole ended le }
+search_none limit whole ended = record { none = λ q le. contains-set_of whole q ∙ none_after_limit limit q whole ended le }
 
 first_has : (range : ℕ × ℕ) (rest : List (ℕ × ℕ)) (q : ℕ) → IsNormal (range ∷ rest) → q < range.1 → in_ranges (range ∷ rest) q ≡ nat_le range.0 q
 first_has range rest q normal lt = let later = later_only range.1 q rest normal.3 normal.2 (omega arith) in grind (arith, nat_tests)
@@ -52,22 +52,22 @@ search_some limit range s rest whole i e lt =
     }
 
 -- the first range that ends after the limit, of a normal list
-pub search_found : (limit : ℕ) (range : ℕ × ℕ) (whole : List (ℕ × ℕ)) → IsNormal whole → IsFirstAfter limit (range ∷ []) whole → IsNextRange limit (set_of whole) range
-search_found limit range whole normal f =
+pub first_after_is_next_range : (limit : ℕ) (range : ℕ × ℕ) (whole : List (ℕ × ℕ)) → IsNormal whole → IsFirstAfter limit (range ∷ []) whole → IsNextRange limit (set_of whole) range
+first_after_is_next_range limit range whole normal f =
     search_some limit range (range ∷ f.later) f.later whole (record { removed = f.removed; parts = f.parts; ended = f.ended; normal = normal }) refl f.past
 
 -- the same for the set of a list
 pub search_set : (limit : ℕ) (range : Option (ℕ × ℕ)) (found whole : List (ℕ × ℕ)) (a : NumberSet) → set_of whole ≡ a → IsNormal whole → whole ≡ found → MatchOption range (EndsBy limit found) (λ (r : ℕ × ℕ). IsFirstAfter limit (r ∷ []) found) → MatchOption range (IsEmptyFrom limit a) (IsNextRange limit a)
 search_set limit None found whole a is normal e f = subst (IsEmptyFrom limit) is (search_none limit whole (subst (EndsBy limit) (sym e) f))
-search_set limit (Some r) found whole a is normal e f = subst (λ (s : NumberSet). IsNextRange limit s r) is (search_found limit r whole normal (subst (λ (l : List (ℕ × ℕ)). IsFirstAfter limit (r ∷ []) l) (sym e) f))
+search_set limit (Some r) found whole a is normal e f = subst (λ (s : NumberSet). IsNextRange limit s r) is (first_after_is_next_range limit r whole normal (subst (λ (l : List (ℕ × ℕ)). IsFirstAfter limit (r ∷ []) l) (sym e) f))
 
 -- ---- the next range, in terms of the set
 
 next_has : (limit q : ℕ) (a : NumberSet) (range : ℕ × ℕ) → IsNextRange limit a range → limit ≤ q → range.0 ≤ q → q < range.1 → set.contains a q ≡ true
 next_has limit q a range n low from to = n.has q low to ∙ grind (arith, nat_tests)
 
-next_lacks : (limit q : ℕ) (a : NumberSet) (range : ℕ × ℕ) → IsNextRange limit a range → limit ≤ q → q < range.0 → set.contains a q ≡ false
-next_lacks limit q a range n low lt = n.has q low (omega (arith, n.filled)) ∙ grind (arith, nat_tests)
+not_in_gap : (limit q : ℕ) (a : NumberSet) (range : ℕ × ℕ) → IsNextRange limit a range → limit ≤ q → q < range.0 → set.contains a q ≡ false
+not_in_gap limit q a range n low lt = n.has q low (omega (arith, n.filled)) ∙ grind (arith, nat_tests)
 
 in_numbers : (from to q : ℕ) → from ≤ q → q < to → set.contains (numbers from to) q ≡ true
 in_numbers from to q low high = contains-numbers from to q ∙ grind (arith, nat_tests)
@@ -90,7 +90,7 @@ meets_next a from to range n ascending = elim (cases_lt range.0 to) [
       let filled = n.filled in
       let past = n.past in
       meets-some a (numbers from to) q (next_has from q a range n (omega arith) (omega arith) (omega arith)) (in_numbers from to q (omega arith) (omega arith)) ∙ sym (lt-ltb range.0 to lt)
-  | inr ge ↦ meets_no a from to (λ q low high. next_lacks from q a range n low (omega arith)) ∙ grind (arith, nat_tests)
+  | inr ge ↦ meets_no a from to (λ q low high. not_in_gap from q a range n low (omega arith)) ∙ grind (arith, nat_tests)
 ]
 
 pub meets_none_left : (a : NumberSet) (from to : ℕ) → IsEmptyFrom from a → meets a (numbers from to) ≡ false
@@ -99,7 +99,7 @@ meets_none_left a from to n = meets_no a from to (λ q low high. n.none q low)
 pub covers_next : (a : NumberSet) (from to : ℕ) (range : ℕ × ℕ) → IsNextRange from a range → from < to → set.is_subset (numbers from to) a ≡ (nat_le range.0 from && nat_le to range.1)
 covers_next a from to range n ascending = elim (cases_lt from range.0) [
   | inl before ↦
-      false_from_ne_true _ (λ all. false≢true (sym (next_lacks from from a range n (omega arith) before) ∙ set.is_subset-contains nat_cmp_total (numbers from to) a all from (in_numbers from to from (omega arith) ascending)))
+      false_from_ne_true _ (λ all. false≢true (sym (not_in_gap from from a range n (omega arith) before) ∙ set.is_subset-contains nat_cmp_total (numbers from to) a all from (in_numbers from to from (omega arith) ascending)))
       ∙ grind (arith, nat_tests)
   | inr begun ↦ elim (cases_lt range.1 to) [
     | inl short ↦
@@ -144,8 +144,8 @@ some_in_part a p has = elim (cases_lt 0 (set.len (part_of a (p / base_pixel_size
       absurd (false≢true (sym (ap (λ s. set.contains s p) (set.empty_of_len (part_of a (p / base_pixel_size)) (omega arith)) ∙ set.contains-empty nat_cmp p) ∙ here))
 ]
 
-apart : (m n : ℕ) → (m < n) ⊎ (n < m) → nat_eq m n ≡ false
-apart m n cases = elim cases [ inl lt ↦ grind (arith, nat_tests) | inr gt ↦ grind (arith, nat_tests) ]
+unequal_numbers : (m n : ℕ) → (m < n) ⊎ (n < m) → nat_eq m n ≡ false
+unequal_numbers m n cases = elim cases [ inl lt ↦ grind (arith, nat_tests) | inr gt ↦ grind (arith, nat_tests) ]
 
 -- the part of the first pixel from a base pixel on is the first part that is not empty
 pub first_part : (a : NumberSet) (low p b : ℕ) → ((q : ℕ) → low * base_pixel_size ≤ q → set.contains a q ≡ true → p ≤ q) → low ≤ b → nat_lt 0 (set.len (part_of a b)) ≡ true → p / base_pixel_size ≤ b
@@ -153,8 +153,8 @@ first_part a low p b first le some = elim (cases_lt b (p / base_pixel_size)) [
   | inl lt ↦
       let none : part_of a b ≡ set.empty = same_members _ _ (λ q. contains-part_of a b q
       ∙ and_no (set.contains a q) (nat_eq (q / base_pixel_size) b) (λ has. elim (cases_lt q (low * base_pixel_size)) [
-        | inl before ↦ apart (q / base_pixel_size) b (inl (omega arith))
-        | inr from ↦ let later = first q from has in apart (q / base_pixel_size) b (inr (omega arith))
+        | inl before ↦ unequal_numbers (q / base_pixel_size) b (inl (omega arith))
+        | inr from ↦ let later = first q from has in unequal_numbers (q / base_pixel_size) b (inr (omega arith))
       ])
       ∙ sym (set.contains-empty nat_cmp q)) in
       absurd (false≢true (none_in_part a b none ∙ some))
@@ -168,20 +168,20 @@ no_parts a low b first le some =
     let past : p / base_pixel_size ≤ b = first_part a low p b (λ q from has. absurd (first q from has)) le some in
     omega arith
 
-pub nothing_in : (rs : List (ℕ × ℕ)) (a : NumberSet) → set_of rs ≡ a → rs ≡ [] → a ≡ set.empty
-nothing_in rs a is none = sym is ∙ same_members _ _ (λ q. contains-set_of rs q ∙ ap (λ (l : List (ℕ × ℕ)). in_ranges l q) none ∙ sym (set.contains-empty nat_cmp q))
+pub set_of_no_ranges : (rs : List (ℕ × ℕ)) (a : NumberSet) → set_of rs ≡ a → rs ≡ [] → a ≡ set.empty
+set_of_no_ranges rs a is none = sym is ∙ same_members _ _ (λ q. contains-set_of rs q ∙ ap (λ (l : List (ℕ × ℕ)). in_ranges l q) none ∙ sym (set.contains-empty nat_cmp q))
 
 starts_in : (range : ℕ × ℕ) (rest : List (ℕ × ℕ)) → range.0 < range.1 → in_ranges (range ∷ rest) range.0 ≡ true
 starts_in range rest lt = grind (arith, nat_tests)
 
-pub something_in : (range : ℕ × ℕ) (rs rest : List (ℕ × ℕ)) (a : NumberSet) → set_of rs ≡ a → IsNormal rs → rs ≡ range ∷ rest → a ≡ set.empty → ⊥
-something_in range rs rest a is normal e none =
+pub nonempty_set_of_ranges : (range : ℕ × ℕ) (rs rest : List (ℕ × ℕ)) (a : NumberSet) → set_of rs ≡ a → IsNormal rs → rs ≡ range ∷ rest → a ≡ set.empty → ⊥
+nonempty_set_of_ranges range rs rest a is normal e none =
     let left : IsNormal (range ∷ rest) = subst IsNormal e normal in
     let here = contains-set_of rs range.0 ∙ ap (λ (l : List (ℕ × ℕ)). in_ranges l range.0) e ∙ starts_in range rest left.0 in
     false≢true (sym (ap (λ s. set.contains s range.0) (is ∙ none) ∙ set.contains-empty nat_cmp range.0) ∙ here)
 
 pub empty_seen : (r : Option (ℕ × ℕ)) (b : Bool) (s t : List (ℕ × ℕ)) (a : NumberSet) → set_of s ≡ a → IsNormal s → MatchOption r ((s ≡ []) × (t ≡ [])) (λ x. s ≡ x ∷ t) → is_some r ≡ not b → (IsTrue b → a ≡ set.empty) × (a ≡ set.empty → IsTrue b)
-empty_seen None true s t a is normal e same = ((λ yes. nothing_in s a is e.0), (λ none. refl))
+empty_seen None true s t a is normal e same = ((λ yes. set_of_no_ranges s a is e.0), (λ none. refl))
 empty_seen None false s t a is normal e same = absurd (false≢true same)
 empty_seen (Some x) true s t a is normal e same = absurd (false≢true (sym same))
-empty_seen (Some x) false s t a is normal e same = ((λ yes. absurd (false≢true yes)), (λ none. absurd (something_in x s t a is normal e none)))
+empty_seen (Some x) false s t a is normal e same = ((λ yes. absurd (false≢true yes)), (λ none. absurd (nonempty_set_of_ranges x s t a is normal e none)))

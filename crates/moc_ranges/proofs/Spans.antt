@@ -16,14 +16,14 @@ IsSpanned order index from to = (p : ℕ) → ((from ≤ p) × (p < to)) ↔ IsI
 here : (from to q : ℕ) → from ≤ q → q < to → in_ranges ((from, to) ∷ []) q ≡ true
 here from to q low high = grind (arith, nat_tests)
 
-below : (from to q : ℕ) → q < from → in_ranges ((from, to) ∷ []) q ≡ false
-below from to q low = grind (arith, nat_tests)
+not_in_range_before_start : (from to q : ℕ) → q < from → in_ranges ((from, to) ∷ []) q ≡ false
+not_in_range_before_start from to q low = grind (arith, nat_tests)
 
-above : (from to q : ℕ) → to ≤ q → in_ranges ((from, to) ∷ []) q ≡ false
-above from to q high = grind (arith, nat_tests)
+not_in_range_from_end : (from to q : ℕ) → to ≤ q → in_ranges ((from, to) ∷ []) q ≡ false
+not_in_range_from_end from to q high = grind (arith, nat_tests)
 
-in_it : (order index from to q : ℕ) → IsSpanned order index from to → to ≤ pixel_count → from ≤ q → q < to → set.contains (span order index) q ≡ true
-in_it order index from to q pixels whole low high =
+in_span_of_cells : (order index from to q : ℕ) → IsSpanned order index from to → to ≤ pixel_count → from ≤ q → q < to → set.contains (span order index) q ≡ true
+in_span_of_cells order index from to q pixels whole low high =
     contains-span order index q
     ∙ and_from (nat_lt q pixel_count) _ (lt-ltb q pixel_count (omega arith)) (eq-eqb (q / cell_size order) index ((pixels q).0 (low, high)))
 
@@ -35,9 +35,9 @@ not_in_it order index from to q pixels out = false_from_ne_true (set.contains (s
 -- a cell's pixels are those of the range that it spans
 pub span_view : (order index from to : ℕ) → IsSpanned order index from to → to ≤ pixel_count → set_of ((from, to) ∷ []) ≡ span order index
 span_view order index from to pixels whole = same_members _ _ (λ q. contains-set_of ((from, to) ∷ []) q ∙ elim (cases_lt q from) [
-  | inl low ↦ below from to q low ∙ sym (not_in_it order index from to q pixels (λ parts. omega (arith, parts.0)))
+  | inl low ↦ not_in_range_before_start from to q low ∙ sym (not_in_it order index from to q pixels (λ parts. omega (arith, parts.0)))
   | inr from_on ↦ elim (cases_lt q to) [
-    | inl high ↦ here from to q from_on high ∙ sym (in_it order index from to q pixels whole from_on high)
-    | inr past ↦ above from to q past ∙ sym (not_in_it order index from to q pixels (λ parts. omega (arith, parts.1)))
+    | inl high ↦ here from to q from_on high ∙ sym (in_span_of_cells order index from to q pixels whole from_on high)
+    | inr past ↦ not_in_range_from_end from to q past ∙ sym (not_in_it order index from to q pixels (λ parts. omega (arith, parts.1)))
   ]
 ])

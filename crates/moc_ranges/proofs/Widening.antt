@@ -18,7 +18,7 @@ use Rattle.moc_ranges.specs.Private.Widen.{IsCellSize, widen}
 use Rattle.std.specs.Prelude.{bit_and}
 use Rattle.std.proofs.lemmas.Nat.Bits.{and_high}
 use Rattle.moc_ranges.proofs.CellRuns.{two_pow}
-use Rattle.moc_operations.proofs.Lacking.{range_from, range_is}
+use Rattle.moc_operations.proofs.Lacking.{range_from, in_range_by_bounds}
 use Rattle.moc_ranges.proofs.Views.{and_no}
 use Rattle.moc_operations.proofs.Views.{normal_below}
 
@@ -64,7 +64,7 @@ in_widened_from w (r ∷ rs) q some normal e = elim (or_cases (in_range (widen w
   | inl here ↦
       let at = range_from (widen w r) q here in
       let p = widened_from w r.0 r.1 q some normal.0 at.0 at.1 in
-      (p.0, or_left (in_range r p.0) (in_ranges rs p.0) (range_is r p.0 p.1 p.2), p.3)
+      (p.0, or_left (in_range r p.0) (in_ranges rs p.0) (in_range_by_bounds r p.0 p.1 p.2), p.3)
   | inr later ↦
       let p = in_widened_from w rs q some normal.3 later in
       (p.0, or_right (in_range r p.0) (in_ranges rs p.0) p.1, p.2)
@@ -76,7 +76,7 @@ in_widened w (r ∷ rs) p q some e same = elim (or_cases (in_range r p) (in_rang
   | inl here ↦
       let at = range_from r p here in
       let wide = widened_has w r.0 r.1 p q some at.0 at.1 same in
-      or_left (in_range (widen w r) q) (in_ranges (map (widen w) rs) q) (range_is (widen w r) q wide.0 wide.1)
+      or_left (in_range (widen w r) q) (in_ranges (map (widen w) rs) q) (in_range_by_bounds (widen w r) q wide.0 wide.1)
   | inr later ↦ or_right (in_range (widen w r) q) (in_ranges (map (widen w) rs) q) (in_widened w rs p q some later same)
 ]
 
@@ -111,8 +111,8 @@ widened_sorted order rs le normal =
 in_span : (order p q : ℕ) → p < pixel_count → p / cell_size order ≡ q / cell_size order → set.contains (span order (q / cell_size order)) p ≡ true
 in_span order p q lt same = contains-span order (q / cell_size order) p ∙ and_from (ltb p pixel_count) _ (lt-ltb p pixel_count lt) (eq-eqb _ _ same)
 
-pub degraded : (order : ℕ) (rs : List (ℕ × ℕ)) (a : NumberSet) (q : ℕ) → order ≤ 29 → IsNormal rs → set_of rs ≡ a → in_ranges (map (widen (cell_size order)) rs) q ≡ set.contains (degrade a order) q
-degraded order rs a q le normal is =
+pub widened_is_degraded : (order : ℕ) (rs : List (ℕ × ℕ)) (a : NumberSet) (q : ℕ) → order ≤ 29 → IsNormal rs → set_of rs ≡ a → in_ranges (map (widen (cell_size order)) rs) q ≡ set.contains (degrade a order) q
+widened_is_degraded order rs a q le normal is =
     let w = cell_size order in
     let some = cell_size-positive order in
     let holds : (p : ℕ) → set.contains a p ≡ in_ranges rs p = λ p. ap (λ s. set.contains s p) (sym is) ∙ contains-set_of rs p in
@@ -134,8 +134,8 @@ degraded order rs a q le normal is =
 -- ---- the masks that the code uses
 
 -- the bits above those of a cell
-pub masked : (size n : ℕ) → IsCellSize size → n < 2 ^ 64 → bit_and n (18446744073709551615 - (size - 1)) ≡ n / size * size
-masked size n is lt =
+pub masked_to_multiple : (size n : ℕ) → IsCellSize size → n < 2 ^ 64 → bit_and n (18446744073709551615 - (size - 1)) ≡ n / size * size
+masked_to_multiple size n is lt =
     let s = 2 * (29 - is.order) in
     let pow : 2 ^ s ≡ size = two_pow is.order ∙ sym is.is in
     let j = 64 - s in
@@ -147,8 +147,8 @@ masked size n is lt =
     ap (bit_and n) mask ∙ and_high n j s ∙ ap (λ m. m * 2 ^ s) (mod-eq_of_lt (shr_below n j s high)) ∙ ap (λ w. n / w * w) pow
 
 -- a pixel's cell is within the pixels
-pub wide_room : (size p : ℕ) → IsCellSize size → p < pixel_count → p / size * size + size ≤ pixel_count
-wide_room size p is lt =
+pub widened_within_sky : (size p : ℕ) → IsCellSize size → p < pixel_count → p / size * size + size ≤ pixel_count
+widened_within_sky size p is lt =
     let order = is.order in
     let size_is = is.is in
     let some = cell_size-positive order in

@@ -3,7 +3,7 @@ use Rattle.std.specs.Prelude.{ℕ, zero, suc, ◌+◌, ◌-◌, ◌/◌, ◌<◌
 use Rattle.std.specs.Prelude.{map, nat_eq, nat_le}
 use Rattle.std.specs.FinSet as set
 use Rattle.std.specs.List.{filter, flat_map, range_with_len, AllByRecursion}
-use Rattle.moc_sphere.specs.CellNumber.{CellNumber, cell_number, cell_count, cell_size}
+use Rattle.moc_sphere.specs.CellNumber.{CellNumber, cell_number, cell_count, cell_size, order_count}
 use Rattle.moc_blocks.specs.RangeList.{NumberSet}
 use Rattle.moc_ranges.specs.Operations.{pixels, meets}
 
@@ -39,7 +39,7 @@ cells_below (suc k) = cells_below k ++ map (cell_number k) (range_with_len 0 (ce
 
 -- the cells of a set, in ascending NUNIQ (MOC 2.0: the normal form)
 unfoldable pub cells_of : NumberSet → List CellNumber
-cells_of a = filter (is_cell_of a) (cells_below 30)
+cells_of a = filter (is_cell_of a) (cells_below order_count)
 
 -- the cells of an order whose indices are in a half-open range
 abbrev pub cells_of_range : ℕ → ℕ × ℕ → List CellNumber

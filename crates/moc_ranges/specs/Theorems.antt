@@ -2,7 +2,7 @@
 use Rattle.std.specs.Prelude.{◌≡◌, ℕ, List, map}
 use Rattle.std.specs.List.{AllByRecursion}
 use Rattle.std.specs.List.Sorted.{IsStrictlyIncreasing}
-use Rattle.moc_sphere.specs.CellNumber.{IsCell, cell_count, cell_size, uniq_of}
+use Rattle.moc_sphere.specs.CellNumber.{IsCell, cell_count, cell_size, uniq_of, max_order}
 use Rattle.moc_blocks.specs.RangeList.{NumberSet, IsNormal, pixel_count, set_of}
 use Rattle.moc_ranges.specs.Operations.{base_pixel_size, pixels, complement, IsWithin}
 use Rattle.moc_ranges.specs.Cells.{cells_of, pixels_of}
@@ -30,4 +30,4 @@ ComplementTwiceIsTheSet = (a : NumberSet) → IsWithin a pixels → complement (
 
 -- the pixels are the cells of order 29, and a base pixel has the pixels of a cell of order 0
 abbrev pub PixelsAreCells : Type 0
-PixelsAreCells = (pixel_count ≡ cell_count 29) × (base_pixel_size ≡ cell_size 0)
+PixelsAreCells = (pixel_count ≡ cell_count max_order) × (base_pixel_size ≡ cell_size 0)

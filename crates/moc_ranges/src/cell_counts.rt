@@ -2,6 +2,7 @@
 ghost use Rattle.std.specs.Prelude.{◌≡◌, ◌+◌, ◌<◌, ◌≤◌, ℕ, length, slice_index};
 ghost use Rattle.moc_blocks.specs.RangeList.{pixel_count};
 ghost use Rattle.moc_ranges.specs.Private.CellCounts.{AreAddedFrom, range_cell_count};
+ghost use Rattle.moc_sphere.specs.CellNumber.{max_order};
 
 /// The number of orders.
 pub const ORDER_COUNT: usize = 30;
@@ -14,7 +15,7 @@ pub const ORDER_COUNT: usize = 30;
 pub fn add_cells(counts: &mut [u64; ORDER_COUNT], from: u64, to: u64)
     requires ascending { from < to }
     requires within { to ≤ pixel_count }
-    requires capacity { (k : ℕ) → k ≤ 29 → slice_index counts.old k + range_cell_count from to k ≤ pixel_count }
+    requires capacity { (k : ℕ) → k ≤ max_order → slice_index counts.old k + range_cell_count from to k ≤ pixel_count }
     ensures { AreAddedFrom 0 from to counts.old counts.new }
 {
     let skipped = ((from | to).trailing_zeros() / 2).min(29);

@@ -12,6 +12,7 @@ ghost use Rattle.moc_ranges.specs.Private.Walks.{IsNextRange, IsEmptyFrom};
 mod base_pixels;
 mod cells;
 mod inserting;
+mod removing;
 mod sets;
 
 use crate::errors::{Memory, RangesError};

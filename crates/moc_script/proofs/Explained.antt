@@ -201,13 +201,13 @@ module _ (local : BatchesAreLocal) where
 
 -- ---- the steps of lines
 
-local_on : (step : BatchStep) (rest : List BatchStep) → AreLocal batches (step ∷ []) → AreLocal batches rest → AreLocal batches (step ∷ rest)
-local_on (Begin c op) rest h more = (h.0, more)
-local_on (Take c) rest h more = more
-local_on (Edit c b) rest h more = more
-local_on (Give c b) rest h more = more
-local_on (Quit c) rest h more = more
-local_on (End c) rest h more = more
+local_step_appended : (step : BatchStep) (rest : List BatchStep) → AreLocal batches (step ∷ []) → AreLocal batches rest → AreLocal batches (step ∷ rest)
+local_step_appended (Begin c op) rest h more = (h.0, more)
+local_step_appended (Take c) rest h more = more
+local_step_appended (Edit c b) rest h more = more
+local_step_appended (Give c b) rest h more = more
+local_step_appended (Quit c) rest h more = more
+local_step_appended (End c) rest h more = more
 
 same_locks : (w : World (List Command) (List Reply)) (step : BatchStep) → locks_after batches w.locks step ≡ (world_after batches w step).locks
 same_locks w (Begin c op) = refl
@@ -241,39 +241,39 @@ passed : (s : Schedule) (rest : List BatchStep) (s' : Schedule) → TakesOn (nex
 passed s rest s' h = record { local = h.local; permitted = h.permitted; leads = h.leads; begins_match = h.begins_match }
 
 -- a step, unless it is refused
-abbrev unless : Option StepError → BatchStep → Option BatchStep
-unless o step = option_map_or (λ why. None) o (Some step)
+abbrev step_unless_error : Option StepError → BatchStep → Option BatchStep
+step_unless_error o step = option_map_or (λ why. None) o (Some step)
 
 by_step_error : (s : Schedule) (step : BatchStep) (o : Option StepError) → refusal batches s.world.locks step ≡ o → AreLocal batches (step ∷ [])
-    → (rest : List BatchStep) (s' : Schedule) → TakesOn (with_step (next_line s) (unless o step)) rest s' → TakesOn s (cons_option (unless o step) rest) s'
+    → (rest : List BatchStep) (s' : Schedule) → TakesOn (with_step (next_line s) (step_unless_error o step)) rest s' → TakesOn s (cons_option (step_unless_error o step) rest) s'
 by_step_error s step (Some why) is alone rest s' h = passed s rest s' h
 by_step_error s step None is alone rest s' h = record {
-  local = local_on step rest alone h.local;
+  local = local_step_appended step rest alone h.local;
   permitted = (is, subst (λ (l : Locks (List Command)). ArePermitted batches l rest) (sym (same_locks s.world step)) h.permitted);
   leads = h.leads;
   begins_match = λ xs same. h.begins_match (operations_after xs step) (begins_after s.begins (suc s.lines) xs step same);
 }
 
-by_saying : (s : Schedule) (r : Result BatchStep LineError) → IfOk r (λ step. AreLocal batches (step ∷ []))
+local_by_reply : (s : Schedule) (r : Result BatchStep LineError) → IfOk r (λ step. AreLocal batches (step ∷ []))
     → (rest : List BatchStep) (s' : Schedule) → TakesOn (with_step (next_line s) (step_taken s r)) rest s' → TakesOn s (cons_option (step_taken s r) rest) s'
-by_saying s (Ok step) alone rest s' h = by_step_error s step (refusal batches s.world.locks step) refl alone rest s' h
-by_saying s (Err e) alone rest s' h = passed s rest s' h
+local_by_reply s (Ok step) alone rest s' h = by_step_error s step (refusal batches s.world.locks step) refl alone rest s' h
+local_by_reply s (Err e) alone rest s' h = passed s rest s' h
 
 by_blanks : (s : Schedule) (b : Bool) (r : Result BatchStep LineError) → IfOk r (λ step. AreLocal batches (step ∷ []))
     → (rest : List BatchStep) (s' : Schedule) → TakesOn (cond b (next_line s) (with_step (next_line s) (step_taken s r))) rest s' → TakesOn s (cons_option (cond b None (step_taken s r)) rest) s'
 by_blanks s true r alone rest s' h = passed s rest s' h
-by_blanks s false r alone rest s' h = by_saying s r alone rest s' h
+by_blanks s false r alone rest s' h = local_by_reply s r alone rest s' h
 
-lines_take : BatchesAreLocal → (s : Schedule) (lines : List (List ℕ)) → TakesOn s (steps_taken s lines) (after_lines schedule_rules s lines)
-lines_take local s [] = record { local = tt; permitted = tt; leads = refl; begins_match = λ xs same. same }
-lines_take local s (line ∷ lines) =
-    by_blanks s (is_blank_text line) (step_of_line line) (step_local local line) (steps_taken (schedule_rules.after s line) lines) _ (lines_take local (schedule_rules.after s line) lines)
+lines_take_effect : BatchesAreLocal → (s : Schedule) (lines : List (List ℕ)) → TakesOn s (steps_taken s lines) (after_lines schedule_rules s lines)
+lines_take_effect local s [] = record { local = tt; permitted = tt; leads = refl; begins_match = λ xs same. same }
+lines_take_effect local s (line ∷ lines) =
+    by_blanks s (is_blank_text line) (step_of_line line) (step_local local line) (steps_taken (schedule_rules.after s line) lines) _ (lines_take_effect local (schedule_rules.after s line) lines)
 
 -- ---- the theorem
 
 pub schedules_have_one_order : BatchesAreLocal → StepsHaveOneOrder → SchedulesHaveOneOrder
 schedules_have_one_order local one_order lines =
     let steps = steps_taken start_schedule lines in
-    let takes = lines_take local start_schedule lines in
+    let takes = lines_take_effect local start_schedule lines in
     let played : AreValidSteps batches set.empty steps = record { within = empty_within; local = takes.local; permitted = takes.permitted } in
     record { played = played; leads = takes.leads; ordered = one_order set.empty steps played; begins_match = takes.begins_match [] refl }

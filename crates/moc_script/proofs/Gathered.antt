@@ -46,9 +46,9 @@ first_named map lanes input ends (LineTooLong line) are named = absurd named
 first_named map lanes input ends Spawn are named = absurd named
 
 -- an error that is passed on
-pub passed_on : {T : Type 0} (r : Result T RunError) (e : RunError) (Q : RunError → Type 0) → IsErrAnd r (λ f. f ≡ e) → Q e → IfErr r Q
-passed_on (Ok x) e Q same named = tt
-passed_on (Err f) e Q same named = subst Q (sym same) named
+pub error_passed_to_step : {T : Type 0} (r : Result T RunError) (e : RunError) (Q : RunError → Type 0) → IsErrAnd r (λ f. f ≡ e) → Q e → IfErr r Q
+error_passed_to_step (Ok x) e Q same named = tt
+error_passed_to_step (Err f) e Q same named = subst Q (sym same) named
 
 -- an error that is passed on as the result
 pub result_passed_on : {T : Type 0} (r : Result T RunError) (e : RunError) (Q : Result T RunError → Type 0) → IsErrAnd r (λ f. f ≡ e) → Q (Err e) → Q r

@@ -25,9 +25,9 @@ merging-push [] text = append-nil text
 merging-push (t ∷ texts) text = ap (λ l. t ++ l) (merging-push texts text) ∙ sym (append_assoc t (concat texts) text)
 
 -- one more answer
-pub join_more : (lanes lane count : ℕ) (all left : List Texts) (new : Texts) (text answer : List ℕ) → IsMerged lanes all left count text → lane < lanes
+pub merge_next_answer : (lanes lane count : ℕ) (all left : List Texts) (new : Texts) (text answer : List ℕ) → IsMerged lanes all left count text → lane < lanes
     → count % lanes ≡ lane → get_or left lane [] ≡ answer ∷ new → IsMerged lanes all (set left lane new) (count + 1) (text ++ answer)
-join_more lanes lane count all left new text answer was low turn here = record {
+merge_next_answer lanes lane count all left new text answer was low turn here = record {
   done = was.done ++ answer ∷ [];
   text_is = ap (λ l. l ++ answer) was.text_is ∙ sym (merging-push was.done answer);
   count_is = length-append was.done (answer ∷ []) ∙ ap (λ n. n + 1) was.count_is;
@@ -81,7 +81,7 @@ rest_of zero lanes count turn all left text some for was sum =
     ([], left, subst (λ (n : ℕ). IsMerged lanes all left n (text ++ [])) same (subst (λ (t : List ℕ). IsMerged lanes all left turn t) (sym (append-nil text)) was))
 rest_of (suc k) lanes count turn all left text some for was sum =
     by (get_or left (turn % lanes) []) refl (λ answer new is.
-    let more = join_more lanes (turn % lanes) turn all left new text answer was (mod-lt turn some) refl is in
+    let more = merge_next_answer lanes (turn % lanes) turn all left new text answer was (mod-lt turn some) refl is in
     let rest = rest_of k lanes count (turn + 1) all (set left (turn % lanes) new) (text ++ answer) some for more (omega arith) in
     (answer ++ rest.0, rest.1, subst (λ (t : List ℕ). IsMerged lanes all rest.1 count t) (append_assoc text answer rest.0) rest.2))
   where
@@ -123,7 +123,7 @@ module _ (all walks : List Texts) (turn : ℕ) (w0 w w' : SinkState) (pending : 
     count = t.count + 1;
     text = t.text ++ answer;
     sent = t.sent ++ s.sent;
-    merge = join_more (length all) turn t.count all walks new t.text answer t.merge low t.at here;
+    merge = merge_next_answer (length all) turn t.count all walks new t.text answer t.merge low t.at here;
     at = elim (next_rest (length all) t.count (omega arith)) [
       | inl n ↦ elim next [ inl f ↦ omega (arith, n.1, f.1, t.at) | inr f ↦ absurd (omega (arith, n.0, f.0, t.at)) ]
       | inr n ↦ elim next [ inl f ↦ absurd (omega (arith, n.0, f.0, t.at)) | inr f ↦ n.1 ∙ sym f.1 ]
@@ -153,7 +153,7 @@ module _ (all walks : List Texts) (turn : ℕ) (w0 w w' : SinkState) (pending : 
     appended = Accepts-trans w0 w w' t.sent s.sent t.appended s.appended;
     whole = λ count for.
         let some : 0 < length all = omega arith in
-        let more = join_more (length all) turn t.count all walks new t.text answer t.merge low t.at here in
+        let more = merge_next_answer (length all) turn t.count all walks new t.text answer t.merge low t.at here in
         let few = not_more (length all) count (t.count + 1) all (set walks turn new) (t.text ++ answer) some for more in
         let rest = rest_of (count - (t.count + 1)) (length all) count (t.count + 1) all (set walks turn new) (t.text ++ answer) some for more (omega (arith, few)) in
         let whole : (t.text ++ answer) ++ rest.0 ≡ (t.sent ++ s.sent) ++ (s.rest ++ rest.0) =
@@ -169,16 +169,16 @@ joins_fail all following pending w w' r r' is turns count for =
     (turns.sent ++ h.0, h.1, record { sent = turns.sent; rest = h.0 ++ following; parts = append_assoc turns.sent h.0 following; appended = turns.appended; pending = on_err _ r' is })
 
 -- the text after the answers is sent, with their pending bytes
-pub joins_then : {E F : Type 0} (all : List Texts) (following pending : List ℕ) (a b c : SinkState) (r : Result (Unit {0}) F) → SendsTurns {E = E} all a pending b (Ok tt)
+pub merge_after_sending : {E F : Type 0} (all : List Texts) (following pending : List ℕ) (a b c : SinkState) (r : Result (Unit {0}) F) → SendsTurns {E = E} all a pending b (Ok tt)
     → Sends {E = F} (pending ++ following) b [] c r → MergesTo {E = F} all following a c r
-joins_then all following pending a b c r turns sends count for =
+merge_after_sending all following pending a b c r turns sends count for =
     let h = turns.whole count for in
     let whole : turns.sent ++ (pending ++ following) ≡ (turns.sent ++ h.0) ++ following = ap (λ l. turns.sent ++ (l ++ following)) (sym h.2) ∙ sym (append_assoc turns.sent h.0 following) in
     (turns.sent ++ h.0, h.1, subst (λ (l : List ℕ). Sends l a [] c r) whole (Sends-front turns.sent (pending ++ following) [] a b c r turns.appended sends))
 
 -- the texts of a single lane are already merged
-pub join_alone : (texts : Texts) (text : List ℕ) (count : ℕ) (all : List Texts) → all ≡ texts ∷ [] → AreForLines 1 all count → text ≡ concat texts → IsMerged 1 all ([] ∷ []) count text
-join_alone texts text count all alone (lines, many, shared) is =
+pub merge_of_single : (texts : Texts) (text : List ℕ) (count : ℕ) (all : List Texts) → all ≡ texts ∷ [] → AreForLines 1 all count → text ≡ concat texts → IsMerged 1 all ([] ∷ []) count text
+merge_of_single texts text count all alone (lines, many, shared) is =
     let here : get_or all 0 [] ≡ texts = ap (λ l. get_or l 0 []) alone in
     record {
       done = texts;
@@ -197,13 +197,13 @@ only_one (x ∷ []) d one = refl
 only_one (x ∷ y ∷ xs) d one = absurd (omega arith)
 
 -- the same, written with the text after them
-pub joins_alone : {E : Type 0} (all : List Texts) (text following : List ℕ) (a b : SinkState) (r : Result (Unit {0}) E) → length all ≡ 1 → text ≡ concat (get_or all 0 [])
+pub concat_of_single : {E : Type 0} (all : List Texts) (text following : List ℕ) (a b : SinkState) (r : Result (Unit {0}) E) → length all ≡ 1 → text ≡ concat (get_or all 0 [])
     → Sends {E = E} (text ++ following) a [] b r → MergesTo {E = E} all following a b r
-joins_alone all text following a b r one is sends count for = (
+concat_of_single all text following a b r one is sends count for = (
   text,
   record {
     left = [] ∷ [];
-    merge = subst (λ (n : ℕ). IsMerged n all ([] ∷ []) count text) (sym one) (join_alone (get_or all 0 []) text count all (only_one all [] one) (subst (λ (n : ℕ). AreForLines n all count) one for) is);
+    merge = subst (λ (n : ℕ). IsMerged n all ([] ∷ []) count text) (sym one) (merge_of_single (get_or all 0 []) text count all (only_one all [] one) (subst (λ (n : ℕ). AreForLines n all count) one for) is);
   },
   sends,
 )

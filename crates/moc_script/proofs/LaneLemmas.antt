@@ -45,8 +45,8 @@ pub no_call : (client : ℕ) (old new : BatchRecord) (line text : List ℕ) → 
 no_call client old new line text same quiet = ([], inl (refl, quiet), λ made was. ap (λ (r : BatchRecord). r.own) same ∙ was ∙ ap (λ l. record { client = client; made = l } ∷ []) (sym (append-nil made)))
 
 -- a call that ended after waits is one more of the own calls
-pub waited_own : (map : SharedMap) (e : BatchCall) (old new : BatchRecord) → TakesEffectAfterWaiting map e old new → new.own ≡ own_with e old.own
-waited_own map e old new (mid, waited, ends) = ends.own ∙ ap (λ (r : BatchRecord). own_with e r.own) waited.1
+pub own_view_after_waiting : (map : SharedMap) (e : BatchCall) (old new : BatchRecord) → TakesEffectAfterWaiting map e old new → new.own ≡ own_with e old.own
+own_view_after_waiting map e old new (mid, waited, ends) = ends.own ∙ ap (λ (r : BatchRecord). own_with e r.own) waited.1
 
 -- one more call of the record's own client
 pub one_more_call : (client : ℕ) (e : BatchCall) (old new : BatchRecord) → e.client ≡ client → new.own ≡ own_with e old.own → (made : List BatchCall)
@@ -64,7 +64,7 @@ pub makes_call : (map : SharedMap) (old new : Client) (commands : List Command) 
     → TakesEffectAfterWaiting map (call_by (number_of old) commands replies) (record_of old) (record_of new) → MakesCall commands replies old new
 makes_call map old new commands replies number effect =
     let e : BatchCall = call_by (number_of old) commands replies in
-    record { number = number; made = λ made was. one_more_call (number_of old) e (record_of old) (record_of new) refl (waited_own map e (record_of old) (record_of new) effect) made was }
+    record { number = number; made = λ made was. one_more_call (number_of old) e (record_of old) (record_of new) refl (own_view_after_waiting map e (record_of old) (record_of new) effect) made was }
 
 module _ {S : Type 0} (s s' : S) (map_of : S → SharedMap) (client_of : S → Client) where
   -- commands are executed on the same map, by one call of the client

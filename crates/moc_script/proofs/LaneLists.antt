@@ -21,8 +21,8 @@ next_rest n j some =
     ]
 
 -- elements dealt to lanes in turn, the first of them to the lane j mod lanes
-abbrev dealt_from : {A : Type 0} → ℕ → ℕ → List A → List (InLane A)
-dealt_from {A} lanes j xs = map (λ (numbered : ℕ × A). put_in_lane (numbered.0 % lanes) numbered.1) (enumerate_from j xs)
+abbrev lanes_from : {A : Type 0} → ℕ → ℕ → List A → List (InLane A)
+lanes_from {A} lanes j xs = map (λ (numbered : ℕ × A). put_in_lane (numbered.0 % lanes) numbered.1) (enumerate_from j xs)
 
 module _ {A : Type 0} where
   pub in_lane-append : (lane : ℕ) (xs ys : List (InLane A)) → in_lane lane (xs ++ ys) ≡ in_lane lane xs ++ in_lane lane ys
@@ -34,21 +34,21 @@ module _ {A : Type 0} where
       by true rest = ap (λ l. x.it ∷ l) rest
       by false rest = rest
 
-  dealt_from-push : (lanes j : ℕ) (xs : List A) (x : A) → dealt_from lanes j (xs ++ x ∷ []) ≡ dealt_from lanes j xs ++ put_in_lane ((j + length xs) % lanes) x ∷ []
-  dealt_from-push lanes j [] x = let same : j ≡ j + 0 = omega arith in ap (λ (n : ℕ). put_in_lane (n % lanes) x ∷ []) same
-  dealt_from-push lanes j (y ∷ xs) x =
+  lanes_from-push : (lanes j : ℕ) (xs : List A) (x : A) → lanes_from lanes j (xs ++ x ∷ []) ≡ lanes_from lanes j xs ++ put_in_lane ((j + length xs) % lanes) x ∷ []
+  lanes_from-push lanes j [] x = let same : j ≡ j + 0 = omega arith in ap (λ (n : ℕ). put_in_lane (n % lanes) x ∷ []) same
+  lanes_from-push lanes j (y ∷ xs) x =
       let same : (j + 1) + length xs ≡ j + length (y ∷ xs) = omega arith in
-      ap (λ l. put_in_lane (j % lanes) y ∷ l) (dealt_from-push lanes (j + 1) xs x ∙ ap (λ (n : ℕ). dealt_from lanes (j + 1) xs ++ put_in_lane (n % lanes) x ∷ []) same)
+      ap (λ l. put_in_lane (j % lanes) y ∷ l) (lanes_from-push lanes (j + 1) xs x ∙ ap (λ (n : ℕ). lanes_from lanes (j + 1) xs ++ put_in_lane (n % lanes) x ∷ []) same)
 
   -- one more element goes to the next lane
   pub dealt-push : (lanes : ℕ) (xs : List A) (x : A) → dealt lanes (xs ++ x ∷ []) ≡ dealt lanes xs ++ put_in_lane (length xs % lanes) x ∷ []
-  dealt-push lanes xs x = let same : 0 + length xs ≡ length xs = omega arith in dealt_from-push lanes 0 xs x ∙ ap (λ (n : ℕ). dealt lanes xs ++ put_in_lane (n % lanes) x ∷ []) same
+  dealt-push lanes xs x = let same : 0 + length xs ≡ length xs = omega arith in lanes_from-push lanes 0 xs x ∙ ap (λ (n : ℕ). dealt lanes xs ++ put_in_lane (n % lanes) x ∷ []) same
 
   -- a single lane has all elements
-  pub dealt-alone : (j : ℕ) (xs : List A) → in_lane 0 (dealt_from 1 j xs) ≡ xs
+  pub dealt-alone : (j : ℕ) (xs : List A) → in_lane 0 (lanes_from 1 j xs) ≡ xs
   dealt-alone j [] = refl
   dealt-alone j (x ∷ xs) =
-      ap (λ (lane : ℕ). if lane == 0 then x ∷ in_lane 0 (dealt_from 1 (j + 1) xs) else in_lane 0 (dealt_from 1 (j + 1) xs)) (mod-one j)
+      ap (λ (lane : ℕ). if lane == 0 then x ∷ in_lane 0 (lanes_from 1 (j + 1) xs) else in_lane 0 (lanes_from 1 (j + 1) xs)) (mod-one j)
       ∙ ap (λ l. x ∷ l) (dealt-alone (j + 1) xs)
 
   pub in_lane-one : (lane : ℕ) (x : A) → in_lane lane (put_in_lane lane x ∷ []) ≡ x ∷ []
@@ -67,11 +67,11 @@ module _ {A : Type 0} where
       ap (in_lane lane) (dealt-push lanes xs x) ∙ in_lane-append lane (dealt lanes xs) (put_in_lane (length xs % lanes) x ∷ [])
       ∙ ap (λ l. in_lane lane (dealt lanes xs) ++ l) (in_lane-other (length xs % lanes) lane x other) ∙ append-nil (in_lane lane (dealt lanes xs))
 
-  none_from : (lanes j lane : ℕ) (xs : List A) → 0 < lanes → lanes ≤ lane → in_lane lane (dealt_from lanes j xs) ≡ []
+  none_from : (lanes j lane : ℕ) (xs : List A) → 0 < lanes → lanes ≤ lane → in_lane lane (lanes_from lanes j xs) ≡ []
   none_from lanes j lane [] some high = refl
   none_from lanes j lane (x ∷ xs) some high =
       let other : j % lanes ≢ lane = λ e. absurd (omega arith) in
-      ap (λ (b : Bool). if b then x ∷ in_lane lane (dealt_from lanes (j + 1) xs) else in_lane lane (dealt_from lanes (j + 1) xs)) (ne_eqb (j % lanes) lane other)
+      ap (λ (b : Bool). if b then x ∷ in_lane lane (lanes_from lanes (j + 1) xs) else in_lane lane (lanes_from lanes (j + 1) xs)) (ne_eqb (j % lanes) lane other)
       ∙ none_from lanes (j + 1) lane xs some high
 
   -- a lane that does not exist has no elements
@@ -79,14 +79,14 @@ module _ {A : Type 0} where
   none_above lanes lane xs some high = none_from lanes 0 lane xs some high
 
 module _ {A B : Type 0} where
-  as_long_from : (lanes j lane : ℕ) (xs : List A) (ys : List B) → length xs ≡ length ys → length (in_lane lane (dealt_from lanes j xs)) ≡ length (in_lane lane (dealt_from lanes j ys))
+  as_long_from : (lanes j lane : ℕ) (xs : List A) (ys : List B) → length xs ≡ length ys → length (in_lane lane (lanes_from lanes j xs)) ≡ length (in_lane lane (lanes_from lanes j ys))
   as_long_from lanes j lane [] [] same = refl
   as_long_from lanes j lane [] (y ∷ ys) same = absurd (omega arith)
   as_long_from lanes j lane (x ∷ xs) [] same = absurd (omega arith)
   as_long_from lanes j lane (x ∷ xs) (y ∷ ys) same = by ((j % lanes) == lane) (as_long_from lanes (j + 1) lane xs ys (omega arith))
     where
-      by : (b : Bool) → length (in_lane lane (dealt_from lanes (j + 1) xs)) ≡ length (in_lane lane (dealt_from lanes (j + 1) ys))
-          → length (if b then x ∷ in_lane lane (dealt_from lanes (j + 1) xs) else in_lane lane (dealt_from lanes (j + 1) xs)) ≡ length (if b then y ∷ in_lane lane (dealt_from lanes (j + 1) ys) else in_lane lane (dealt_from lanes (j + 1) ys))
+      by : (b : Bool) → length (in_lane lane (lanes_from lanes (j + 1) xs)) ≡ length (in_lane lane (lanes_from lanes (j + 1) ys))
+          → length (if b then x ∷ in_lane lane (lanes_from lanes (j + 1) xs) else in_lane lane (lanes_from lanes (j + 1) xs)) ≡ length (if b then y ∷ in_lane lane (lanes_from lanes (j + 1) ys) else in_lane lane (lanes_from lanes (j + 1) ys))
       by true rest = ap suc rest
       by false rest = rest
 
@@ -95,12 +95,12 @@ module _ {A B : Type 0} where
   as_long lanes lane xs ys same = as_long_from lanes 0 lane xs ys same
 
 module _ {A : Type 0} where
-  grows_from : (lanes j lane : ℕ) (xs more : List A) → length (in_lane lane (dealt_from lanes j xs)) ≤ length (in_lane lane (dealt_from lanes j (xs ++ more)))
+  grows_from : (lanes j lane : ℕ) (xs more : List A) → length (in_lane lane (lanes_from lanes j xs)) ≤ length (in_lane lane (lanes_from lanes j (xs ++ more)))
   grows_from lanes j lane [] more = omega arith
   grows_from lanes j lane (x ∷ xs) more = by ((j % lanes) == lane) (grows_from lanes (j + 1) lane xs more)
     where
-      by : (b : Bool) → length (in_lane lane (dealt_from lanes (j + 1) xs)) ≤ length (in_lane lane (dealt_from lanes (j + 1) (xs ++ more)))
-          → length (if b then x ∷ in_lane lane (dealt_from lanes (j + 1) xs) else in_lane lane (dealt_from lanes (j + 1) xs)) ≤ length (if b then x ∷ in_lane lane (dealt_from lanes (j + 1) (xs ++ more)) else in_lane lane (dealt_from lanes (j + 1) (xs ++ more)))
+      by : (b : Bool) → length (in_lane lane (lanes_from lanes (j + 1) xs)) ≤ length (in_lane lane (lanes_from lanes (j + 1) (xs ++ more)))
+          → length (if b then x ∷ in_lane lane (lanes_from lanes (j + 1) xs) else in_lane lane (lanes_from lanes (j + 1) xs)) ≤ length (if b then x ∷ in_lane lane (lanes_from lanes (j + 1) (xs ++ more)) else in_lane lane (lanes_from lanes (j + 1) (xs ++ more)))
       by true rest = omega arith
       by false rest = rest
 
@@ -134,7 +134,7 @@ module _ {A : Type 0} where
 module _ {A : Type 0} where
   turns_from : (others j lane turn : ℕ) (xs : List A) → turn ≤ others → lane ≤ others
       → (j % suc others + turn ≡ lane) ⊎ (j % suc others + turn ≡ lane + suc others)
-      → in_turn others turn xs ≡ in_lane lane (dealt_from (suc others) j xs)
+      → in_turn others turn xs ≡ in_lane lane (lanes_from (suc others) j xs)
   turns_from others j lane turn [] few low at = refl
   turns_from others j lane zero (x ∷ xs) few low at =
       let inside : j % suc others < suc others = mod-lt j (omega arith) in
@@ -142,7 +142,7 @@ module _ {A : Type 0} where
       let next : ((j + 1) % suc others + others ≡ lane) ⊎ ((j + 1) % suc others + others ≡ lane + suc others) =
       elim (next_rest (suc others) j (omega arith)) [ inl n ↦ inr (omega (arith, n.1)) | inr n ↦ inl (omega (arith, n.0, n.1)) ] in
       ap (λ l. x ∷ l) (turns_from others (j + 1) lane others xs (omega arith) low next)
-      ∙ ap (λ (b : Bool). if b then x ∷ in_lane lane (dealt_from (suc others) (j + 1) xs) else in_lane lane (dealt_from (suc others) (j + 1) xs)) (sym (eq-eqb (j % suc others) lane here))
+      ∙ ap (λ (b : Bool). if b then x ∷ in_lane lane (lanes_from (suc others) (j + 1) xs) else in_lane lane (lanes_from (suc others) (j + 1) xs)) (sym (eq-eqb (j % suc others) lane here))
   turns_from others j lane (suc turn) (x ∷ xs) few low at =
       let inside : j % suc others < suc others = mod-lt j (omega arith) in
       let other : j % suc others ≢ lane = λ e. elim at [ inl f ↦ absurd (omega arith) | inr f ↦ absurd (omega arith) ] in
@@ -152,7 +152,7 @@ module _ {A : Type 0} where
         | inr n ↦ elim at [ inl f ↦ absurd (omega (arith, n.0)) | inr f ↦ inl (omega (arith, n.0, n.1)) ]
       ] in
       turns_from others (j + 1) lane turn xs (omega arith) low next
-      ∙ ap (λ (b : Bool). if b then x ∷ in_lane lane (dealt_from (suc others) (j + 1) xs) else in_lane lane (dealt_from (suc others) (j + 1) xs)) (sym (ne_eqb (j % suc others) lane other))
+      ∙ ap (λ (b : Bool). if b then x ∷ in_lane lane (lanes_from (suc others) (j + 1) xs) else in_lane lane (lanes_from (suc others) (j + 1) xs)) (sym (ne_eqb (j % suc others) lane other))
 
   -- the first element of a lane comes after one of each lane before it, and each other element after one of all other
   -- lanes

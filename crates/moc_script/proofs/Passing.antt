@@ -16,15 +16,15 @@ use Rattle.moc_script.specs.declared.crews.lane.LaneOutput.{LaneOutput}
 use Rattle.moc_script.specs.declared.crews.lane.LaneFailure.{LaneFailure}
 use Rattle.moc_script.specs.declared.crews.lane.LaneFailure.TheVariants.{OutOfMemory, Stopped}
 
-onto_short : (b : ℕ) (lines : List (List ℕ)) → length (onto_first b lines) ≤ suc (length lines)
-onto_short b [] = omega arith
-onto_short b (line ∷ lines) = omega arith
+line_count_after_prepend : (b : ℕ) (lines : List (List ℕ)) → length (onto_first b lines) ≤ suc (length lines)
+line_count_after_prepend b [] = omega arith
+line_count_after_prepend b (line ∷ lines) = omega arith
 
 -- a text does not have more lines than bytes
-pub lines_few : (text : List ℕ) → length (lines_of text) ≤ length text
-lines_few [] = omega arith
-lines_few (b ∷ text) =
-    let few = lines_few text in
+pub line_count_bounded : (text : List ℕ) → length (lines_of text) ≤ length text
+line_count_bounded [] = omega arith
+line_count_bounded (b ∷ text) =
+    let few = line_count_bounded text in
     let onto : length (onto_first b (lines_of text)) ≤ suc (length text) = by (lines_of text) few in
     elim (is_line_feed b) as (λ v. length (cond v ([] ∷ lines_of text) (onto_first b (lines_of text))) ≤ suc (length text)) [
       | true ↦ omega (arith, few)
@@ -32,11 +32,11 @@ lines_few (b ∷ text) =
     ]
   where
     by : (lines : List (List ℕ)) → length lines ≤ length text → length (onto_first b lines) ≤ suc (length text)
-    by lines few = omega (arith, few, onto_short b lines)
+    by lines few = omega (arith, few, line_count_after_prepend b lines)
 
 -- no line is passed yet
-pub passed_none : (text bytes : List ℕ) (count : ℕ) → bytes ≡ text → count ≡ 0 → HasPassed text count bytes
-passed_none text bytes count all none = record { passed = []; lines = ap lines_of (sym all); count_is = sym none }
+pub nothing_passed_at_start : (text bytes : List ℕ) (count : ℕ) → bytes ≡ text → count ≡ 0 → HasPassed text count bytes
+nothing_passed_at_start text bytes count all none = record { passed = []; lines = ap lines_of (sym all); count_is = sym none }
 
 module _ (text : List ℕ) (old new : LaneLines) (number : ℕ) (line : List ℕ) (was : HasPassed text old.passed old.bytes.now) (next : Passes old number line new) where
   all_lines : lines_of text ≡ (was.passed ++ next.more) ++ line ∷ lines_of new.bytes.now
@@ -73,34 +73,34 @@ Ends = List (Result LaneOutput LaneFailure)
 err_of : (x y : LaneFailure) → (let end : Result LaneOutput LaneFailure = Err x in end ≡ Err y) → x ≡ y
 err_of x y same = cc
 
-no_end : (end : LaneOutput) (e : LaneFailure) → (let it : Result LaneOutput LaneFailure = Ok end in it ≡ Err e) → ⊥
-no_end end e same = cc
+never_ends : (end : LaneOutput) (e : LaneFailure) → (let it : Result LaneOutput LaneFailure = Ok end in it ≡ Err e) → ⊥
+never_ends end e same = cc
 
 -- precedence is transitive
-goes_on : (a b c : LaneFailure) → Precedes a b → Precedes b c → Precedes a c
-goes_on (OutOfMemory a) (OutOfMemory b) (OutOfMemory c) first second = omega (arith, first, second)
-goes_on (OutOfMemory a) (OutOfMemory b) (Stopped c) first second = tt
-goes_on (OutOfMemory a) (Stopped b) (OutOfMemory c) first second = absurd second
-goes_on (OutOfMemory a) (Stopped b) (Stopped c) first second = tt
-goes_on (Stopped a) (OutOfMemory b) c first second = absurd first
-goes_on (Stopped a) (Stopped b) (OutOfMemory c) first second = absurd second
-goes_on (Stopped a) (Stopped b) (Stopped c) first second = omega (arith, first, second)
+precedes_transitive : (a b c : LaneFailure) → Precedes a b → Precedes b c → Precedes a c
+precedes_transitive (OutOfMemory a) (OutOfMemory b) (OutOfMemory c) first second = omega (arith, first, second)
+precedes_transitive (OutOfMemory a) (OutOfMemory b) (Stopped c) first second = tt
+precedes_transitive (OutOfMemory a) (Stopped b) (OutOfMemory c) first second = absurd second
+precedes_transitive (OutOfMemory a) (Stopped b) (Stopped c) first second = tt
+precedes_transitive (Stopped a) (OutOfMemory b) c first second = absurd first
+precedes_transitive (Stopped a) (Stopped b) (OutOfMemory c) first second = absurd second
+precedes_transitive (Stopped a) (Stopped b) (Stopped c) first second = omega (arith, first, second)
 
-goes_itself : (a : LaneFailure) → Precedes a a
-goes_itself (OutOfMemory a) = omega arith
-goes_itself (Stopped a) = omega arith
+precedes_itself : (a : LaneFailure) → Precedes a a
+precedes_itself (OutOfMemory a) = omega arith
+precedes_itself (Stopped a) = omega arith
 
 -- a success does not change the first failure
-first_done : (ends : Ends) (first : Option LaneFailure) (end : LaneOutput) → IsFirstFailure ends first → IsFirstFailure (ends ++ Ok end ∷ []) first
-first_done ends None end was = λ e here. elim (Contains-push_cases ends (Ok end) (Err e) here) [
+first_failure_after_ok : (ends : Ends) (first : Option LaneFailure) (end : LaneOutput) → IsFirstFailure ends first → IsFirstFailure (ends ++ Ok end ∷ []) first
+first_failure_after_ok ends None end was = λ e here. elim (Contains-push_cases ends (Ok end) (Err e) here) [
   | inl before ↦ was e before
-  | inr same ↦ no_end end e same
+  | inr same ↦ never_ends end e same
 ]
-first_done ends (Some first) end was = (
+first_failure_after_ok ends (Some first) end was = (
   Contains-append_left ends (Ok end ∷ []) (Err first) was.0,
   λ e here. elim (Contains-push_cases ends (Ok end) (Err e) here) [
     | inl before ↦ was.1 e before
-    | inr same ↦ absurd (no_end end e same)
+    | inr same ↦ absurd (never_ends end e same)
   ],
 )
 
@@ -110,7 +110,7 @@ first_alone ends next none = (
   Contains-push ends (Err next),
   λ e here. elim (Contains-push_cases ends (Err next) (Err e) here) [
     | inl before ↦ absurd (none e before)
-    | inr same ↦ subst (Precedes next) (err_of next e same) (goes_itself next)
+    | inr same ↦ subst (Precedes next) (err_of next e same) (precedes_itself next)
   ],
 )
 
@@ -123,7 +123,7 @@ first_of_both ends first next new was either before_first before_next = (
     | inr same ↦ subst (λ (e : LaneFailure). Contains (ends ++ Err next ∷ []) (Err e)) (sym same) (Contains-push ends (Err next))
   ],
   λ e here. elim (Contains-push_cases ends (Err next) (Err e) here) [
-    | inl before ↦ goes_on new first e before_first (was.1 e before)
+    | inl before ↦ precedes_transitive new first e before_first (was.1 e before)
     | inr same ↦ subst (Precedes new) (err_of next e same) before_next
   ],
 )
@@ -136,7 +136,7 @@ module _ (ends : Ends) (i : ℕ) (x : Result LaneOutput LaneFailure) (low : i < 
 
   -- the result of a lane that has answered its lines
   pub end_done : (end : LaneOutput) → x ≡ Ok end → new ≡ old → IsFirstFailure (take (i + 1) ends) new
-  end_done end is same = one_more (Ok end) old is same (first_done (take i ends) old end was)
+  end_done end is same = one_more (Ok end) old is same (first_failure_after_ok (take i ends) old end was)
 
   -- the first failure
   pub end_alone : (next : LaneFailure) → x ≡ Err next → old ≡ None → new ≡ Some next → IsFirstFailure (take (i + 1) ends) new

@@ -13,13 +13,13 @@ use Rattle.moc_script.proofs.Single.{first_then}
 use Rattle.moc_script.specs.Theorems.{is_at_sign, LinesWithoutOrder}
 use Rattle.moc_lines.specs.declared.error.LineError.TheVariants.{EmptyCommand, TooManyCommands}
 
-pub neither : (a b : Bool) → a || b ≡ false → (a ≡ false) × (b ≡ false)
-neither true b e = cc
-neither false b e = (refl, e)
+pub both_false : (a b : Bool) → a || b ≡ false → (a ≡ false) × (b ≡ false)
+both_false true b e = cc
+both_false false b e = (refl, e)
 
 module _ (p : ℕ → Bool) where
   none_in_parts : (n : ℕ) (xs : List ℕ) → list_any p xs ≡ false → (list_any p (take n xs) ≡ false) × (list_any p (drop n xs) ≡ false)
-  none_in_parts n xs none = neither _ _ (sym (list_any-append p (take n xs) (drop n xs)) ∙ ap (list_any p) (take-append-drop n xs) ∙ none)
+  none_in_parts n xs none = both_false _ _ (sym (list_any-append p (take n xs) (drop n xs)) ∙ ap (list_any p) (take-append-drop n xs) ∙ none)
 
   pub onto : (x : ℕ) (parts : List (List ℕ)) → p x ≡ false → AllByRecursion (λ l. list_any p l ≡ false) parts → AllByRecursion (λ l. list_any p l ≡ false) (onto_first x parts)
   onto x [] other each = (ap (λ b. b || false) other, tt)
@@ -28,7 +28,7 @@ module _ (p : ℕ → Bool) where
   none_in_pieces : (line : List ℕ) → list_any p line ≡ false → AllByRecursion (λ l. list_any p l ≡ false) (pieces_of line)
   none_in_pieces [] none = (refl, tt)
   none_in_pieces (x ∷ line) none =
-      let split = neither (p x) (list_any p line) none in
+      let split = both_false (p x) (list_any p line) none in
       let later = none_in_pieces line split.1 in
       let P : List (List ℕ) → Type 0 = AllByRecursion (λ l. list_any p l ≡ false) in
       let step : (b : Bool) → is_semicolon x ≡ b → P (pieces_of (x ∷ line)) =
@@ -48,7 +48,7 @@ none_after p text none =
 operand_by-plain : (word text : List ℕ) → list_any is_at_sign word ≡ false → operand_by word text ≡ plain_operand_of text
 operand_by-plain [] text none = refl
 operand_by-plain (b ∷ field) text none =
-    ap (λ c. cond c (ordered_operand_of field (after_word text)) (plain_operand_of text)) (neither (is_at_sign b) (list_any is_at_sign field) none).0
+    ap (λ c. cond c (ordered_operand_of field (after_word text)) (plain_operand_of text)) (both_false (is_at_sign b) (list_any is_at_sign field) none).0
 
 denotes_plain : (piece : List ℕ) → list_any is_at_sign piece ≡ false → command_of piece ≡ command_by plain_operand_of piece
 denotes_plain piece none =

@@ -21,13 +21,13 @@ use Rattle.moc_script.specs.Theorems.{plain_rules, is_at_sign, one_command}
 use Rattle.moc_script.specs.Theorems.{ScriptsOfSingleCommands, ScriptsWithoutOrder, SchedulesOfSingleCommands}
 use Rattle.moc_script.specs.Theorems.{SchedulesWithoutOrder}
 use Rattle.moc_script.proofs.Single.{batch-single, lines_of_one_command}
-use Rattle.moc_script.proofs.Unordered.{neither, onto, none_after, batch_plain, lines_without_order}
+use Rattle.moc_script.proofs.Unordered.{both_false, onto, none_after, batch_plain, lines_without_order}
 
 -- a test that no byte of a text passes, no byte of its lines passes
 none_in_lines : (p : ℕ → Bool) (text : List ℕ) → list_any p text ≡ false → AllByRecursion (λ l. list_any p l ≡ false) (lines_of text)
 none_in_lines p [] none = tt
 none_in_lines p (x ∷ text) none =
-    let split = neither (p x) (list_any p text) none in
+    let split = both_false (p x) (list_any p text) none in
     let later = none_in_lines p text split.1 in
     elim (is_line_feed x) as (λ v. AllByRecursion (λ l. list_any p l ≡ false) (cond v ([] ∷ lines_of text) (onto_first x (lines_of text)))) [
       | true ↦ (refl, later)
@@ -100,8 +100,8 @@ module _ (denotes others : List ℕ → Result BatchStep LineError) (Q : List �
       (same_left (step_rules denotes) (step_rules others) Q same_step start_schedule lines each)
 
 -- Lines with equal batches have equal steps.
-begin_alike : (batch other : List ℕ → Result (List Command) LineError) (text : List ℕ) → (is_blank_text (after_word text) ≡ false → batch (after_word text) ≡ other (after_word text)) → begin_of batch text ≡ begin_of other text
-begin_alike batch other text same =
+begin_of_equal_batches : (batch other : List ℕ → Result (List Command) LineError) (text : List ℕ) → (is_blank_text (after_word text) ≡ false → batch (after_word text) ≡ other (after_word text)) → begin_of batch text ≡ begin_of other text
+begin_of_equal_batches batch other text same =
     let begins_match : Result (List Command) LineError → Result BatchStep LineError = λ r. client_by (word_of text) >>= (λ c. r >>= (λ commands. Ok (Begin c commands))) in
     let step : (b : Bool) → is_blank_text (after_word text) ≡ b → cond b (Err WrongCount) (begins_match (batch (after_word text))) ≡ cond b (Err WrongCount) (begins_match (other (after_word text))) =
     λ b. elim b as (λ v. is_blank_text (after_word text) ≡ v → cond v (Err WrongCount) (begins_match (batch (after_word text))) ≡ cond v (Err WrongCount) (begins_match (other (after_word text)))) [
@@ -110,14 +110,14 @@ begin_alike batch other text same =
     ] in
     step (is_blank_text (after_word text)) refl
 
-steps_alike : (batch other : List ℕ → Result (List Command) LineError) (line : List ℕ) → (is_blank_text (after_word (after_word line)) ≡ false → batch (after_word (after_word line)) ≡ other (after_word (after_word line))) → step_with_batches batch line ≡ step_with_batches other line
-steps_alike batch other line same =
-    ap (λ r. cond (bytes_eq (word_of line) (codes "begin")) r (other_step (word_of line) (after_word line))) (begin_alike batch other (after_word line) same)
+step_of_equal_batches : (batch other : List ℕ → Result (List Command) LineError) (line : List ℕ) → (is_blank_text (after_word (after_word line)) ≡ false → batch (after_word (after_word line)) ≡ other (after_word (after_word line))) → step_with_batches batch line ≡ step_with_batches other line
+step_of_equal_batches batch other line same =
+    ap (λ r. cond (bytes_eq (word_of line) (codes "begin")) r (other_step (word_of line) (after_word line))) (begin_of_equal_batches batch other (after_word line) same)
 
 pub schedules_of_single_commands : SchedulesOfSingleCommands
 schedules_of_single_commands input none =
     same_schedule step_of_line (step_with_batches one_command) (λ l. list_any is_semicolon l ≡ false)
-    (λ line line_none. steps_alike (batch_of command_of) one_command line (one_alike (after_word (after_word line)) (none_after is_semicolon (after_word line) (none_after is_semicolon line line_none).1).1))
+    (λ line line_none. step_of_equal_batches (batch_of command_of) one_command line (one_alike (after_word (after_word line)) (none_after is_semicolon (after_word line) (none_after is_semicolon line line_none).1).1))
     input (none_in_lines is_semicolon input none)
   where
     one_alike : (text : List ℕ) → list_any is_semicolon text ≡ false → is_blank_text text ≡ false → batch_of command_of text ≡ one_command text
@@ -126,5 +126,5 @@ schedules_of_single_commands input none =
 pub schedules_without_order : SchedulesWithoutOrder
 schedules_without_order input none =
     same_schedule step_of_line (step_with_batches (batch_of (command_by plain_operand_of))) (λ l. list_any is_at_sign l ≡ false)
-    (λ line line_none. steps_alike (batch_of command_of) (batch_of (command_by plain_operand_of)) line (λ some. batch_plain (after_word (after_word line)) (none_after is_at_sign (after_word line) (none_after is_at_sign line line_none).1).1))
+    (λ line line_none. step_of_equal_batches (batch_of command_of) (batch_of (command_by plain_operand_of)) line (λ some. batch_plain (after_word (after_word line)) (none_after is_at_sign (after_word line) (none_after is_at_sign line line_none).1).1))
     input (none_in_lines is_at_sign input none)

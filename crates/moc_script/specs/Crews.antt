@@ -1,4 +1,4 @@
--- The texts with which a crew of lanes may answer, and what it has written when it ends.
+-- The texts that a crew of lanes may write, and what it has written when it ends.
 use Rattle.std.specs.Prelude.{◌≡◌, ◌==◌, ◌%◌, ℕ, List, [], ◌∷◌, if◌then◌else◌, ◌⊎◌, ◌<◌, ◌≤◌, ◌+◌, ◌-◌, false}
 use Rattle.std.specs.Prelude.{◌++◌, length, slice_index_or, Result, Ok, Err, not, filter, fold, map}
 use Rattle.std.specs.FinSet as set
@@ -61,7 +61,7 @@ module _ {S : Type 0} (rules : Rules S) where
 abbrev pub cover_line : NumberSet → List ℕ
 cover_line a = cover_text a ++ 10 ∷ []
 
--- A text with which this number of lanes may answer these lines. In one order of all lines, which keeps the order of
+-- A text that this number of lanes may write for these lines. In one order of all lines, which keeps the order of
 -- each lane, each is applied to the set after those before it; the set is empty at first. The text is their answers, in
 -- the order of the lines, and the cover of the set after them.
 pub record IsCrewText (lanes : ℕ) (lines : List (List ℕ)) (text : List ℕ) : Type 0 where

@@ -45,7 +45,7 @@ struct CrewOutput {
     cover: Vec<u8>,
 }
 
-/// Answers the lines by the lanes.
+/// Processes the lines on the lanes.
 fn answer_all<R: Threads + Wait + Sync, G: Gate + Sync>(
     rt: &R,
     alloc: Global,
@@ -81,7 +81,7 @@ fn answer_all<R: Threads + Wait + Sync, G: Gate + Sync>(
     }
 }
 
-/// Closes the map of lanes that have answered their lines. Returns the answers, and the cover of the set after them.
+/// Closes the map of lanes that have processed their lines. Returns the answers, and the cover of the set after them.
 fn close_map(
     alloc: Global,
     map: SharedMap,
@@ -122,7 +122,7 @@ fn line_of_cover(alloc: Global, set: &Coverage) -> Result<Vec<u8>, Memory>
     Ok(line)
 }
 
-/// Answers a script by several lanes. Each lane is a thread with its own client of one shared map, which is empty at
+/// Runs a script on several lanes. Each lane is a thread with its own client of one shared map, which is empty at
 /// first; a single lane runs on the caller's thread. `rt` starts the threads, and lets them wait for each other.
 ///
 /// All lines are read first. The lines that are not blank are dealt to the lanes in turn, the first to lane 0. Lines
@@ -136,7 +136,7 @@ fn line_of_cover(alloc: Global, set: &Coverage) -> Result<Vec<u8>, Memory>
 ///
 /// # Errors
 /// If the call fails, nothing is written, except that for `Write` the output is as much of the text as the writer
-/// accepted. `Memory` names the line that was read or answered, and the least one if several lanes failed. It names 0
+/// accepted. `Memory` names the line that was read or processed, and the least one if several lanes failed. It names 0
 /// if the allocation failed before the first line was read, or for the map and the threads, and one more than the
 /// number of lines if it failed after all lines. `Spawn` takes precedence over `Memory` of a lane. Once an allocation
 /// or the start of a thread fails, each lane stops before its next line.
@@ -157,7 +157,7 @@ pub fn crew<R: Source, W: Sink, G: Gate + Sync, T: Threads + Wait + Sync>(
     requires reader { R.mark reader.old ≡ false }
     requires writer { W.mark writer.old ≡ false }
 
-    // What is written is a text with which this number of lanes may answer the input, as far as the result states.
+    // What is written is a text that this number of lanes may write for the input, as far as the result states.
     ensures ends { CrewEnds (lane_count lanes)
         (R.reading reader.old) (R.reading reader.new) (W.writing writer.old) (W.writing writer.new) result }
 

@@ -1,4 +1,4 @@
-//! Schedules of steps, scripts that several threads answer, and theorems on both languages.
+//! Schedules of steps, scripts that run on several threads, and theorems on both languages.
 #![tactic(auto)]
 
 mod crews;

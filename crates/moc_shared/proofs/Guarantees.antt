@@ -20,8 +20,8 @@ use Rattle.moc_parts.specs.Batches.{footprint_of_all}
 use Rattle.moc_shared.specs.Batches.{BatchCall, BatchRecord, batch_answer}
 use Rattle.moc_shared.specs.Clients.{start_of, clients_of, record_of, IsClientOf, IsHoldingOf, SeeSameHistory, TakesIn}
 use Rattle.moc_shared.specs.Clients.{AddsMarks, TakesEffect, MissesPart, HasNoEffect, FailsOutOfMemory, FailsOutOfMemoryHolding}
-use Rattle.moc_shared.proofs.Basics.{here, there, none_in, cons_cases, starts_itself, stood_with_call}
-use Rattle.moc_shared.proofs.SlotIndices.{noted_touched}
+use Rattle.moc_shared.proofs.Basics.{here, there, empty_range_or, cons_cases, starts_itself, stood_with_call}
+use Rattle.moc_shared.proofs.SlotIndices.{slot_index_of_note}
 
 abbrev Same : ℕ × ℕ → ℕ × ℕ → Type 0
 Same x y = x ≡ y
@@ -30,35 +30,35 @@ Same x y = x ≡ y
 abbrev marks_of : ℕ → List PartNote → List (ℕ × ℕ)
 marks_of n notes = map (λ t. (n, t.part)) notes
 
-marked : (n : ℕ) (notes : List PartNote) (c b : ℕ) → Contains (marks_of n notes) (c, b) → (c ≡ n)
+mark_of_client : (n : ℕ) (notes : List PartNote) (c b : ℕ) → Contains (marks_of n notes) (c, b) → (c ≡ n)
     × ((y : Option NumberSet) × Contains notes (note b y))
-marked n [] c b h = absurd (none_in (c, b) h)
-marked n (t ∷ ts) c b h = ⊎_elim
+mark_of_client n [] c b h = absurd (empty_range_or (c, b) h)
+mark_of_client n (t ∷ ts) c b h = ⊎_elim
     (λ (e : Same (n, t.part) (c, b)). (
       sym (ap (λ (z : ℕ × ℕ). z.0) e),
       (t.content, subst (λ (k : ℕ). Contains (t ∷ ts) (note k t.content)) (ap (λ (z : ℕ × ℕ). z.1) e) (here t ts)),
     ))
-    (λ (m : Contains (marks_of n ts) (c, b)). let r = marked n ts c b m in
+    (λ (m : Contains (marks_of n ts) (c, b)). let r = mark_of_client n ts c b m in
     (r.0, (r.1.0, there t ts (note b r.1.0) r.1.1)))
     (cons_cases (n, t.part) (marks_of n ts) (c, b) h)
 
 -- the marks of the taken parts
-adds : (op : List Command) (v : ClientView) (notes : List PartNote)
+marks_of_notes_added : (op : List Command) (v : ClientView) (notes : List PartNote)
     → ((p : ℕ) (y : Option NumberSet) → Contains notes (note p y) → IsTrue (footprint_of_all op p))
     → AddsMarks op v.mine (with_parts v notes).mine
-adds op v notes touched = (
+marks_of_notes_added op v notes touched = (
   marks_of v.mine.number notes,
   refl,
-  λ c b h. let m = marked v.mine.number notes c b h in
+  λ c b h. let m = mark_of_client v.mine.number notes c b h in
       (m.0, touched b m.1.0 m.1.1),
 )
 
-pub ends_noted : (the : SharedMap) (op : List Command) (reply : List Reply) (number : ℕ) (v u w : ClientView)
+pub notes_at_end : (the : SharedMap) (op : List Command) (reply : List Reply) (number : ℕ) (v u w : ClientView)
     (notes : List PartNote)
     → ((p : ℕ) (y : Option NumberSet) → Contains notes (note p y) → IsTrue (footprint_of_all op p))
     → v.start ≡ start_of the → v.clients ≡ clients_of the → number ≡ v.mine.number → u ≡ with_parts v notes
     → CallTakesEffect batch_answer (call_by u.mine.number op reply) [] u w → TakesEffect the (call_by number op reply) v.mine w.mine
-ends_noted the op reply number v u w notes touched start clients number_is held determined =
+notes_at_end the op reply number v u w notes touched start clients number_is held determined =
     let e : BatchCall = call_by v.mine.number op reply in
     let now : ClientView = with_parts v notes in
     let t : CallTakesEffect batch_answer e [] now w =
@@ -73,7 +73,7 @@ ends_noted the op reply number v u w notes touched start clients number_is held 
           (λ i. (start i, clients i)) t.3;
       own = refl;
       fits = subst (λ (r : BatchRecord). IsConsistent r.seen r) is t.4;
-      marks = adds op v notes touched;
+      marks = marks_of_notes_added op v notes touched;
       misses = refl;
     } in
     subst (λ (x : BatchCall × BatchRecord). TakesEffect the x.0 v.mine x.1)
@@ -84,21 +84,21 @@ pub ends_from : (the : SharedMap) (op : List Command) (reply : List Reply) (numb
     → number ≡ v.mine.number → u ≡ with_parts v (notes_below previous 12)
     → CallTakesEffect batch_answer (call_by u.mine.number op reply) [] u w → TakesEffect the (call_by number op reply) v.mine w.mine
 ends_from the op reply number v u w previous set_is_valid =
-    ends_noted the op reply number v u w (notes_below previous 12) (λ p y h. noted_touched op previous 12 p y set_is_valid h)
+    notes_at_end the op reply number v u w (notes_below previous 12) (λ p y h. slot_index_of_note op previous 12 p y set_is_valid h)
 
-pub undone_noted : (op : List Command) (v u w : ClientView) (notes : List PartNote)
+pub notes_after_undo : (op : List Command) (v u w : ClientView) (notes : List PartNote)
     → ((p : ℕ) (y : Option NumberSet) → Contains notes (note p y) → IsTrue (footprint_of_all op p))
     → u ≡ with_parts v notes → w ≡ with_holds u [] → HasNoEffect op v.mine w.mine
-undone_noted op v u w notes touched held gave =
+notes_after_undo op v u w notes touched held gave =
     let is : w.mine ≡ (with_parts v notes).mine = (λ i. (gave i).mine) ∙ (λ i. (held i).mine) in
     let undone : HasNoEffect op v.mine (with_parts v notes).mine =
-    record { same = (refl, refl, refl); marks = adds op v notes touched; misses = refl } in
+    record { same = (refl, refl, refl); marks = marks_of_notes_added op v notes touched; misses = refl } in
     subst (λ (r : BatchRecord). HasNoEffect op v.mine r) (sym is) undone
 
-pub undone_from : (op : List Command) (v u w : ClientView) (previous : List (Option Pointer)) → IsFootprint op previous
+pub undone_after_start : (op : List Command) (v u w : ClientView) (previous : List (Option Pointer)) → IsFootprint op previous
     → u ≡ with_parts v (notes_below previous 12) → w ≡ with_holds u [] → HasNoEffect op v.mine w.mine
-undone_from op v u w previous set_is_valid =
-    undone_noted op v u w (notes_below previous 12) (λ p y h. noted_touched op previous 12 p y set_is_valid h)
+undone_after_start op v u w previous set_is_valid =
+    notes_after_undo op v u w (notes_below previous 12) (λ p y h. slot_index_of_note op previous 12 p y set_is_valid h)
 
 pub refuses_from : (the : SharedMap) (op : List Command) (b : Busy) (v w : ClientView) → v.clients ≡ clients_of the
     → MissesTaking op b.part b.holder v w → MissesPart the op b v.mine w.mine
@@ -106,7 +106,7 @@ refuses_from the op b v w clients (notes, is, touched, part_touched, within, kno
     let refused : MissesPart the op b v.mine (with_holds (with_miss (with_parts v notes) b.holder b.part) []).mine =
     record {
       same = (refl, refl, refl);
-      marks = adds op v notes touched;
+      marks = marks_of_notes_added op v notes touched;
       misses = refl;
       touched = part_touched;
       known = subst (λ (n : ℕ). b.holder < n) clients known;
@@ -115,13 +115,13 @@ refuses_from the op b v w clients (notes, is, touched, part_touched, within, kno
     subst (λ (r : BatchRecord). MissesPart the op b v.mine r) (sym (λ i. (is i).mine)) refused
 
 -- a meeting: the seat of b takes in that of a, reads the history, and gives the record of a to a new seat
-pub met_from : (the : SharedMap) (a a' b b' : Client) (b1 b2 b3 : ClientView) → IsClientOf the a → IsClientOf the b
+pub client_after_meeting : (the : SharedMap) (a a' b b' : Client) (b1 b2 b3 : ClientView) → IsClientOf the a → IsClientOf the b
     → b1 ≡ first_record b.seat.me.0 → b2 ≡ joined_views b1 a.seat.me.0
     → (history_read : (log : List BatchCall) × (b3 ≡ with_history b2 log) × IsHistory batch_answer b2.start b2.clients log
     × ((r : BatchRecord) → Contains (records b2) r → StartsWith log r.seen × IsConsistent log r))
     → b'.seat.me.0 ≡ first_record b3 → a'.seat.me.0 ≡ rest_view b3
     → SeeSameHistory the (record_of a) (record_of a') (record_of b) (record_of b')
-met_from the a a' b b' b1 b2 b3 of_a of_b e1 e2 history_read e4 e5 =
+client_after_meeting the a a' b b' b1 b2 b3 of_a of_b e1 e2 history_read e4 e5 =
     let va = a.seat.me.0 in
     let vb = b.seat.me.0 in
     let log = history_read.0 in
@@ -150,10 +150,10 @@ pub one_other : (the : SharedMap) (a b : Client) (a1 : ClientView) → IsClientO
     → a1 ≡ joined_views a.seat.me.0 b.seat.me.0 → a1.others ≡ record_of b ∷ []
 one_other the a b a1 of_a of_b e = (λ i. (e i).others) ∙ (λ i. of_a.one.0 i ++ b.seat.me.0.mine ∷ of_b.one.0 i)
 
-pub taken_from : (the : SharedMap) (a b : Client) (a1 : ClientView) (m m' : Me (Option Pointer) ClientView) → IsClientOf the a
+pub client_of_taken : (the : SharedMap) (a b : Client) (a1 : ClientView) (m m' : Me (Option Pointer) ClientView) → IsClientOf the a
     → IsClientOf the b → a1 ≡ joined_views a.seat.me.0 b.seat.me.0 → m.0 ≡ a1 → MergesWith batch_answer (record_of b) m m'
     → TakesIn the (record_of a) (record_of b) m'.0.mine
-taken_from the a b a1 m m' of_a of_b e same determined =
+client_of_taken the a b a1 m m' of_a of_b e same determined =
     let mine : m.0.mine ≡ record_of a = (λ i. (same i).mine) ∙ (λ i. (e i).mine) in
     let log = determined.0 in
     let is : m'.0.mine ≡ merged_record (record_of a) (record_of b) log = (λ i. (determined.1 i).0.mine)
@@ -176,19 +176,19 @@ taken_from the a b a1 m m' of_a of_b e same determined =
       subst (λ (r : BatchRecord). MissesMarked r) (sym is) facts.2,
     )
 
-nothing_added : (op : List Command) (r : BatchRecord) (marks : List (ℕ × ℕ)) → (extra : List (ℕ × ℕ))
+no_entry_added : (op : List Command) (r : BatchRecord) (marks : List (ℕ × ℕ)) → (extra : List (ℕ × ℕ))
     × (marks ≡ extra ++ marks) × ((c b : ℕ) → Contains extra (c, b) → (c ≡ r.number) × IsTrue (footprint_of_all op b))
-nothing_added op r marks = ([], refl, λ c b h. let x : ℕ × ℕ = (c, b) in absurd (none_in x h))
+no_entry_added op r marks = ([], refl, λ c b h. let x : ℕ × ℕ = (c, b) in absurd (empty_range_or x h))
 
-pub undone_at_once : (op : List Command) (r : BatchRecord) → HasNoEffect op r r
-undone_at_once op r =
-    record { same = (refl, refl, refl); marks = nothing_added op r r.marks; misses = refl }
+pub undone_immediately : (op : List Command) (r : BatchRecord) → HasNoEffect op r r
+undone_immediately op r =
+    record { same = (refl, refl, refl); marks = no_entry_added op r r.marks; misses = refl }
 
 -- the same if the call took no part
-pub ends_now : (the : SharedMap) (op : List Command) (reply : List Reply) (number : ℕ) (v w : ClientView)
+pub history_at_end : (the : SharedMap) (op : List Command) (reply : List Reply) (number : ℕ) (v w : ClientView)
     → v.start ≡ start_of the → v.clients ≡ clients_of the → number ≡ v.mine.number
     → CallTakesEffect batch_answer (call_by v.mine.number op reply) [] v w → TakesEffect the (call_by number op reply) v.mine w.mine
-ends_now the op reply number v w start clients number_is t =
+history_at_end the op reply number v w start clients number_is t =
     let e : BatchCall = call_by v.mine.number op reply in
     let log : List BatchCall = t.0 in
     let is : w.mine ≡ (after_call v log e []).mine = (λ i. (t.1 i).mine) in
@@ -200,28 +200,28 @@ ends_now the op reply number v w start clients number_is t =
           (λ i. (start i, clients i)) t.3;
       own = refl;
       fits = subst (λ (r : BatchRecord). IsConsistent r.seen r) is t.4;
-      marks = nothing_added op v.mine v.mine.marks;
+      marks = no_entry_added op v.mine v.mine.marks;
       misses = refl;
     } in
     subst (λ (x : BatchCall × BatchRecord). TakesEffect the x.0 v.mine x.1)
     (λ i. (call_by (sym number_is i) op reply, sym is i)) ended
 
-pub undone_held : (op : List Command) (v u : ClientView) (previous : List (Option Pointer)) → IsFootprint op previous
+pub undone_while_holding : (op : List Command) (v u : ClientView) (previous : List (Option Pointer)) → IsFootprint op previous
     → u ≡ with_parts v (notes_below previous 12) → HasNoEffect op v.mine u.mine
-undone_held op v u previous set_is_valid held =
+undone_while_holding op v u previous set_is_valid held =
     let undone : HasNoEffect op v.mine (with_parts v (notes_below previous 12)).mine =
     record {
       same = (refl, refl, refl);
-      marks = adds op v (notes_below previous 12) (λ p y h. noted_touched op previous 12 p y set_is_valid h);
+      marks = marks_of_notes_added op v (notes_below previous 12) (λ p y h. slot_index_of_note op previous 12 p y set_is_valid h);
       misses = refl;
     } in
     subst (λ (r : BatchRecord). HasNoEffect op v.mine r) (sym (λ i. (held i).mine)) undone
 
-pub holds_now : (the : SharedMap) (a : Client) (h : Holding) → IsClientOf the a → h.client.number ≡ a.number
+pub holds_in_call : (the : SharedMap) (a : Client) (h : Holding) → IsClientOf the a → h.client.number ≡ a.number
     → h.client.seat.table_id ≡ the.table.shared.table_id
     → h.client.seat.me.0 ≡ with_parts a.seat.me.0 (notes_below h.slots 12) → IsCarried h.client.seat.me
     → IsFootprint h.batch h.slots → AreWithinOwnParts h.slots → IsHoldingOf the h
-holds_now the a h of_a number table view carried footprint own = record {
+holds_in_call the a h of_a number table view carried footprint own = record {
   table = table;
   one = subst (λ (x : ClientView). IsSingleClient x) (sym view) (of_a.one.0, of_a.one.1);
   number = number ∙ of_a.number ∙ sym (λ i. (view i).mine.number);
@@ -233,10 +233,10 @@ holds_now the a h of_a number table view carried footprint own = record {
   clients = (λ i. (view i).clients) ∙ of_a.clients;
 }
 
-pub refused_client : (the : SharedMap) (a a' : Client) (b h : ℕ) (op : List Command) → IsClientOf the a
+pub client_unchanged_if_refused : (the : SharedMap) (a a' : Client) (b h : ℕ) (op : List Command) → IsClientOf the a
     → a'.number ≡ a.number → a'.seat.table_id ≡ the.table.shared.table_id → a'.seat.me.1 ≡ []
     → MissesTaking op b h a.seat.me.0 a'.seat.me.0 → IsClientOf the a'
-refused_client the a a' b h op of_a number table no_slot (notes, view, touched, part_touched, within, known, other) =
+client_unchanged_if_refused the a a' b h op of_a number table no_slot (notes, view, touched, part_touched, within, known, other) =
     record {
       table = table;
       one = subst (λ (x : ClientView). IsSingleClient x) (sym view) (of_a.one.0, of_a.one.1);
@@ -256,16 +256,16 @@ pub record Stays (v w : ClientView) : Type 0 where
   pub number : w.mine.number ≡ v.mine.number
   pub stands : StandsFor v.mine v.mine.number → StandsFor w.mine w.mine.number
 
-stays_is : (v u w : ClientView) → u ≡ w → Stays v u → Stays v w
-stays_is v u w e = subst (λ (x : ClientView). Stays v x) e
+client_unchanged_by_equality : (v u w : ClientView) → u ≡ w → Stays v u → Stays v w
+client_unchanged_by_equality v u w e = subst (λ (x : ClientView). Stays v x) e
 
-pub stays_given : (v w : ClientView) → w ≡ with_holds v [] → Stays v w
-stays_given v w e =
-    stays_is v (with_holds v []) w (sym e) record
+pub client_unchanged_after_release : (v w : ClientView) → w ≡ with_holds v [] → Stays v w
+client_unchanged_after_release v w e =
+    client_unchanged_by_equality v (with_holds v []) w (sym e) record
     { others = refl; no_part = refl; start = refl; clients = refl; number = refl; stands = λ st. st }
 
-pub stays_ended : (e : BatchCall) (v w : ClientView) → CallTakesEffect batch_answer e [] v w → Stays v w
-stays_ended e v w (log, is, starts, legal, fits) = stays_is v (after_call v log e []) w (sym is) record {
+pub client_unchanged_after_call : (e : BatchCall) (v w : ClientView) → CallTakesEffect batch_answer e [] v w → Stays v w
+client_unchanged_after_call e v w (log, is, starts, legal, fits) = client_unchanged_by_equality v (after_call v log e []) w (sym is) record {
   others = refl;
   no_part = refl;
   start = refl;
@@ -275,16 +275,16 @@ stays_ended e v w (log, is, starts, legal, fits) = stays_is v (after_call v log 
 }
 
 -- a client stays a client while it gives parts back
-pub one_ended : (e : BatchCall) (notes : List PartNote) (v w : ClientView) → IsSingleClient v → CallTakesEffect batch_answer e notes v w → IsSingleClient w
-one_ended e notes v w one (log, is, starts, legal, fits) =
+pub single_client_after_call : (e : BatchCall) (notes : List PartNote) (v w : ClientView) → IsSingleClient v → CallTakesEffect batch_answer e notes v w → IsSingleClient w
+single_client_after_call e notes v w one (log, is, starts, legal, fits) =
     subst (λ (x : ClientView). IsSingleClient x) (sym is)
     (one.0, subst (λ (n : ℕ). 0 < n) (sym (stood_with_call e v.mine (log ++ e ∷ []) v.mine.number)) one.1)
 
-pub stays_up : (cs : List Command) (v w : ClientView) → BatchFailsOutOfMemory cs v w → Stays v w
-stays_up cs v w g = ⊎_elim (λ e. stays_given v w e) (λ t. stays_ended (call_by v.mine.number cs t.1.0) v w t.1.1) g
+pub client_unchanged_out_of_memory : (cs : List Command) (v w : ClientView) → BatchFailsOutOfMemory cs v w → Stays v w
+client_unchanged_out_of_memory cs v w g = ⊎_elim (λ e. client_unchanged_after_release v w e) (λ t. client_unchanged_after_call (call_by v.mine.number cs t.1.0) v w t.1.1) g
 
-pub stays_through : (v u w : ClientView) (notes : List PartNote) → u ≡ with_parts v notes → Stays u w → Stays v w
-stays_through v u w notes e s =
+pub client_unchanged_with_parts : (v u w : ClientView) (notes : List PartNote) → u ≡ with_parts v notes → Stays u w → Stays v w
+client_unchanged_with_parts v u w notes e s =
     let t : Stays (with_parts v notes) w = subst (λ (x : ClientView). Stays x w) e s in
     record {
       others = t.others;
@@ -308,10 +308,10 @@ idle_after the a a' of_a s number table no_slot = record {
   clients = s.clients ∙ of_a.clients;
 }
 
-pub idle_again : (the : SharedMap) (h : Holding) (a' : Client) → IsHoldingOf the h
+pub idle_after_call : (the : SharedMap) (h : Holding) (a' : Client) → IsHoldingOf the h
     → Stays h.client.seat.me.0 a'.seat.me.0 → a'.number ≡ h.client.number → a'.seat.table_id ≡ the.table.shared.table_id
     → a'.seat.me.1 ≡ [] → IsClientOf the a'
-idle_again the h a' of_h s number table no_slot = record {
+idle_after_call the h a' of_h s number table no_slot = record {
   table = table;
   one = (s.others ∙ of_h.one.0, s.stands of_h.one.1);
   number = number ∙ of_h.number ∙ sym s.number;
@@ -325,32 +325,32 @@ pub fails_from : (the : SharedMap) (op : List Command) (v u w : ClientView) (pre
     → IsFootprint op previous → v.start ≡ start_of the → v.clients ≡ clients_of the
     → u ≡ with_parts v (notes_below previous 12) → BatchFailsOutOfMemory op u w → FailsOutOfMemory the op v.mine w.mine
 fails_from the op v u w previous set_is_valid start clients held g = ⊎_elim
-    (λ e. inl (undone_from op v u w previous set_is_valid held e))
+    (λ e. inl (undone_after_start op v u w previous set_is_valid held e))
     (λ t. inr (t.0, (t.1.0, ends_from the op t.1.0 v.mine.number v u w previous set_is_valid start clients refl held t.1.1)))
     g
 
-pub fails_held : (the : SharedMap) (op : List Command) (v w : ClientView) → v.start ≡ start_of the
+pub no_effect_holding : (the : SharedMap) (op : List Command) (v w : ClientView) → v.start ≡ start_of the
     → v.clients ≡ clients_of the → BatchFailsOutOfMemory op v w → FailsOutOfMemoryHolding the op v.mine w.mine
-fails_held the op v w start clients g = ⊎_elim
+no_effect_holding the op v w start clients g = ⊎_elim
     (λ e. inl (λ i. (e i).mine))
-    (λ t. inr (t.0, (t.1.0, ends_now the op t.1.0 v.mine.number v w start clients refl t.1.1)))
+    (λ t. inr (t.0, (t.1.0, history_at_end the op t.1.0 v.mine.number v w start clients refl t.1.1)))
     g
 
 -- a call that gives all parts back adds no mark
-marks_ended : (e : BatchCall) (v w : ClientView) → CallTakesEffect batch_answer e [] v w → w.mine.marks ≡ v.mine.marks
-marks_ended e v w t = λ i. (t.1 i).mine.marks
+marks_unchanged : (e : BatchCall) (v w : ClientView) → CallTakesEffect batch_answer e [] v w → w.mine.marks ≡ v.mine.marks
+marks_unchanged e v w t = λ i. (t.1 i).mine.marks
 
-pub marks_done : {E : Type 0} (cs : List Command) (v w : ClientView) (r : Result (List Reply) E)
+pub marks_after_call : {E : Type 0} (cs : List Command) (v w : ClientView) (r : Result (List Reply) E)
     → IfOk r (λ x. CallTakesEffect batch_answer (call_by v.mine.number cs x) [] v w) → OnErr r (BatchFailsOutOfMemory cs v w)
     → w.mine.marks ≡ v.mine.marks
-marks_done cs v w (Ok x) ok err = marks_ended (call_by v.mine.number cs x) v w ok
-marks_done cs v w (Err e) ok err =
-    ⊎_elim (λ g. λ i. (g i).mine.marks) (λ t. marks_ended (call_by v.mine.number cs t.1.0) v w t.1.1) err
+marks_after_call cs v w (Ok x) ok err = marks_unchanged (call_by v.mine.number cs x) v w ok
+marks_after_call cs v w (Err e) ok err =
+    ⊎_elim (λ g. λ i. (g i).mine.marks) (λ t. marks_unchanged (call_by v.mine.number cs t.1.0) v w t.1.1) err
 
-pub stays_done : {E : Type 0} (cs : List Command) (v w : ClientView) (r : Result (List Reply) E)
+pub client_unchanged_at_end : {E : Type 0} (cs : List Command) (v w : ClientView) (r : Result (List Reply) E)
     → IfOk r (λ x. CallTakesEffect batch_answer (call_by v.mine.number cs x) [] v w) → OnErr r (BatchFailsOutOfMemory cs v w) → Stays v w
-stays_done cs v w (Ok x) ok err = stays_ended (call_by v.mine.number cs x) v w ok
-stays_done cs v w (Err e) ok err = stays_up cs v w err
+client_unchanged_at_end cs v w (Ok x) ok err = client_unchanged_after_call (call_by v.mine.number cs x) v w ok
+client_unchanged_at_end cs v w (Err e) ok err = client_unchanged_out_of_memory cs v w err
 
 -- a query whose replies are computed later
 pub ends_replied : {E : Type 0} (cs : List Command) (v w : ClientView) (replies : List Reply) (r : Result (List Reply) E)

@@ -24,18 +24,18 @@ use Rattle.moc_shared.specs.Private.Invariant.{IsSpare, records, IsPresent, time
 use Rattle.moc_shared.specs.Private.Invariant.{TableInvariant, parts_of_notes, IsSingleClient}
 use Rattle.moc_shared.specs.Private.Seats.{IsCarried}
 use Rattle.moc_shared.specs.Private.OperationEffects.{HasEffect}
-use Rattle.moc_shared.specs.Private.StepEffects.{with_part, with_miss, with_holds, after_call, tail, TakesOrMisses, TakesPart, GivesPart, EndsWithCall, CallTakesEffect}
-use Rattle.moc_shared.proofs.Basics.{here, there, none_in, only, cons_cases, sum_set_same, stands_by, stood_with_call}
+use Rattle.moc_shared.specs.Private.StepEffects.{with_part, with_miss, with_holds, after_call, rest_of_list, TakesOrMisses, TakesPart, GivesPart, EndsWithCall, CallTakesEffect}
+use Rattle.moc_shared.proofs.Basics.{here, there, empty_range_or, only, cons_cases, sum_set_same, stands_by, stood_with_call}
 use Rattle.moc_shared.proofs.Basics.{fits_longer, fits_with_call, starts_itself, result_with, legal_with}
 use Rattle.moc_shared.proofs.DistinctClients.{stood_of, one_view, one_record, present_cases}
 
 -- different parts have different words and slots
-pub far : (b' b : ℕ) → b' ≢ b → table_index b' ≢ table_index b
-far b' b ne e = ne (omega arith)
+pub other_table_index : (b' b : ℕ) → b' ≢ b → table_index b' ≢ table_index b
+other_table_index b' b ne e = ne (omega arith)
 
 -- the word of a part is not a spare word
-spare_apart : (words : List ℕ) (b x : ℕ) → ((k : ℕ) → IsSpare k → slice_index words k ≡ 0) → (k : ℕ) → IsSpare k → slice_index (set words (table_index b) x) k ≡ 0
-spare_apart words b x zeros k spare = get_or-set_other words (table_index b) k x 0 (λ e. spare b (sym e)) ∙ zeros k spare
+spare_words_unchanged : (words : List ℕ) (b x : ℕ) → ((k : ℕ) → IsSpare k → slice_index words k ≡ 0) → (k : ℕ) → IsSpare k → slice_index (set words (table_index b) x) k ≡ 0
+spare_words_unchanged words b x zeros k spare = get_or-set_other words (table_index b) k x 0 (λ e. spare b (sym e)) ∙ zeros k spare
 
 module _ {S X O R Y : Type 0} (n : ℕ) (content : S → Y) (part : ℕ → X → Y) (answer : X → O → X × R)
     (valid : X → Type 0) (start : X) (clients : ℕ) where
@@ -121,8 +121,8 @@ module _ {S X O R Y : Type 0} (n : ℕ) (content : S → Y) (part : ℕ → X �
       → Held set_is words homes u b' y → b' ≢ b → Held set_is (set words (table_index b) x) (set homes (table_index b) h) u b' y
   held_apart set_is words homes u b x h b' y k ne = record {
     within = k.within;
-    word_is = get_or-set_other words (table_index b) (table_index b') x 0 (far b' b ne) ∙ k.word_is;
-    out = set_else homes (table_index b) (table_index b') h (far b' b ne) ∙ k.out;
+    word_is = get_or-set_other words (table_index b) (table_index b') x 0 (other_table_index b' b ne) ∙ k.word_is;
+    out = set_else homes (table_index b) (table_index b') h (other_table_index b' b ne) ∙ k.out;
     noted = k.noted;
     marked = k.marked;
     stands = k.stands;
@@ -140,7 +140,7 @@ module _ {S X O R Y : Type 0} (n : ℕ) (content : S → Y) (part : ℕ → X �
   free_apart : (set_is : X) (words : List ℕ) (homes : List (Option S)) (b x : ℕ) (h : Option S) (b' : ℕ) → b' ≢ b
       → IsFree content part set_is words homes b' → IsFree content part set_is (set words (table_index b) x) (set homes (table_index b) h) b'
   free_apart set_is words homes b x h b' ne f =
-      (get_or-set_other words (table_index b) (table_index b') x 0 (far b' b ne) ∙ f.0, (f.1.0, set_else homes (table_index b) (table_index b') h (far b' b ne) ∙ f.1.1, f.1.2))
+      (get_or-set_other words (table_index b) (table_index b') x 0 (other_table_index b' b ne) ∙ f.0, (f.1.0, set_else homes (table_index b) (table_index b') h (other_table_index b' b ne) ∙ f.1.1, f.1.2))
 
   at_new : (views : List V) (id : ℕ) (v w : V) → get_elem? views id ≡ some v → get_elem? (set views id w) id ≡ some w
   at_new [] id v w e = absurd (some-ne-none v (sym e))
@@ -213,7 +213,7 @@ module _ {S X O R Y : Type 0} (n : ℕ) (content : S → Y) (part : ℕ → X �
       let m : Held A (set s.words (table_index b) mark) (set s.homes (table_index b) none) v b' y =
       held_apart A s.words s.homes v b mark none b' y o (never_zero A s.words s.homes v b b' y zero_is o) in m in
       one_moved s k id v w at (set s.words (table_index b) mark) (set s.homes (table_index b) none) log k.legal (one_shown s k id v w at clients_are_distinct refl)
-      k.set_is_valid k.clients_are_known (length-set s.words (table_index b) mark ∙ word_count) (length-set s.homes (table_index b) none ∙ slot_count) (spare_apart s.words b mark k.spare)
+      k.set_is_valid k.clients_are_known (length-set s.words (table_index b) mark ∙ word_count) (length-set s.homes (table_index b) none ∙ slot_count) (spare_words_unchanged s.words b mark k.spare)
       (λ b' l. dite (ℕ_discrete b' b)
       (λ e. inr (
         id,
@@ -373,7 +373,7 @@ module _ {S X O R Y : Type 0} (n : ℕ) (content : S → Y) (part : ℕ → X �
       (λ e. apart y (subst (λ (j : ℕ). Contains notes (note j y)) e h)) in m in
       one_moved s k id v w at (set s.words (table_index b) 0) (set s.homes (table_index b) (some x)) log k.legal
       (one_shown s k id v w at clients_are_distinct refl) k.set_is_valid k.clients_are_known (length-set s.words (table_index b) 0 ∙ word_count)
-      (length-set s.homes (table_index b) (some x) ∙ slot_count) (spare_apart s.words b 0 k.spare)
+      (length-set s.homes (table_index b) (some x) ∙ slot_count) (spare_words_unchanged s.words b 0 k.spare)
       (λ b' l. dite (ℕ_discrete b' b)
       (λ e. inl
       (subst (λ (j : ℕ). IsFree content part A (set s.words (table_index b) 0) (set s.homes (table_index b) (some x)) j) (sym e)
@@ -408,7 +408,7 @@ module _ {S X O R Y : Type 0} (n : ℕ) (content : S → Y) (part : ℕ → X �
       (λ c. refl)
 
   part_in : (ts : List (Note Y)) (b : ℕ) (y : Y) → Contains ts (note b y) → Contains (parts_of_notes ts) b
-  part_in [] b y h = absurd (none_in (note b y) h)
+  part_in [] b y h = absurd (empty_range_or (note b y) h)
   part_in (t ∷ ts) b y h = ⊎_elim
       (λ (e : t ≡ note b y). subst (λ (c : ℕ). Contains (parts_of_notes (t ∷ ts)) c) (ap (λ (z : Note Y). z.part) e)
       (here t.part (parts_of_notes ts)))
@@ -416,7 +416,7 @@ module _ {S X O R Y : Type 0} (n : ℕ) (content : S → Y) (part : ℕ → X �
       (cons_cases t ts (note b y) h)
 
   note_in : (ts : List (Note Y)) (b : ℕ) → Contains (parts_of_notes ts) b → (y : Y) × Contains ts (note b y)
-  note_in [] b h = absurd (none_in b h)
+  note_in [] b h = absurd (empty_range_or b h)
   note_in (t ∷ ts) b h = ⊎_elim
       (λ (e : t.part ≡ b). (t.content, subst (λ (c : ℕ). Contains (t ∷ ts) (note c t.content)) e (here t ts)))
       (λ (c : Contains (parts_of_notes ts) b). let r = note_in ts b c in (r.0, there t ts (note b r.0) r.1))
@@ -444,7 +444,7 @@ module _ {S X O R Y : Type 0} (n : ℕ) (content : S → Y) (part : ℕ → X �
       let set_is : state_after answer start log' ≡ (answer A op).0 = result_with answer start log e in
       let in_old = λ (c : ℕ) (h : Contains (b ∷ parts_of_notes notes) c). let r : (y : Y) × Contains v.holds (note c y) =
       note_in v.holds c (subst (λ (l : List ℕ). Contains l c) (sym same_parts) h) in r in
-      let in_new = λ (c : ℕ) (y : Y) (h : Contains v.holds (note c y)). let r : Contains (b ∷ parts_of_notes notes) c =
+      let new_of_union = λ (c : ℕ) (y : Y) (h : Contains v.holds (note c y)). let r : Contains (b ∷ parts_of_notes notes) c =
       subst (λ (l : List ℕ). Contains l c) same_parts (part_in v.holds c y h) in r in
       let had = in_old b (here b (parts_of_notes notes)) in
       let now = old.holding b had.0 had.1 in
@@ -458,7 +458,7 @@ module _ {S X O R Y : Type 0} (n : ℕ) (content : S → Y) (part : ℕ → X �
       (λ q h. ⊎_elim (λ (o : Contains log q). k.clients_are_known q o)
       (λ (t : e ≡ q). subst (λ (z : Call O R). z.client < clients) t
       (old.known v.mine (here v.mine v.others) v.mine.number stands)) (Contains-push_cases log e q h))
-      (length-set s.words (table_index b) 0 ∙ word_count) (length-set s.homes (table_index b) (some x) ∙ slot_count) (spare_apart s.words b 0 k.spare)
+      (length-set s.words (table_index b) 0 ∙ word_count) (length-set s.homes (table_index b) (some x) ∙ slot_count) (spare_words_unchanged s.words b 0 k.spare)
       (λ c l. subst
       (λ (a : X). IsFree content part a (set s.words (table_index b) 0) (set s.homes (table_index b) (some x)) c ⊎ SomeHolds (set s.views id w) c)
       (sym set_is) (dite (ℕ_discrete c b)
@@ -472,7 +472,7 @@ module _ {S X O R Y : Type 0} (n : ℕ) (content : S → Y) (part : ℕ → X �
       inl (g.0, (g.1.0, g.1.1, g.1.2 ∙ sym (did.2 c (unheld c f.0)))))
       (λ (h : SomeHolds s.views c). inr (still_held s.views id v w c at
       (λ y i. ⊎_elim (λ (q : b ≡ c). absurd (ne (sym q))) (λ (t : Contains (parts_of_notes notes) c). note_in notes c t)
-      (cons_cases b (parts_of_notes notes) c (in_new c y i))) h))
+      (cons_cases b (parts_of_notes notes) c (new_of_union c y i))) h))
       (k.each_part c l))))
       record {
         same_map = λ c p. old.same_map c (subst (λ (m : ℕ). 0 < m) (same_sums c) p);
@@ -616,8 +616,8 @@ module _ {S X O R Y : Type 0} (n : ℕ) (content : S → Y) (part : ℕ → X �
       → Allows Invariant slots id me (table_index b) (λ _. 0) (λ _. GivesPart (step slots (table_index b) 0 0 none) me 0)
   gives_part slots id me b x cs notes one carried held apart s k slot_count at small =
       let v : V = me.0 in
-      let w : V = with_holds v (tail v.holds) in
-      let same : notes ≡ tail v.holds = ap (tail {A = Note Y}) (sym held) in (
+      let w : V = with_holds v (rest_of_list v.holds) in
+      let same : notes ≡ rest_of_list v.holds = ap (rest_of_list {A = Note Y}) (sym held) in (
         w,
         gives,
         tt,

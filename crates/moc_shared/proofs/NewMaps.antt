@@ -27,25 +27,25 @@ use Rattle.moc_shared.specs.Private.InitialSlots.{ArePartsOf}
 use Rattle.moc_shared.specs.Clients.{start_of, clients_of, IsClientOf, IsNewClient, AreNewClients}
 use Rattle.moc_shared.proofs.InitialState.{begins, stood_same}
 
-unmapped : (xs : List (Option Pointer)) (b : ℕ) (x : Option Pointer) → get_elem? (map some xs) b ≡ some (some x)
+get_of_mapped : (xs : List (Option Pointer)) (b : ℕ) (x : Option Pointer) → get_elem? (map some xs) b ≡ some (some x)
     → get_elem? xs b ≡ some x
-unmapped [] b x e = absurd (some-ne-none (some x) (sym e))
-unmapped (y ∷ ys) zero x e = some-injective (some y) (some x) e
-unmapped (y ∷ ys) (suc b) x e = unmapped ys b x e
+get_of_mapped [] b x e = absurd (some-ne-none (some x) (sym e))
+get_of_mapped (y ∷ ys) zero x e = some-injective (some y) (some x) e
+get_of_mapped (y ∷ ys) (suc b) x e = get_of_mapped ys b x e
 
 pub made : (words : List ℕ) (start : NumberSet) (slots : List (Option Pointer)) (clients : ℕ) → length words ≡ table_index 12
     → ((b : ℕ) → slice_index words b ≡ 0) → ArePartsOf start slots (table_index 12) → IsInSky start
     → TableInvariant 12 content part batch_answer IsInSky start clients (opening words slots (first_view start clients))
 made words start slots clients word_count zeros stand within =
     begins 12 content part batch_answer IsInSky start clients words slots word_count stand.0 zeros
-    (λ b x e. stand.1 b x (unmapped slots (table_index b) x e)) within
+    (λ b x e. stand.1 b x (get_of_mapped slots (table_index b) x e)) within
 
-last_one : (xs : List (Option Pointer)) (x y : Option Pointer) (b : ℕ) → get_elem? (xs ++ x ∷ []) b ≡ some y
+last_of_appended : (xs : List (Option Pointer)) (x y : Option Pointer) (b : ℕ) → get_elem? (xs ++ x ∷ []) b ≡ some y
     → (get_elem? xs b ≡ some y) ⊎ ((b ≡ length xs) × (x ≡ y))
-last_one [] x y zero e = inr (refl, some-injective x y e)
-last_one [] x y (suc b) e = absurd (some-ne-none y (sym e))
-last_one (z ∷ zs) x y zero e = inl e
-last_one (z ∷ zs) x y (suc b) e = ⊎_elim (λ l. inl l) (λ t. inr (ap suc t.0, t.1)) (last_one zs x y b e)
+last_of_appended [] x y zero e = inr (refl, some-injective x y e)
+last_of_appended [] x y (suc b) e = absurd (some-ne-none y (sym e))
+last_of_appended (z ∷ zs) x y zero e = inl e
+last_of_appended (z ∷ zs) x y (suc b) e = ⊎_elim (λ l. inl l) (λ t. inr (ap suc t.0, t.1)) (last_of_appended zs x y b e)
 
 pub one_slot : (a : NumberSet) (slots after : List (Option Pointer)) (k : ℕ) (x : Option Pointer)
     → after ≡ slots ++ x ∷ [] → ((b : ℕ) → table_index b ≡ k → content x ≡ part b a) → ArePartsOf a slots k
@@ -53,24 +53,24 @@ pub one_slot : (a : NumberSet) (slots after : List (Option Pointer)) (k : ℕ) (
 one_slot a slots after k x is new before = (
   ap (λ (l : List (Option Pointer)). length l) is ∙ length-append slots (x ∷ []) ∙ (let e = before.0 in omega arith),
   λ b y e. ⊎_elim (λ o. before.1 b y o) (λ t. ap content (sym t.1) ∙ new b (t.0 ∙ before.0))
-      (last_one slots x y (table_index b) (subst (λ (l : List (Option Pointer)). get_elem? l (table_index b) ≡ some y) is e)),
+      (last_of_appended slots x y (table_index b) (subst (λ (l : List (Option Pointer)). get_elem? l (table_index b) ≡ some y) is e)),
 )
 
-dealing : (start : NumberSet) (n c : ℕ) (v : ClientView) → v ≡ view_for start n (new_client_records c (n - c)) → c < n
+view_with_new_record : (start : NumberSet) (n c : ℕ) (v : ClientView) → v ≡ view_for start n (new_client_records c (n - c)) → c < n
     → v ≡ view_for start n (new_client_record c ∷ new_client_records (suc c) (n - (c + 1)))
-dealing start n c v is l = is
+view_with_new_record start n c v is l = is
     ∙ ap (λ (k : ℕ). let w : ClientView = view_for start n (new_client_records c k) in w)
     (let e : n - c ≡ suc (n - (c + 1)) = omega arith in e)
 
-pub stands_new : (start : NumberSet) (n c : ℕ) (v : ClientView) → v ≡ view_for start n (new_client_records c (n - c)) → c < n
+pub view_of_new_record : (start : NumberSet) (n c : ℕ) (v : ClientView) → v ≡ view_for start n (new_client_records c (n - c)) → c < n
     → StandsFor v.mine v.mine.number
-stands_new start n c v is l =
-    subst (λ (w : ClientView). StandsFor w.mine w.mine.number) (sym (dealing start n c v is l))
+view_of_new_record start n c v is l =
+    subst (λ (w : ClientView). StandsFor w.mine w.mine.number) (sym (view_with_new_record start n c v is l))
     (let e = stood_same (List Command) (List Reply) c in omega arith)
 
 pub rest_new : (start : NumberSet) (n c : ℕ) (v w : ClientView) → v ≡ view_for start n (new_client_records c (n - c)) → c < n
     → w ≡ rest_view v → w ≡ view_for start n (new_client_records (c + 1) (n - (c + 1)))
-rest_new start n c v w is l e = e ∙ ap (λ (x : ClientView). rest_view x) (dealing start n c v is l)
+rest_new start n c v w is l e = e ∙ ap (λ (x : ClientView). rest_view x) (view_with_new_record start n c v is l)
     ∙ ap (λ (d : ℕ). let w : ClientView = view_for start n (new_client_records d (n - (c + 1))) in w)
     (let e : suc c ≡ c + 1 = omega arith in e)
 
@@ -79,7 +79,7 @@ new_client : (the : SharedMap) (n c : ℕ) (v : ClientView) (d : Client) → n �
     → d.seat.me.0 ≡ first_record v → d.seat.me.1 ≡ [] → d.number ≡ c → IsNewClient the c d
 new_client the n c v d count is l table view no_slot number =
     let now : d.seat.me.0 ≡ first_record (view_for (start_of the) n (new_client_record c ∷ new_client_records (suc c) (n - (c + 1)))) =
-    view ∙ ap (λ (x : ClientView). first_record x) (dealing (start_of the) n c v is l) in
+    view ∙ ap (λ (x : ClientView). first_record x) (view_with_new_record (start_of the) n c v is l) in
     record {
       of_map = record {
         table = table;

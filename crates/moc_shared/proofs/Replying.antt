@@ -26,7 +26,7 @@ use Rattle.moc_shared.specs.Private.Invariant.{parts_of_notes}
 use Rattle.moc_shared.specs.Private.Seats.{PartNote, content, shared, part, IsInSky, slot_at, note_if, notes_below, list_of, AreWithinOwnParts, IsFootprint}
 use Rattle.moc_shared.specs.Private.Slots.{changed_content, lists_of, AreCopies, Edits, replies_to}
 use Rattle.moc_shared.specs.Batches.{batch_answer}
-use Rattle.moc_shared.proofs.Basics.{none_in}
+use Rattle.moc_shared.proofs.Basics.{empty_range_or}
 use Rattle.moc_shared.proofs.SlotIndices.{notes_none, notes_next, notes_upto, note_place, place_note, notes_below_lt}
 use Rattle.moc_shared.proofs.SlotIndices.{part_note}
 use Rattle.moc_shared.proofs.Unions.{union_at, union_within, in_sky, get_beyond, and_true}
@@ -75,30 +75,30 @@ notes_same xs ys (suc n) each = notes_next ys n
     ∙ step_notes n (slot_at ys n) (slot_at xs n) (notes_below ys n) (notes_below xs n) (each n)
     (notes_same xs ys n each) ∙ sym (notes_next xs n)
 
-some_inside : (a b : NumberSet) → Some a ≡ Some b → a ≡ b
-some_inside a b e = cc
+some_is_injective : (a b : NumberSet) → Some a ≡ Some b → a ≡ b
+some_is_injective a b e = cc
 
 -- the set of a slot with a note
-noted_list : (slots : List (Option Pointer)) (b : ℕ) (a : NumberSet) → b < 12 → is_some (slot_at slots b) ≡ true
+list_of_note : (slots : List (Option Pointer)) (b : ℕ) (a : NumberSet) → b < 12 → is_some (slot_at slots b) ≡ true
     → ((c : ℕ) (y : Option NumberSet) → Contains (notes_below slots 12) (note c y) → y ≡ part c a)
     → list_of (slot_at slots b) ≡ part_of a b
 unfolding part
-noted_list slots b a l some noted =
+list_of_note slots b a l some noted =
     let s = some_is (slot_at slots b) some in
     let e : Some _ ≡ Some (part_of a b) = noted b (shared s.0) (place_note slots 12 b s.0 l s.1) in
-    ap list_of s.1 ∙ some_inside _ (part_of a b) e
+    ap list_of s.1 ∙ some_is_injective _ (part_of a b) e
 
 -- a set agrees with the taken contents in the footprint if it agrees with the notes
-pub agrees : (cs : List Command) (slots : List (Option Pointer)) (a : NumberSet) → length slots ≡ 12 → AreWithinOwnParts slots
+pub slots_agree_on_footprint : (cs : List Command) (slots : List (Option Pointer)) (a : NumberSet) → length slots ≡ 12 → AreWithinOwnParts slots
     → IsFootprint cs slots → IsInSky a
     → ((b : ℕ) (y : Option NumberSet) → Contains (notes_below slots 12) (note b y) → y ≡ part b a)
     → AgreeOn (footprint_of_all cs) (union_of (lists_of slots)) a
 unfolding base_pixel
-agrees cs slots a long own set_is_valid within noted q touched = elim (cases_lt (q / base_pixel_size) 12) [
+slots_agree_on_footprint cs slots a long own set_is_valid within noted q touched = elim (cases_lt (q / base_pixel_size) 12) [
   | inl l ↦
       let b : ℕ = q / base_pixel_size in
       union_at slots q own
-      ∙ ap (λ (s : NumberSet). finset.contains s q) (noted_list slots b a l (set_is_valid b l ∙ touched) noted)
+      ∙ ap (λ (s : NumberSet). finset.contains s q) (list_of_note slots b a l (set_is_valid b l ∙ touched) noted)
       ∙ contains-part_of a b q ∙ ap (λ (t : Bool). finset.contains a q && t) (eq-eqb b b refl)
       ∙ and_true (finset.contains a q)
   | inr far ↦
@@ -160,14 +160,14 @@ some_part_if : (t : Bool) (a : NumberSet) (b : ℕ) → is_some (part_if t a b) 
 some_part_if true a b = refl
 some_part_if false a b = refl
 
-part_if_alike : (t : Bool) (a b : NumberSet) (n : ℕ) → (t ≡ true → part_of a n ≡ part_of b n) → part_if t a n ≡ part_if t b n
-part_if_alike true a b n same = ap Some (same refl)
-part_if_alike false a b n same = refl
+part_if_congruence : (t : Bool) (a b : NumberSet) (n : ℕ) → (t ≡ true → part_of a n ≡ part_of b n) → part_if t a n ≡ part_if t b n
+part_if_congruence true a b n same = ap Some (same refl)
+part_if_congruence false a b n same = refl
 
 -- the set of a slot is the part of the union
-part_found : (slots : List (Option Pointer)) (b : ℕ) → AreWithinOwnParts slots
+pointer_in_own_part : (slots : List (Option Pointer)) (b : ℕ) → AreWithinOwnParts slots
     → part_of (union_of (lists_of slots)) b ≡ list_of (slot_at slots b)
-part_found slots b own =
+pointer_in_own_part slots b own =
     same_members _ _ (λ q. contains-part_of set_is_valid b q ∙ one q (ℕ_discrete (q / base_pixel_size) b))
   where
     set_is_valid : NumberSet
@@ -211,8 +211,8 @@ edits_from cs previous edited p long own set_is_valid changes each =
     λ (a : NumberSet) (v : IsWithin a pixels) (agree : AgreeOn (footprint_of_all cs) u a) (b : ℕ) (l : b < 12).
     let e : content (slot_at edited b) ≡ part_if (footprint_of_all cs b) (set_after_all a cs) b = each b l
     ∙ changed_is (slot_at previous b) (get_or p.lists b None) (part_of u b) (set_after_all u cs) b (footprint_of_all cs b)
-    (sym (part_found previous b own)) (set_is_valid b l) (changes.parts b l)
-    ∙ part_if_alike (footprint_of_all cs b) (set_after_all u cs) (set_after_all a cs) b (determined.inside a v agree b) in
+    (sym (pointer_in_own_part previous b own)) (set_is_valid b l) (changes.parts b l)
+    ∙ part_if_congruence (footprint_of_all cs b) (set_after_all u cs) (set_after_all a cs) b (determined.inside a v agree b) in
     e in
     record {
       same_parts =
@@ -221,7 +221,7 @@ edits_from cs previous edited p long own set_is_valid changes each =
           ∙ ap (λ (o : Option NumberSet). is_some o) (now u u_within (itself cs u) b l)
           ∙ some_part_if (footprint_of_all cs b) (set_after_all u cs) b ∙ sym (set_is_valid b l));
       effect = λ a v noted.
-          let agree = agrees cs previous a long own set_is_valid v noted in (
+          let agree = slots_agree_on_footprint cs previous a long own set_is_valid v noted in (
             sym (determined.replied a v agree) ∙ determined.replied u u_within (itself cs u),
             (λ b y h.
                 let q = note_place edited 12 b y h in
@@ -251,13 +251,13 @@ or_none true y e = absurd (true≢false e)
 or_none false y e = (refl, e)
 
 -- a query does not change the set
-pub unchanged : (cs : List Command) (a : NumberSet) → list_any is_update cs ≡ false → set_after_all a cs ≡ a
-unchanged [] a q = refl
-unchanged (c ∷ cs) a q = let both = or_none (is_update c) (list_any is_update cs) q in
-    ap (λ (s : NumberSet). set_after_all s cs) (unchanged_by c a both.0) ∙ unchanged cs a both.1
+pub query_changes_nothing : (cs : List Command) (a : NumberSet) → list_any is_update cs ≡ false → set_after_all a cs ≡ a
+query_changes_nothing [] a q = refl
+query_changes_nothing (c ∷ cs) a q = let both = or_none (is_update c) (list_any is_update cs) q in
+    ap (λ (s : NumberSet). set_after_all s cs) (unchanged_by c a both.0) ∙ query_changes_nothing cs a both.1
 
-pub own_copies : (previous copies : List (Option Pointer)) → AreCopies previous copies → AreWithinOwnParts previous → AreWithinOwnParts copies
-own_copies previous copies same own b =
+pub copies_within_own_parts : (previous copies : List (Option Pointer)) → AreCopies previous copies → AreWithinOwnParts previous → AreWithinOwnParts copies
+copies_within_own_parts previous copies same own b =
     subst (λ (o : Option NumberSet). part_of (content_or_empty o) b ≡ content_or_empty o) (sym (same b)) (own b)
 
 pub footprint_copies : (cs : List Command) (previous copies : List (Option Pointer)) → AreCopies previous copies
@@ -271,41 +271,41 @@ pub leaves : (cs : List Command) (previous copies : List (Option Pointer)) → l
     → Edits cs copies previous
 unfolding batch_answer replies_to
 leaves cs previous copies long own_found whole_found same query local =
-    let own = own_copies previous copies same own_found in
+    let own = copies_within_own_parts previous copies same own_found in
     let set_is_valid = footprint_copies cs previous copies same whole_found in
     let u : NumberSet = union_of (lists_of copies) in
     let u_within = union_within copies long own in
     record {
       same_parts = ap (λ (l : List PartNote). parts_of_notes l) (sym (notes_same previous copies 12 same));
       effect = λ a v noted. (
-        local.reply a u v u_within (λ q t. sym (agrees cs copies a long own set_is_valid v noted q t)),
+        local.reply a u v u_within (λ q t. sym (slots_agree_on_footprint cs copies a long own set_is_valid v noted q t)),
         (λ b y h. noted b y
             (subst (λ (l : List PartNote). Contains l (note b y)) (sym (notes_same previous copies 12 same)) h)
-            ∙ ap (part b) (sym (unchanged cs a query))),
-        (λ k none. ap (part k) (unchanged cs a query)),
+            ∙ ap (part b) (sym (query_changes_nothing cs a query))),
+        (λ k none. ap (part k) (query_changes_nothing cs a query)),
         local.stays a v,
       );
     }
 
-pub noted_at : (slots : List (Option Pointer)) (b : ℕ) → b < 12 → is_some (slot_at slots b) ≡ true
+pub slot_of_note : (slots : List (Option Pointer)) (b : ℕ) → b < 12 → is_some (slot_at slots b) ≡ true
     → Contains (parts_of_notes (notes_below slots 12)) b
-noted_at slots b l some = let s = some_is (slot_at slots b) some in
+slot_of_note slots b l some = let s = some_is (slot_at slots b) some in
     part_note (notes_below slots 12) b (shared s.0) (place_note slots 12 b s.0 l s.1)
 
 -- a footprint is not empty, and neither are its new contents
-pub never_none : (previous edited : List (Option Pointer)) (b : ℕ) → b < 12 → is_some (slot_at previous b) ≡ true
+pub update_has_contents : (previous edited : List (Option Pointer)) (b : ℕ) → b < 12 → is_some (slot_at previous b) ≡ true
     → parts_of_notes (notes_below edited 12) ≡ parts_of_notes (notes_below previous 12) → ((k : ℕ) → slot_at edited k ≡ None) → ⊥
-never_none previous edited b l some same none =
+update_has_contents previous edited b l some same none =
     let empty : notes_below edited 12 ≡ [] = notes_upto edited 0 12 (λ k l. none k) ∙ notes_none edited in
-    none_in b
+    empty_range_or b
     (subst (λ (l : List ℕ). Contains l b) (sym same ∙ ap (λ (l : List PartNote). parts_of_notes l) empty)
-    (noted_at previous b l some))
+    (slot_of_note previous b l some))
 
 pub local_batch : (cs : List Command) → BatchesAreLocal → 0 < length cs → AreCommands cs → IsLocal batches cs
 local_batch [] law some valid = absurd (omega arith)
 local_batch (c ∷ cs) law some valid = law c cs valid
 
 -- some part was taken, because a footprint is not empty
-pub some_found : (cs : List Command) (previous : List (Option Pointer)) → IsFootprint cs previous → IsLocal batches cs
+pub pointers_of_footprint : (cs : List Command) (previous : List (Option Pointer)) → IsFootprint cs previous → IsLocal batches cs
     → (b : ℕ) × (b < 12) × (is_some (slot_at previous b) ≡ true)
-some_found cs previous set_is_valid local = let s = local.some in (s.0, s.1, set_is_valid s.0 s.1 ∙ s.2)
+pointers_of_footprint cs previous set_is_valid local = let s = local.some in (s.0, s.1, set_is_valid s.0 s.1 ∙ s.2)

@@ -23,27 +23,27 @@ use Rattle.moc_shared.specs.Private.Seats.{PartNote, IsCarried, part, IsInSky}
 use Rattle.moc_shared.specs.Private.OperationEffects.{HasEffect}
 use Rattle.moc_shared.specs.Private.Held.{HoldsOnly}
 use Rattle.moc_shared.specs.Private.StepEffects.{with_part, with_parts, with_miss, with_misses, with_holds, with_mark}
-use Rattle.moc_shared.specs.Private.Slots.{BatchTakesEffect, MissesTaking, AreWaits, exactly, in_footprint}
+use Rattle.moc_shared.specs.Private.Slots.{BatchTakesEffect, MissesTaking, AreWaits, has_one_of, in_footprint}
 use Rattle.moc_shared.specs.Batches.{BatchCall, BatchRecord, batch_answer}
 use Rattle.moc_shared.specs.Clients.{start_of, clients_of, TakesEffect, HasNoEffect}
 use Rattle.moc_shared.specs.Clients.{TakesEffectAfterWaiting, FailsOutOfMemoryWaiting}
-use Rattle.moc_shared.proofs.Basics.{here, none_in, only}
-use Rattle.moc_shared.proofs.Guarantees.{Stays, stays_through, stays_ended, stays_given, ends_noted, undone_noted, undone_at_once}
-use Rattle.moc_shared.proofs.WaitingViews.{waits_from, stays_waited}
+use Rattle.moc_shared.proofs.Basics.{here, empty_range_or, only}
+use Rattle.moc_shared.proofs.Guarantees.{Stays, client_unchanged_with_parts, client_unchanged_after_call, client_unchanged_after_release, notes_at_end, notes_after_undo, undone_immediately}
+use Rattle.moc_shared.proofs.WaitingViews.{waits_from, client_unchanged_after_waiting}
 
 or_false : (x : Bool) → (x || false) ≡ x
 or_false true = refl
 or_false false = refl
 
-some_inside : (a b : NumberSet) → Some a ≡ Some b → a ≡ b
-some_inside a b e = cc
+some_is_injective : (a b : NumberSet) → Some a ≡ Some b → a ≡ b
+some_is_injective a b e = cc
 
 -- ---- pixels that are already there
 
-old_or : (a b : Bool) → (b ≡ true → a ≡ true) → a ≡ (a || b)
-old_or true b has = refl
-old_or false true has = absurd (true≢false (sym (has refl)))
-old_or false false has = refl
+or_with_implied : (a b : Bool) → (b ≡ true → a ≡ true) → a ≡ (a || b)
+or_with_implied true b has = refl
+or_with_implied false true has = absurd (true≢false (sym (has refl)))
+or_with_implied false false has = refl
 
 new_not : (a b : Bool) → (b ≡ true → a ≡ true) → (b && not a) ≡ false
 new_not true true has = refl
@@ -51,8 +51,8 @@ new_not true false has = refl
 new_not false true has = absurd (true≢false (sym (has refl)))
 new_not false false has = refl
 
-pub union_there : (a b : NumberSet) → finset.is_subset b a ≡ true → a ≡ finset.union a b
-union_there a b all = same_members _ _ (λ q. old_or (finset.contains a q) (finset.contains b q) (finset.is_subset-contains nat_cmp_total b a all q) ∙ sym (finset.contains-union nat_cmp_total a b q))
+pub union_with_subset : (a b : NumberSet) → finset.is_subset b a ≡ true → a ≡ finset.union a b
+union_with_subset a b all = same_members _ _ (λ q. or_with_implied (finset.contains a q) (finset.contains b q) (finset.is_subset-contains nat_cmp_total b a all q) ∙ sym (finset.contains-union nat_cmp_total a b q))
 
 pub none_new : (a b : NumberSet) → finset.is_subset b a ≡ true → 0 ≡ finset.len (finset.difference b a)
 none_new a b all =
@@ -76,7 +76,7 @@ module _ (c : Command) (b : ℕ) (met : (k : ℕ) → footprint c k ≡ nat_eq b
       → HasEffect part batch_answer IsInSky cs (r ∷ []) (note b (Some x) ∷ []) (note b (Some y) ∷ [])
   unfolding batch_answer part
   answers_alone x y r local new determined s w noted =
-      let is : x ≡ part_of s b = some_inside x (part_of s b) (noted b (Some x) (here (note b (Some x)) [])) in (
+      let is : x ≡ part_of s b = some_is_injective x (part_of s b) (noted b (Some x) (here (note b (Some x)) [])) in (
         same_reply batches cs b touched_alone local s w
             ∙ ap (λ (a : NumberSet). reply_on a c ∷ []) (sym is) ∙ ap (λ (q : Reply). q ∷ []) (sym determined),
         (λ k z h. let e : note b (Some y) ≡ note k z = only (note b (Some y)) (note k z) h in
@@ -95,29 +95,29 @@ module _ (c : Command) (b : ℕ) (met : (k : ℕ) → footprint c k ≡ nat_eq b
   noted_alone y p z h = subst (λ (k : ℕ). footprint_of_all cs k ≡ true)
       (ap (λ (t : PartNote). t.part) (only (note b y) (note p z) h)) touched_it
 
-  pub waits_alone : (v : ClientView) (waits : List (ℕ × ℕ)) → AreWaits (exactly b) v waits → AreWaits (in_footprint cs) v waits
+  pub waits_alone : (v : ClientView) (waits : List (ℕ × ℕ)) → AreWaits (has_one_of b) v waits → AreWaits (in_footprint cs) v waits
   waits_alone v waits each h d i = let n = each h d i in
       let same : b ≡ d = n.0 in
       (subst (λ (k : ℕ). footprint_of_all cs k ≡ true) same touched_it, n.1, n.2)
 
   pub ended_alone : (the : SharedMap) (reply : Reply) (number : ℕ) (init u w : ClientView) (y : Option NumberSet)
       (waits : List (ℕ × ℕ)) → init.start ≡ start_of the → init.clients ≡ clients_of the → number ≡ init.mine.number
-      → u ≡ with_parts (with_misses init waits) (note b y ∷ []) → AreWaits (exactly b) init waits
+      → u ≡ with_parts (with_misses init waits) (note b y ∷ []) → AreWaits (has_one_of b) init waits
       → BatchTakesEffect cs (reply ∷ []) [] u w → TakesEffectAfterWaiting the (call_by number cs (reply ∷ [])) init.mine w.mine
   ended_alone the reply number init u w y waits start clients number_is held each determined = (
     (with_misses init waits).mine,
     waits_from the cs init waits clients (waits_alone init waits each),
-    ends_noted the cs (reply ∷ []) number (with_misses init waits) u w (note b y ∷ []) (noted_alone y) start clients
+    notes_at_end the cs (reply ∷ []) number (with_misses init waits) u w (note b y ∷ []) (noted_alone y) start clients
         number_is held determined,
   )
 
   pub undone_alone : (the : SharedMap) (init u w : ClientView) (y : Option NumberSet) (waits : List (ℕ × ℕ))
       → init.clients ≡ clients_of the → u ≡ with_parts (with_misses init waits) (note b y ∷ [])
-      → AreWaits (exactly b) init waits → w ≡ with_holds u [] → FailsOutOfMemoryWaiting the cs init.mine w.mine
+      → AreWaits (has_one_of b) init waits → w ≡ with_holds u [] → FailsOutOfMemoryWaiting the cs init.mine w.mine
   undone_alone the init u w y waits clients held each gave = (
     (with_misses init waits).mine,
     waits_from the cs init waits clients (waits_alone init waits each),
-    inl (undone_noted cs (with_misses init waits) u w (note b y ∷ []) (noted_alone y) held gave),
+    inl (notes_after_undo cs (with_misses init waits) u w (note b y ∷ []) (noted_alone y) held gave),
   )
 
   -- ---- the effect on the view of a call that does not wait
@@ -126,11 +126,11 @@ module _ (c : Command) (b : ℕ) (met : (k : ℕ) → footprint c k ≡ nat_eq b
       → v.start ≡ start_of the → v.clients ≡ clients_of the → number ≡ v.mine.number → u ≡ with_parts v (note b y ∷ [])
       → BatchTakesEffect cs (reply ∷ []) [] u w → TakesEffect the (call_by number cs (reply ∷ [])) v.mine w.mine
   tried_takes_effect the reply number v u w y start clients number_is held determined =
-      ends_noted the cs (reply ∷ []) number v u w (note b y ∷ []) (noted_alone y) start clients number_is held determined
+      notes_at_end the cs (reply ∷ []) number v u w (note b y ∷ []) (noted_alone y) start clients number_is held determined
 
   pub tried_has_no_effect : (v u w : ClientView) (y : Option NumberSet) → u ≡ with_parts v (note b y ∷ []) → w ≡ with_holds u []
       → HasNoEffect cs v.mine w.mine
-  tried_has_no_effect v u w y held gave = undone_noted cs v u w (note b y ∷ []) (noted_alone y) held gave
+  tried_has_no_effect v u w y held gave = notes_after_undo cs v u w (note b y ∷ []) (noted_alone y) held gave
 
   -- the only part of the command was held by another client
   pub missed_alone : (v w : ClientView) (h : ℕ) → b < 12 → v.holds ≡ [] → w ≡ with_miss v h b → h < v.clients
@@ -138,7 +138,7 @@ module _ (c : Command) (b : ℕ) (met : (k : ℕ) → footprint c k ≡ nat_eq b
   missed_alone v w h below none is known other = (
     [],
     is ∙ (λ i. record (with_miss v h b) { holds = none i }),
-    (λ p y i. absurd (none_in (note p y) i)),
+    (λ p y i. absurd (empty_range_or (note p y) i)),
     touched_it,
     below,
     known,
@@ -146,9 +146,9 @@ module _ (c : Command) (b : ℕ) (met : (k : ℕ) → footprint c k ≡ nat_eq b
   )
 
 -- a client that held no part holds one part
-pub one_held : (v u : ClientView) (b : ℕ) (y : Option NumberSet) → v.holds ≡ [] → u ≡ with_part v b y
+pub single_client_holds : (v u : ClientView) (b : ℕ) (y : Option NumberSet) → v.holds ≡ [] → u ≡ with_part v b y
     → u ≡ with_parts v (note b y ∷ [])
-one_held v u b y none is = is
+single_client_holds v u b y none is = is
     ∙ (λ i. record {
       start = v.start;
       clients = v.clients;
@@ -157,20 +157,20 @@ one_held v u b y none is = is
       holds = note b y ∷ none i;
     })
 
-pub stays_alone : (init u w : ClientView) (b : ℕ) (y : Option NumberSet) (waits : List (ℕ × ℕ))
+pub client_unchanged_alone : (init u w : ClientView) (b : ℕ) (y : Option NumberSet) (waits : List (ℕ × ℕ))
     → u ≡ with_parts (with_misses init waits) (note b y ∷ []) → Stays u w → Stays init w
-stays_alone init u w b y waits held s =
-    stays_waited init w waits (stays_through (with_misses init waits) u w (note b y ∷ []) held s)
+client_unchanged_alone init u w b y waits held s =
+    client_unchanged_after_waiting init w waits (client_unchanged_with_parts (with_misses init waits) u w (note b y ∷ []) held s)
 
-pub stays_answered : {E : Type 0} (cs : List Command) (v w : ClientView) (r : Result Reply E)
+pub client_unchanged_after_reply : {E : Type 0} (cs : List Command) (v w : ClientView) (r : Result Reply E)
     → IfOk r (λ x. BatchTakesEffect cs (x ∷ []) [] v w) → OnErr r (w ≡ with_holds v []) → Stays v w
-stays_answered all v w (Ok x) ok err = stays_ended (call_by v.mine.number all (x ∷ [])) v w ok
-stays_answered all v w (Err e) ok err = stays_given v w err
+client_unchanged_after_reply all v w (Ok x) ok err = client_unchanged_after_call (call_by v.mine.number all (x ∷ [])) v w ok
+client_unchanged_after_reply all v w (Err e) ok err = client_unchanged_after_release v w err
 
-pub holds_alone : (init : ClientView) (me : Me (Option Pointer) ClientView) (b : ℕ) (a : NumberSet) (waits : List (ℕ × ℕ))
+pub holds_only_part : (init : ClientView) (me : Me (Option Pointer) ClientView) (b : ℕ) (a : NumberSet) (waits : List (ℕ × ℕ))
     → IsSingleClient init → me.0 ≡ with_parts (with_misses init waits) (note b (Some a) ∷ []) → IsCarried me
     → HoldsOnly b a me
-holds_alone init me b a waits one is carried = record {
+holds_only_part init me b a waits one is carried = record {
   client = subst (λ (v : ClientView). IsSingleClient v) (sym is) (one.0, one.1);
   carried = carried;
   held = λ i. (is i).holds;
@@ -212,4 +212,4 @@ at_err (Err e) p = p
 
 pub failed_at_once : (the : SharedMap) (cs : List Command) (r : BatchRecord) → FailsOutOfMemoryWaiting the cs r r
 failed_at_once the cs r =
-    (r, ([], refl, λ h b i. let x : ℕ × ℕ = (h, b) in absurd (none_in x i)), inl (undone_at_once cs r))
+    (r, ([], refl, λ h b i. let x : ℕ × ℕ = (h, b) in absurd (empty_range_or x i)), inl (undone_immediately cs r))

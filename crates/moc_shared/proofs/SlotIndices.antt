@@ -13,12 +13,12 @@ use Rattle.moc_shared.specs.Private.Seats.{PartNote, content, shared, note_if, s
 use Rattle.moc_shared.specs.Private.Slots.{changed_content}
 use Rattle.std.specs.Arc.{arc_value}
 use Rattle.std.specs.Option.{unwrap_or}
-use Rattle.moc_shared.specs.Private.StepEffects.{with_holds, with_miss, with_part, with_parts, tail}
+use Rattle.moc_shared.specs.Private.StepEffects.{with_holds, with_miss, with_part, with_parts, rest_of_list}
 use Rattle.moc_parts.specs.Batches.{footprint_of_all}
 use Rattle.atomic_table.specs.Table.{Me}
 use Rattle.moc_shared.specs.History.{StandsFor}
-use Rattle.moc_shared.proofs.CarriedSlots.{none_carried}
-use Rattle.moc_shared.proofs.Basics.{here, there, none_in, cons_cases}
+use Rattle.moc_shared.proofs.CarriedSlots.{no_entries_of_no_keys}
+use Rattle.moc_shared.proofs.Basics.{here, there, empty_range_or, cons_cases}
 
 pub notes_none : (previous : List (Option Pointer)) → notes_below previous 0 ≡ []
 unfolding notes_below
@@ -57,7 +57,7 @@ lt_if b p y (Some x) notes below c =
 pub notes_below_lt : (previous : List (Option Pointer)) (b p : ℕ) (y : Option NumberSet)
     → Contains (notes_below previous b) (note p y) → p < b
 notes_below_lt previous zero p y h =
-    absurd (none_in (note p y) (subst (λ (l : List (PartNote)). Contains l (note p y)) (notes_none previous) h))
+    absurd (empty_range_or (note p y) (subst (λ (l : List (PartNote)). Contains l (note p y)) (notes_none previous) h))
 notes_below_lt previous (suc b) p y h =
     lt_if b p y (slot_at previous b) (notes_below previous b) (notes_below_lt previous b p y)
     (subst (λ (l : List (PartNote)). Contains l (note p y)) (notes_next previous b) h)
@@ -83,30 +83,30 @@ next_note init v contents b c x is up some = (λ i. (is i).holds) ∙ ap (notes_
 
 pub given_back : (init v w : ClientView) (contents after : List (Option Pointer)) (b c : ℕ) (x : Pointer)
     → v ≡ with_holds init (notes_below contents b) → b ≡ suc c → slot_at contents c ≡ Some x
-    → after ≡ set contents c None → w ≡ with_holds v (tail v.holds) → w ≡ with_holds init (notes_below after c)
+    → after ≡ set contents c None → w ≡ with_holds v (rest_of_list v.holds) → w ≡ with_holds init (notes_below after c)
 given_back init v w contents after b c x is up some taken gave =
-    let left : tail v.holds ≡ notes_below after c =
-    ap (tail {A = PartNote}) (next_note init v contents b c x is up some)
+    let left : rest_of_list v.holds ≡ notes_below after c =
+    ap (rest_of_list {A = PartNote}) (next_note init v contents b c x is up some)
     ∙ sym (notes_set contents c c None (le_refl c))
     ∙ ap (λ (l : List (Option Pointer)). notes_below l c) (sym taken) in
     gave ∙ (λ i. with_holds (is i) (left i))
 
-pub passed_over : (init v : ClientView) (contents after : List (Option Pointer)) (b c : ℕ)
+pub part_between_slots : (init v : ClientView) (contents after : List (Option Pointer)) (b c : ℕ)
     → v ≡ with_holds init (notes_below contents b) → b ≡ suc c → slot_at contents c ≡ None
     → after ≡ set contents c None → v ≡ with_holds init (notes_below after c)
-passed_over init v contents after b c is up none taken = is
+part_between_slots init v contents after b c is up none taken = is
     ∙ ap (with_holds init)
     (ap (notes_below contents) up ∙ notes_without contents c none ∙ sym (notes_set contents c c None (le_refl c))
     ∙ ap (λ (l : List (Option Pointer)). notes_below l c) (sym taken))
 
-pub all_given : (init : ClientView) (me : Me (Option Pointer) ClientView) (contents : List (Option Pointer)) (b : ℕ)
+pub all_slots_given : (init : ClientView) (me : Me (Option Pointer) ClientView) (contents : List (Option Pointer)) (b : ℕ)
     → me.0 ≡ with_holds init (notes_below contents b) → b ≤ 0 → IsCarried me
     → (let none : Me (Option Pointer) ClientView = (with_holds init [], []) in me ≡ none)
-all_given init me contents b is low carried =
+all_slots_given init me contents b is low carried =
     let zero_is : b ≡ 0 = omega arith in
     let now : me.0 ≡ with_holds init [] = is
     ∙ ap (with_holds init) (ap (notes_below contents) zero_is ∙ notes_none contents) in
-    let none : me.1 ≡ [] = none_carried me.1 (carried ∙ ap (λ (v : ClientView). map table_index (parts_of_notes v.holds)) now) in
+    let none : me.1 ≡ [] = no_entries_of_no_keys me.1 (carried ∙ ap (λ (v : ClientView). map table_index (parts_of_notes v.holds)) now) in
     λ i. (now i, none i)
 
 -- if there is no content from b on, the notes are those below b
@@ -117,9 +117,9 @@ notes_upto previous b (suc d) none = let up : b + suc d ≡ suc (b + d) = omega 
     ∙ notes_without previous (b + d) (none (b + d) (omega arith)) ∙ notes_upto previous b d none
 
 -- every held part is noted below the end of the pointers
-pub held_upto : (v : ClientView) (slots : List (Option Pointer)) (b : ℕ) → v.holds ≡ notes_below slots 12 → b ≤ 12
+pub held_parts_below : (v : ClientView) (slots : List (Option Pointer)) (b : ℕ) → v.holds ≡ notes_below slots 12 → b ≤ 12
     → ((k : ℕ) → b ≤ k → slot_at slots k ≡ None) → v ≡ with_holds v (notes_below slots b)
-held_upto v slots b is within none =
+held_parts_below v slots b is within none =
     let below : v.holds ≡ notes_below slots b = is
     ∙ sym (ap (notes_below slots) (let e : b + (12 - b) ≡ 12 = omega arith in e)) ∙ notes_upto slots b (12 - b) none in
     λ i. with_holds v (below i)
@@ -130,10 +130,10 @@ start_parts v w previous same idle = same
     ∙ (λ i. record { start = v.start; clients = v.clients; mine = v.mine; others = v.others; holds = idle i })
     ∙ ap (with_parts v) (sym (notes_none previous))
 
-pub took_part : (init v w : ClientView) (previous after : List (Option Pointer)) (b c : ℕ) (x : Pointer)
+pub view_with_taken_part : (init v w : ClientView) (previous after : List (Option Pointer)) (b c : ℕ) (x : Pointer)
     → v ≡ with_parts init (notes_below previous b) → c ≡ suc b → w ≡ with_part v b (shared x)
     → after ≡ set previous b (Some x) → b < length previous → w ≡ with_parts init (notes_below after c)
-took_part init v w previous after b c x is up taken_part put long =
+view_with_taken_part init v w previous after b c x is up taken_part put long =
     let same : notes_below after c ≡ note b (shared x) ∷ notes_below previous b =
     (λ i. notes_below (put i) (up i)) ∙ notes_some (set previous b (Some x)) b x (place_set_same previous b (Some x) long)
     ∙ ap (λ (l : List (PartNote)). note b (shared x) ∷ l) (notes_set previous b b (Some x) (le_refl b)) in
@@ -152,25 +152,25 @@ touched_so_far op previous after b c x so_far up touched put long k l = dite (�
     ∙ ap (λ (o : Option Pointer). is_some o) (place_set_other previous b k (Some x) ne) ∙ so_far k (omega arith))
 
 -- skipping parts without a pointer does not change the view
-pub passed_parts : (init v : ClientView) (previous : List (Option Pointer)) (n b : ℕ)
+pub parts_before_slot : (init v : ClientView) (previous : List (Option Pointer)) (n b : ℕ)
     → v ≡ with_parts init (notes_below previous n) → n ≤ b → ((k : ℕ) → n ≤ k → slot_at previous k ≡ None)
     → v ≡ with_parts init (notes_below previous b)
-passed_parts init v previous n b is le none = let e : n + (b - n) ≡ b = omega arith in is
+parts_before_slot init v previous n b is le none = let e : n + (b - n) ≡ b = omega arith in is
     ∙ ap (with_parts init) (sym (notes_upto previous n (b - n) none) ∙ ap (notes_below previous) e)
 
-pub passed_so_far : (op : List Command) (previous : List (Option Pointer)) (n b : ℕ)
+pub parts_so_far : (op : List Command) (previous : List (Option Pointer)) (n b : ℕ)
     → ((k : ℕ) → k < n → is_some (slot_at previous k) ≡ footprint_of_all op k)
     → ((k : ℕ) → n ≤ k → slot_at previous k ≡ None) → ((k : ℕ) → n ≤ k → k < b → footprint_of_all op k ≡ false)
     → (k : ℕ) → k < b → is_some (slot_at previous k) ≡ footprint_of_all op k
-passed_so_far op previous n b so_far none lacks k l = elim (cases_lt k n) [
+parts_so_far op previous n b so_far none lacks k l = elim (cases_lt k n) [
   | inl behind ↦ so_far k behind
   | inr here ↦ ap (λ (o : Option Pointer). is_some o) (none k here) ∙ sym (lacks k here l)
 ]
 
-pub still_beyond : (previous after : List (Option Pointer)) (b c : ℕ) (x : Pointer)
+pub slots_empty_after : (previous after : List (Option Pointer)) (b c : ℕ) (x : Pointer)
     → ((k : ℕ) → b ≤ k → slot_at previous k ≡ None) → c ≡ suc b → after ≡ set previous b (Some x) → (k : ℕ) → c ≤ k
     → slot_at after k ≡ None
-still_beyond previous after b c x beyond up put k l = ap (λ (z : List (Option Pointer)). slot_at z k) put
+slots_empty_after previous after b c x beyond up put k l = ap (λ (z : List (Option Pointer)). slot_at z k) put
     ∙ place_set_other previous b k (Some x) (λ e. omega arith) ∙ beyond k (omega arith)
 
 place_if : (previous : List (Option Pointer)) (b p : ℕ) (y : Option NumberSet) (o : Option Pointer) → slot_at previous b ≡ o
@@ -184,16 +184,16 @@ place_if previous b p y (Some x) e below h = ⊎_elim
     (λ (t : Contains (notes_below previous b) (note p y)). below t)
     (cons_cases (note b (shared x)) (notes_below previous b) (note p y) h)
 
-note_there : (b : ℕ) (o : Option Pointer) (notes : List (PartNote)) (t : PartNote) → Contains notes t
+slot_of_contained_note : (b : ℕ) (o : Option Pointer) (notes : List (PartNote)) (t : PartNote) → Contains notes t
     → Contains (note_if b o notes) t
-note_there b None notes t h = h
-note_there b (Some x) notes t h = there (note b (shared x)) notes t h
+slot_of_contained_note b None notes t h = h
+slot_of_contained_note b (Some x) notes t h = there (note b (shared x)) notes t h
 
 -- a note comes from a content
 pub note_place : (previous : List (Option Pointer)) (n p : ℕ) (y : Option NumberSet)
     → Contains (notes_below previous n) (note p y) → (x : Pointer) × (slot_at previous p ≡ Some x) × (shared x ≡ y)
 note_place previous zero p y h =
-    absurd (none_in (note p y) (subst (λ (l : List (PartNote)). Contains l (note p y)) (notes_none previous) h))
+    absurd (empty_range_or (note p y) (subst (λ (l : List (PartNote)). Contains l (note p y)) (notes_none previous) h))
 note_place previous (suc b) p y h =
     place_if previous b p y (slot_at previous b) refl (note_place previous b p y)
     (subst (λ (l : List (PartNote)). Contains l (note p y)) (notes_next previous b) h)
@@ -207,36 +207,36 @@ place_note previous (suc b) p x l e = dite (ℕ_discrete p b)
     (subst (λ (j : ℕ). Contains (note b (shared x) ∷ notes_below previous b) (note j (shared x))) (sym same)
     (here (note b (shared x)) (notes_below previous b))))
     (λ ne. subst (λ (l : List (PartNote)). Contains l (note p (shared x))) (sym (notes_next previous b))
-    (note_there b (slot_at previous b) (notes_below previous b) (note p (shared x))
+    (slot_of_contained_note b (slot_at previous b) (notes_below previous b) (note p (shared x))
     (place_note previous b p x (omega arith) e)))
 
 -- each note is that of a part in the footprint
-pub noted_touched : (op : List Command) (previous : List (Option Pointer)) (n p : ℕ) (y : Option NumberSet)
+pub slot_index_of_note : (op : List Command) (previous : List (Option Pointer)) (n p : ℕ) (y : Option NumberSet)
     → ((k : ℕ) → k < n → is_some (slot_at previous k) ≡ footprint_of_all op k) → Contains (notes_below previous n) (note p y)
     → footprint_of_all op p ≡ true
-noted_touched op previous n p y so_far h = let q = note_place previous n p y h in
+slot_index_of_note op previous n p y so_far h = let q = note_place previous n p y h in
     sym (so_far p (notes_below_lt previous n p y h)) ∙ ap (λ (o : Option Pointer). is_some o) q.1
 
-pub holds_upto : (init v w : ClientView) (previous : List (Option Pointer)) (b h : ℕ)
+pub holds_below : (init v w : ClientView) (previous : List (Option Pointer)) (b h : ℕ)
     → v ≡ with_parts init (notes_below previous b) → w ≡ with_miss v h b → b < 12
     → ((k : ℕ) → b ≤ k → slot_at previous k ≡ None) → w.holds ≡ notes_below previous 12
-holds_upto init v w previous b h is misses_are_marks within beyond =
+holds_below init v w previous b h is misses_are_marks within beyond =
     (λ i. (misses_are_marks i).holds) ∙ (λ i. (is i).holds) ∙ sym (notes_upto previous b (12 - b) beyond)
     ∙ ap (notes_below previous) (let e : b + (12 - b) ≡ 12 = omega arith in e)
 
-pub refused_view : (init v w u : ClientView) (previous : List (Option Pointer)) (b h : ℕ)
+pub view_unchanged_if_refused : (init v w u : ClientView) (previous : List (Option Pointer)) (b h : ℕ)
     → v ≡ with_parts init (notes_below previous b) → w ≡ with_miss v h b → u ≡ with_holds w []
     → u ≡ with_holds (with_miss (with_parts init (notes_below previous b)) h b) []
-refused_view init v w u previous b h is misses_are_marks gave = gave
+view_unchanged_if_refused init v w u previous b h is misses_are_marks gave = gave
     ∙ ap (λ (x : ClientView). with_holds x []) (misses_are_marks ∙ ap (λ (x : ClientView). with_miss x h b) is)
 
-pub known_through : (init v : ClientView) (notes : List (PartNote)) (h : ℕ) → v ≡ with_parts init notes → (h < v.clients)
+pub known_part_owner : (init v : ClientView) (notes : List (PartNote)) (h : ℕ) → v ≡ with_parts init notes → (h < v.clients)
     → ¬ StandsFor v.mine h → (h < init.clients) × ¬ StandsFor init.mine h
-known_through init v notes h is below apart =
+known_part_owner init v notes h is below apart =
     subst (λ (x : ClientView). (h < x.clients) × ¬ StandsFor x.mine h) is (below, apart)
 
 note_of : (ts : List (PartNote)) (b : ℕ) → Contains (parts_of_notes ts) b → (y : Option NumberSet) × Contains ts (note b y)
-note_of [] b h = absurd (none_in b h)
+note_of [] b h = absurd (empty_range_or b h)
 note_of (t ∷ ts) b h = ⊎_elim
     (λ (e : t.part ≡ b). (t.content, subst (λ (c : ℕ). Contains (t ∷ ts) (note c t.content)) e (here t ts)))
     (λ (c : Contains (parts_of_notes ts) b). let r = note_of ts b c in (r.0, there t ts (note b r.0) r.1))
@@ -266,13 +266,13 @@ top_note contents after b x within word_count behind some taken =
     ∙ notes_upto contents (suc b) (11 - b) (λ k l. behind k l) ∙ notes_some contents b x some
     ∙ ap (λ (l : List (PartNote)). note b (shared x) ∷ l) (sym rest)
 
-pub apart_top : (after : List (Option Pointer)) (n b : ℕ) → slot_at after b ≡ None
+pub top_slot_separate : (after : List (Option Pointer)) (n b : ℕ) → slot_at after b ≡ None
     → Contains (parts_of_notes (notes_below after n)) b → ⊥
-apart_top after n b none h = let q = note_of (notes_below after n) b h in let p = note_place after n b q.0 q.1 in
+top_slot_separate after n b none h = let q = note_of (notes_below after n) b h in let p = note_place after n b q.0 q.1 in
     let clash : Some p.0 ≡ None = sym p.1 ∙ none in absurd (cc)
 
 pub part_note : (ts : List PartNote) (b : ℕ) (y : Option NumberSet) → Contains ts (note b y) → Contains (parts_of_notes ts) b
-part_note [] b y h = absurd (none_in (note b y) h)
+part_note [] b y h = absurd (empty_range_or (note b y) h)
 part_note (t ∷ ts) b y h = ⊎_elim
     (λ (e : t ≡ note b y). subst (λ (c : ℕ). Contains (parts_of_notes (t ∷ ts)) c) (ap (λ (z : PartNote). z.part) e)
     (here t.part (parts_of_notes ts)))

@@ -19,29 +19,29 @@ use Rattle.moc_shared.specs.Seats.{Pointer}
 use Rattle.moc_shared.specs.Private.Seats.{content, shared, part, slot_at, IsWithinPart, AreWithinOwnParts}
 use Rattle.moc_shared.specs.Private.Slots.{lists_of}
 
-and_twice : (x y : Bool) → ((x && y) && y) ≡ (x && y)
-and_twice true true = refl
-and_twice true false = refl
-and_twice false y = refl
+and_idempotent : (x y : Bool) → ((x && y) && y) ≡ (x && y)
+and_idempotent true true = refl
+and_idempotent true false = refl
+and_idempotent false y = refl
 
 -- part b of part b is part b
-pub part_again : (a : NumberSet) (b : ℕ) → part_of (part_of a b) b ≡ part_of a b
-part_again a b =
+pub part_of_part : (a : NumberSet) (b : ℕ) → part_of (part_of a b) b ≡ part_of a b
+part_of_part a b =
     same_members _ _
     (λ q. contains-part_of (part_of a b) b q
     ∙ ap (λ (x : Bool). x && nat_eq (q / base_pixel_size) b) (contains-part_of a b q)
-    ∙ and_twice (finset.contains a q) (nat_eq (q / base_pixel_size) b) ∙ sym (contains-part_of a b q))
+    ∙ and_idempotent (finset.contains a q) (nat_eq (q / base_pixel_size) b) ∙ sym (contains-part_of a b q))
 
 -- a part of the empty set is empty
-pub part_of_nothing : (b : ℕ) → part_of finset.empty b ≡ finset.empty
-part_of_nothing b =
+pub part_of_empty_set : (b : ℕ) → part_of finset.empty b ≡ finset.empty
+part_of_empty_set b =
     same_members _ _
     (λ q. contains-part_of finset.empty b q
     ∙ ap (λ (x : Bool). x && nat_eq (q / base_pixel_size) b) (finset.contains-empty nat_cmp q)
     ∙ sym (finset.contains-empty nat_cmp q))
 
-some_inside : (a b : NumberSet) → Some a ≡ Some b → a ≡ b
-some_inside a b e = cc
+some_is_injective : (a b : NumberSet) → Some a ≡ Some b → a ≡ b
+some_is_injective a b e = cc
 
 -- a slot whose content is a part of a set has a pointer
 pub never_out : (slot : Option Pointer) (b : ℕ) (a : NumberSet) → content slot ≡ part b a → slot ≡ None → ⊥
@@ -50,17 +50,17 @@ never_out (Some p) b a e n = absurd (cc)
 never_out None b a e n = absurd (cc)
 
 -- its pointer is to a set within the base pixel
-pub own_part : (p : Pointer) (b : ℕ) (a : NumberSet) → shared p ≡ part b a → IsWithinPart b (Some p)
+pub pointer_within_part : (p : Pointer) (b : ℕ) (a : NumberSet) → shared p ≡ part b a → IsWithinPart b (Some p)
 unfolding part
-own_part p b a e = let is : arc_value p ≡ part_of a b = some_inside (arc_value p) (part_of a b) e in
-    subst (λ (x : NumberSet). part_of x b ≡ x) (sym is) (part_again a b)
+pointer_within_part p b a e = let is : arc_value p ≡ part_of a b = some_is_injective (arc_value p) (part_of a b) e in
+    subst (λ (x : NumberSet). part_of x b ≡ x) (sym is) (part_of_part a b)
 
 pub own_none : (b : ℕ) → IsWithinPart b None
-own_none b = part_of_nothing b
+own_none b = part_of_empty_set b
 
-pub own_set : (slots after : List (Option Pointer)) (b : ℕ) (p : Pointer) → AreWithinOwnParts slots → after ≡ set slots b (Some p)
+pub slots_within_after_set : (slots after : List (Option Pointer)) (b : ℕ) (p : Pointer) → AreWithinOwnParts slots → after ≡ set slots b (Some p)
     → b < length slots → IsWithinPart b (Some p) → AreWithinOwnParts after
-own_set slots after b p own put word_count new k =
+slots_within_after_set slots after b p own put word_count new k =
     subst (λ (l : List (Option Pointer)). IsWithinPart k (slot_at l k)) (sym put) (dite (ℕ_discrete k b)
     (λ e. subst (λ (s : Option Pointer). IsWithinPart k s)
     (sym (ap (slot_at (set slots b (Some p))) e ∙ get_or-set_same slots b (Some p) None word_count))
@@ -68,9 +68,9 @@ own_set slots after b p own put word_count new k =
     (λ ne. subst (λ (s : Option Pointer). IsWithinPart k s) (sym (get_or-set_other slots b k (Some p) None ne)) (own k)))
 
 -- the pointer that was removed from a slot whose content is a part of a set
-pub taken_out : (ms : List (ℕ × Option Pointer)) (b c : ℕ) (x y : Option Pointer) (xs ys : List (ℕ × Option Pointer))
+pub slots_after_removal : (ms : List (ℕ × Option Pointer)) (b c : ℕ) (x y : Option Pointer) (xs ys : List (ℕ × Option Pointer))
     → ms ≡ (b, x) ∷ xs → ms ≡ (c, y) ∷ ys → x ≡ y
-taken_out ms b c x y xs ys e d = let f : List (ℕ × Option Pointer) → Option Pointer = first_slot x in ap f (sym e)
+slots_after_removal ms b c x y xs ys e d = let f : List (ℕ × Option Pointer) → Option Pointer = first_slot x in ap f (sym e)
     ∙ ap f d
   where
     first_slot : Option Pointer → List (ℕ × Option Pointer) → Option Pointer
@@ -78,7 +78,7 @@ taken_out ms b c x y xs ys e d = let f : List (ℕ × Option Pointer) → Option
     first_slot z (m ∷ ms) = m.1
 
 -- the sets of the contents of slots
-pub sets_alike : (previous : List (Option (Bor NumberSet))) (slots : List (Option Pointer))
+pub equal_slot_sets : (previous : List (Option (Bor NumberSet))) (slots : List (Option Pointer))
     → map option_copied previous ≡ map content slots → given_sets previous ≡ lists_of slots
-sets_alike previous slots same = sym (map-map content_or_empty option_copied previous) ∙ ap (map content_or_empty) same
+equal_slot_sets previous slots same = sym (map-map content_or_empty option_copied previous) ∙ ap (map content_or_empty) same
     ∙ map-map content_or_empty content slots

@@ -12,7 +12,7 @@ use Rattle.moc_lists.specs.Lemmas.Members.{same_members}
 use Rattle.moc_ranges.specs.Lemmas.Members.{contains-part_of, contains-pixels}
 use Rattle.moc_ranges.specs.Operations.{base_pixel_size, pixels, part_of, IsWithin}
 use Rattle.moc_parts.specs.Parts.{union_of, AreWithinParts}
-use Rattle.moc_shared.proofs.SlotSets.{part_again, own_none}
+use Rattle.moc_shared.proofs.SlotSets.{part_of_part, own_none}
 use Rattle.moc_shared.specs.Seats.{Pointer}
 use Rattle.moc_shared.specs.Private.Seats.{content, part, slot_at, list_of, IsWithinPart, AreWithinOwnParts}
 use Rattle.moc_shared.specs.Private.Slots.{lists_of}
@@ -30,8 +30,8 @@ or_false true = refl
 or_false false = refl
 
 -- a set within one base pixel has no pixel in another
-pub elsewhere : (a : NumberSet) (k q : ℕ) → part_of a k ≡ a → q / base_pixel_size ≢ k → finset.contains a q ≡ false
-elsewhere a k q own ne = ap (λ (s : NumberSet). finset.contains s q) (sym own) ∙ contains-part_of a k q
+pub not_in_other_part : (a : NumberSet) (k q : ℕ) → part_of a k ≡ a → q / base_pixel_size ≢ k → finset.contains a q ≡ false
+not_in_other_part a k q own ne = ap (λ (s : NumberSet). finset.contains s q) (sym own) ∙ contains-part_of a k q
     ∙ ap (λ (t : Bool). finset.contains a q && t) (ne_eqb (q / base_pixel_size) k ne) ∙ and_false (finset.contains a q)
 
 -- the sets are within the base pixels from k on
@@ -53,7 +53,7 @@ union_before : (sets : List NumberSet) (k q : ℕ) → OwnFrom k sets → q / ba
 union_before [] k q own l = finset.contains-empty nat_cmp q
 union_before (a ∷ sets) k q own l =
     finset.contains-union nat_cmp_total a (union_of sets) q
-    ∙ (λ i. elsewhere a k q own.0 (λ e. omega arith) i || union_before sets (suc k) q own.1 (omega arith) i)
+    ∙ (λ i. not_in_other_part a k q own.0 (λ e. omega arith) i || union_before sets (suc k) q own.1 (omega arith) i)
 
 union_in : (sets : List NumberSet) (k q d : ℕ) → OwnFrom k sets → q / base_pixel_size ≡ k + d
     → finset.contains (union_of sets) q ≡ finset.contains (get_or sets d finset.empty) q
@@ -64,7 +64,7 @@ union_in (a ∷ sets) k q zero own e =
     ∙ or_false (finset.contains a q)
 union_in (a ∷ sets) k q (suc d) own e =
     finset.contains-union nat_cmp_total a (union_of sets) q
-    ∙ ap (λ (t : Bool). t || finset.contains (union_of sets) q) (elsewhere a k q own.0 (λ s. omega arith))
+    ∙ ap (λ (t : Bool). t || finset.contains (union_of sets) q) (not_in_other_part a k q own.0 (λ s. omega arith))
     ∙ union_in sets (suc k) q d own.1 (omega arith)
 
 pub list_at : (slots : List (Option Pointer)) (b : ℕ)
@@ -87,8 +87,8 @@ lists_long : (slots : List (Option Pointer)) → length (lists_of slots) ≡ len
 lists_long [] = refl
 lists_long (s ∷ ss) = ap suc (lists_long ss)
 
-pub lie_in_parts : (slots : List (Option Pointer)) → length slots ≡ 12 → AreWithinOwnParts slots → AreWithinParts (lists_of slots)
-lie_in_parts slots long own = record {
+pub lists_within_parts : (slots : List (Option Pointer)) → length slots ≡ 12 → AreWithinOwnParts slots → AreWithinParts (lists_of slots)
+lists_within_parts slots long own = record {
   twelve = lists_long slots ∙ long;
   own = λ b l. subst (λ (a : NumberSet). part_of a b ≡ a) (sym (list_at slots b)) (own b);
 }
@@ -156,7 +156,7 @@ union_whole slots a long within each = same_members _ _ (λ q. union_at slots q 
     own : AreWithinOwnParts slots
     own b = elim (cases_lt b 12) [
       | inl l ↦ subst (λ (s : NumberSet). part_of s b ≡ s) (sym (slot_list (slot_at slots b) b a (each b l)))
-          (part_again a b)
+          (part_of_part a b)
       | inr far ↦ subst (λ (s : Option Pointer). IsWithinPart b s) (sym (get_beyond slots b (omega (arith, long, far))))
           (own_none b)
     ]

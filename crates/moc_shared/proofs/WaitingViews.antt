@@ -8,50 +8,50 @@ use Rattle.moc_shared.specs.History.{StandsFor}
 use Rattle.moc_shared.specs.Seats.{Pointer, ClientView}
 use Rattle.moc_shared.specs.Private.Seats.{shared, notes_below}
 use Rattle.moc_shared.specs.Private.StepEffects.{with_part, with_parts, with_miss, with_misses}
-use Rattle.moc_shared.specs.Private.Slots.{in_footprint, exactly, AreWaits}
+use Rattle.moc_shared.specs.Private.Slots.{in_footprint, has_one_of, AreWaits}
 use Rattle.moc_parts.specs.Batches.{footprint_of_all}
 use Rattle.moc_shared.specs.Clients.{clients_of, Waits}
-use Rattle.moc_shared.proofs.Basics.{none_in, cons_cases}
-use Rattle.moc_shared.proofs.SlotIndices.{took_part}
+use Rattle.moc_shared.proofs.Basics.{empty_range_or, cons_cases}
+use Rattle.moc_shared.proofs.SlotIndices.{view_with_taken_part}
 use Rattle.moc_shared.proofs.Guarantees.{Stays}
 
 pub no_wait : (parts : ℕ → Type 0) (v : ClientView) → AreWaits parts v []
-no_wait parts v h b i = let x : ℕ × ℕ = (h, b) in absurd (none_in x i)
+no_wait parts v h b i = let x : ℕ × ℕ = (h, b) in absurd (empty_range_or x i)
 
 abbrev Pair : ℕ × ℕ → ℕ × ℕ → Type 0
 Pair x y = x ≡ y
 
 -- one more wait
 pub one_wait : (init v w : ClientView) (b h : ℕ) (waits : List (ℕ × ℕ)) → v ≡ with_misses init waits
-    → AreWaits (exactly b) init waits → w ≡ with_miss v h b → h < v.clients → ¬ StandsFor v.mine h
-    → (more : List (ℕ × ℕ)) × (w ≡ with_misses init more) × AreWaits (exactly b) init more
+    → AreWaits (has_one_of b) init waits → w ≡ with_miss v h b → h < v.clients → ¬ StandsFor v.mine h
+    → (more : List (ℕ × ℕ)) × (w ≡ with_misses init more) × AreWaits (has_one_of b) init more
 one_wait init v w b h waits is each misses_are_marks below apart = (
   (h, b) ∷ waits,
   misses_are_marks ∙ ap (λ (x : ClientView). with_miss x h b) is,
   λ g c i. ⊎_elim
       (λ (e : Pair (h, b) (g, c)). let known = subst (λ (x : ClientView). (h < x.clients) × ¬ StandsFor x.mine h) is
       (below, apart) in
-      subst (λ (z : ℕ × ℕ). exactly b z.1 × (z.0 < init.clients) × ¬ StandsFor init.mine z.0) e
+      subst (λ (z : ℕ × ℕ). has_one_of b z.1 × (z.0 < init.clients) × ¬ StandsFor init.mine z.0) e
       (refl, known.0, known.1))
       (λ (t : Contains waits (g, c)). each g c t)
       (cons_cases (h, b) waits (g, c) i),
 )
 
 -- the part was taken after these waits
-pub took_after : (cs : List Command) (init v w : ClientView) (previous after : List (Option Pointer)) (b c : ℕ) (x : Pointer)
+pub view_after_taking : (cs : List Command) (init v w : ClientView) (previous after : List (Option Pointer)) (b c : ℕ) (x : Pointer)
     (waits more : List (ℕ × ℕ))
     → v ≡ with_parts (with_misses init waits) (notes_below previous b) → AreWaits (in_footprint cs) init waits
-    → w ≡ with_part (with_misses v more) b (shared x) → AreWaits (exactly b) v more
+    → w ≡ with_part (with_misses v more) b (shared x) → AreWaits (has_one_of b) v more
     → footprint_of_all cs b ≡ true → c ≡ suc b → after ≡ set previous b (Some x) → b < length previous
     → (all : List (ℕ × ℕ)) × (w ≡ with_parts (with_misses init all) (notes_below after c))
     × AreWaits (in_footprint cs) init all
-took_after cs init v w previous after b c x waits more is each taken_part new touched up put long =
+view_after_taking cs init v w previous after b c x waits more is each taken_part new touched up put long =
     let all : List (ℕ × ℕ) = more ++ waits in
     let v' : ClientView = with_misses v more in
     let joined : v' ≡ with_parts (with_misses init all) (notes_below previous b) =
     ap (λ (u : ClientView). with_misses u more) is ∙ (λ i. with_parts (with_all i) (notes_below previous b)) in (
       all,
-      took_part (with_misses init all) v' w previous after b c x joined up taken_part put long,
+      view_with_taken_part (with_misses init all) v' w previous after b c x joined up taken_part put long,
       λ h d i. ⊎_elim
           (λ (m : Contains more (h, d)).
           let n = new h d m in
@@ -83,8 +83,8 @@ pub waits_from : (the : SharedMap) (cs : List Command) (v : ClientView) (waits :
 waits_from the cs v waits clients each =
     (waits, refl, λ h b i. let w = each h b i in (w.0, subst (λ (n : ℕ). h < n) clients w.1, w.2))
 
-pub stays_waited : (v w : ClientView) (waits : List (ℕ × ℕ)) → Stays (with_misses v waits) w → Stays v w
-stays_waited v w waits t =
+pub client_unchanged_after_waiting : (v w : ClientView) (waits : List (ℕ × ℕ)) → Stays (with_misses v waits) w → Stays v w
+client_unchanged_after_waiting v w waits t =
     record {
       others = t.others;
       no_part = t.no_part;

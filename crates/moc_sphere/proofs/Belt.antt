@@ -6,7 +6,7 @@ use Rattle.std.proofs.Math.Nat.{mul-le-mul_right}
 use Rattle.moc_sphere.specs.Private.Sides.{IsSameCorner}
 use Rattle.moc_sphere.specs.Rings.{row_factor, column_factor, column_at}
 use Rattle.moc_sphere.specs.Touching.{corner_row}
-use Rattle.moc_sphere.proofs.Lattice.{Hop, split, same_rest}
+use Rattle.moc_sphere.proofs.Lattice.{Hop, split_sum, same_rest}
 
 -- Base pixel f is the square (a, b) of the lattice.
 abbrev pub IsSquare : ℕ → ℕ → ℕ → Type 0
@@ -61,9 +61,9 @@ hop_from_columns n J K a b L M c d X Y Z W pos xn yn zn wn j k jlow kfew l m llo
     let kf : K * n ≤ 7 * n = mul-le-mul_right n kfew in
     let mf : M * n ≤ 7 * n = mul-le-mul_right n mfew in
     elim (same_rest (8 * n) (K * n + 8 * n + X - Y) (M * n + 8 * n + Z - W) (omega arith) (omega arith) columns) [
-      | inl e ↦ inl (split n a c X Z pos xn zn (omega arith), split n b d Y W pos yn wn (omega arith))
-      | inr (inl e) ↦ inr (inl (split n a (c + 4) X Z pos xn zn (omega arith), split n (b + 4) d Y W pos yn wn (omega arith)))
-      | inr (inr e) ↦ inr (inr (split n (a + 4) c X Z pos xn zn (omega arith), split n b (d + 4) Y W pos yn wn (omega arith)))
+      | inl e ↦ inl (split_sum n a c X Z pos xn zn (omega arith), split_sum n b d Y W pos yn wn (omega arith))
+      | inr (inl e) ↦ inr (inl (split_sum n a (c + 4) X Z pos xn zn (omega arith), split_sum n (b + 4) d Y W pos yn wn (omega arith)))
+      | inr (inr e) ↦ inr (inr (split_sum n (a + 4) c X Z pos xn zn (omega arith), split_sum n b (d + 4) Y W pos yn wn (omega arith)))
     ]
 
 -- Two corners in the belt that have the same row and the same column are the same point.

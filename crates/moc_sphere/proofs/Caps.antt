@@ -2,7 +2,7 @@
 use Rattle.std.proofs.Common.{◌≡◌, ℕ, ◌+◌, ◌-◌, ◌*◌, ◌%◌, ◌<◌, ◌≤◌, ◌⊎◌, inl, inr, arith}
 use Rattle.std.proofs.Math.Nat.{mul-le-mul_right}
 use Rattle.moc_sphere.specs.Private.Sides.{IsSameCorner}
-use Rattle.moc_sphere.proofs.Lattice.{Split, split, same_rest}
+use Rattle.moc_sphere.proofs.Lattice.{Split, split_sum, same_rest}
 
 -- Position s of triangle a and position t of triangle c are the same, on a circle of four.
 abbrev pub Turn : ℕ → ℕ → ℕ → ℕ → ℕ → Type 0
@@ -14,9 +14,9 @@ turn_from_columns m a c s t pos an cn sn tn columns =
     let af : a * m ≤ 3 * m = mul-le-mul_right m (omega arith) in
     let cf : c * m ≤ 3 * m = mul-le-mul_right m (omega arith) in
     elim (same_rest (4 * m) (a * m + s) (c * m + t) (omega arith) (omega arith) columns) [
-      | inl e ↦ inl (split m a c s t pos sn tn e)
-      | inr (inl e) ↦ inr (inl (split m a (c + 4) s t pos sn tn (omega arith)))
-      | inr (inr e) ↦ inr (inr (split m (a + 4) c s t pos sn tn (omega arith)))
+      | inl e ↦ inl (split_sum m a c s t pos sn tn e)
+      | inr (inl e) ↦ inr (inl (split_sum m a (c + 4) s t pos sn tn (omega arith)))
+      | inr (inr e) ↦ inr (inr (split_sum m (a + 4) c s t pos sn tn (omega arith)))
     ]
 
 pub IsSameCorner-north : (n m f g X Y Z W : ℕ) → f < 4 → g < 4 → X ≤ n → Y ≤ n → Z ≤ n → W ≤ n

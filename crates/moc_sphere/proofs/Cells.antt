@@ -192,8 +192,8 @@ corner_of_west n f g z w pos h =
     corner_of_at n f 0 n g z w n 0 (omega arith) (omega arith) (omega arith) (omega arith) (shares_west n f g n 0 (grind arith))
 
 -- the same corner with equal coordinates
-moved : (n f X Y U V g z w : ℕ) → X ≡ U → Y ≡ V → IsCornerOf n f U V g z w → IsCornerOf n f X Y g z w
-moved n f X Y U V g z w a b c = rw (a, b) c
+corner_of_equal_coordinates : (n f X Y U V g z w : ℕ) → X ≡ U → Y ≡ V → IsCornerOf n f U V g z w → IsCornerOf n f X Y g z w
+corner_of_equal_coordinates n f X Y U V g z w a b c = rw (a, b) c
 
 -- On an axis of a base pixel, a corner at X is a corner of the cell at s - 1.
 abbrev pub Adjoins : ℕ → ℕ → Type 0
@@ -204,14 +204,14 @@ pub corner_of_beside : (n f X Y s t g z w : ℕ) → 0 < n → X ≤ n → Y ≤
 corner_of_beside n f X Y s t g z w pos xn yn (xs, sx) (yt, ty) b =
     elim b [
       | inl h ↦ corner_of_at n f X Y g z w X Y (omega arith) (omega arith) (omega arith) (omega arith) (inl (omega arith, refl, refl))
-      | inr (inl h) ↦ moved n f X Y n Y g z w (omega arith) refl (corner_of_north_east n f Y g z w (t - 1) (omega arith) (omega arith) (omega arith) h.3)
-      | inr (inr (inl h)) ↦ moved n f X Y 0 Y g z w (omega arith) refl (corner_of_south_west n f Y g z w (t - 1) (omega arith) (omega arith) (omega arith) h.3)
-      | inr (inr (inr (inl h))) ↦ moved n f X Y X n g z w refl (omega arith) (corner_of_north_west n f X g z w (s - 1) (omega arith) (omega arith) (omega arith) h.3)
-      | inr (inr (inr (inr (inl h)))) ↦ moved n f X Y X 0 g z w refl (omega arith) (corner_of_south_east n f X g z w (s - 1) (omega arith) (omega arith) (omega arith) h.3)
-      | inr (inr (inr (inr (inr (inl h))))) ↦ moved n f X Y n n g z w (omega arith) (omega arith) (corner_of_north n f g z w pos h.2)
-      | inr (inr (inr (inr (inr (inr (inl h)))))) ↦ moved n f X Y 0 0 g z w (omega arith) (omega arith) (corner_of_south n f g z w pos h.2)
-      | inr (inr (inr (inr (inr (inr (inr (inl h))))))) ↦ moved n f X Y n 0 g z w (omega arith) (omega arith) (corner_of_east n f g z w pos h.2)
-      | inr (inr (inr (inr (inr (inr (inr (inr h))))))) ↦ moved n f X Y 0 n g z w (omega arith) (omega arith) (corner_of_west n f g z w pos h.2)
+      | inr (inl h) ↦ corner_of_equal_coordinates n f X Y n Y g z w (omega arith) refl (corner_of_north_east n f Y g z w (t - 1) (omega arith) (omega arith) (omega arith) h.3)
+      | inr (inr (inl h)) ↦ corner_of_equal_coordinates n f X Y 0 Y g z w (omega arith) refl (corner_of_south_west n f Y g z w (t - 1) (omega arith) (omega arith) (omega arith) h.3)
+      | inr (inr (inr (inl h))) ↦ corner_of_equal_coordinates n f X Y X n g z w refl (omega arith) (corner_of_north_west n f X g z w (s - 1) (omega arith) (omega arith) (omega arith) h.3)
+      | inr (inr (inr (inr (inl h)))) ↦ corner_of_equal_coordinates n f X Y X 0 g z w refl (omega arith) (corner_of_south_east n f X g z w (s - 1) (omega arith) (omega arith) (omega arith) h.3)
+      | inr (inr (inr (inr (inr (inl h))))) ↦ corner_of_equal_coordinates n f X Y n n g z w (omega arith) (omega arith) (corner_of_north n f g z w pos h.2)
+      | inr (inr (inr (inr (inr (inr (inl h)))))) ↦ corner_of_equal_coordinates n f X Y 0 0 g z w (omega arith) (omega arith) (corner_of_south n f g z w pos h.2)
+      | inr (inr (inr (inr (inr (inr (inr (inl h))))))) ↦ corner_of_equal_coordinates n f X Y n 0 g z w (omega arith) (omega arith) (corner_of_east n f g z w pos h.2)
+      | inr (inr (inr (inr (inr (inr (inr (inr h))))))) ↦ corner_of_equal_coordinates n f X Y 0 n g z w (omega arith) (omega arith) (corner_of_west n f g z w pos h.2)
     ]
 
 -- If one of two equal corners is a corner of the cell beside, then it adjoins this cell in coordinates of the base

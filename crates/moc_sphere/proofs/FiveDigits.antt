@@ -89,8 +89,8 @@ none_above : (s : ℕ) → s / 1073741824 ≡ 0 → x_of 15 (s / 1073741824) + 4
 unfolding x_of y_of
 none_above s none = ap (λ n. x_of 15 n + 4294967296 * y_of 15 n) none
 
-pub alone : (s a : ℕ) → s / 1073741824 ≡ 0 → a ≡ x_of 15 s + 4294967296 * y_of 15 s → a ≡ x_of 30 s + 4294967296 * y_of 30 s
-alone s a none low = omega (arith, together s a 0 low (sym (none_above s none)))
+pub fifteen_digits_suffice : (s a : ℕ) → s / 1073741824 ≡ 0 → a ≡ x_of 15 s + 4294967296 * y_of 15 s → a ≡ x_of 30 s + 4294967296 * y_of 30 s
+fifteen_digits_suffice s a none low = omega (arith, together s a 0 low (sym (none_above s none)))
 
 pub places_small : (i a : ℕ) → a ≡ x_of 5 i + 4294967296 * y_of 5 i → a < 137438953472
 places_small i a is =

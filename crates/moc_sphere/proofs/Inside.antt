@@ -10,8 +10,8 @@ use Rattle.moc_sphere.proofs.CellFacts.{index_code, index_fits}
 use Rattle.moc_sphere.proofs.FaceBounds.{side_positive}
 use Rattle.moc_sphere.proofs.Powers.{two_pow_le}
 use Rattle.moc_sphere.proofs.RingCount.{index_of, index_in_range, face_of-index, x_of-index, y_of-index}
-use Rattle.moc_sphere.proofs.Search.{one_at_step}
-use Rattle.moc_sphere.proofs.SpreadSteps.{spread_of-rises}
+use Rattle.moc_sphere.proofs.Search.{cell_at_step_is_unique}
+use Rattle.moc_sphere.proofs.SpreadSteps.{spread_of-ascends}
 use Rattle.moc_sphere.specs.Private.Sides.{IsAtStep}
 use Rattle.moc_sphere.proofs.Touching.{Touches-from_step, step_from_Touches}
 
@@ -88,15 +88,15 @@ module _ (k f x y first p q r s t u : ℕ) (around : IsAround k f x y first p q 
       let up : y + d % 3 - 1 ≡ y + e % 3 - 1 = sym (y_of-index k f (x + d / 3 - 1) (y + d % 3 - 1) (omega arith)) ∙ ap (y_of k) one ∙ y_of-index k f (x + e / 3 - 1) (y + e % 3 - 1) (omega arith) in
       omega arith
 
-  pub across_rises : IsStrictlyIncreasing ((first + p) ∷ (first + q) ∷ (first + r) ∷ [])
-  across_rises zero l = omega (arith, spread_of-rises 32 (x - 1) x (omega arith) (omega (arith, two_pow_le k around.order_in_range)))
-  across_rises (suc zero) l = omega (arith, spread_of-rises 32 x (x + 1) (omega arith) (omega (arith, two_pow_le k around.order_in_range)))
-  across_rises (suc (suc a)) l = absurd (omega arith)
+  pub across_ascends : IsStrictlyIncreasing ((first + p) ∷ (first + q) ∷ (first + r) ∷ [])
+  across_ascends zero l = omega (arith, spread_of-ascends 32 (x - 1) x (omega arith) (omega (arith, two_pow_le k around.order_in_range)))
+  across_ascends (suc zero) l = omega (arith, spread_of-ascends 32 x (x + 1) (omega arith) (omega (arith, two_pow_le k around.order_in_range)))
+  across_ascends (suc (suc a)) l = absurd (omega arith)
 
-  pub up_rises : IsStrictlyIncreasing (2 * s ∷ 2 * t ∷ 2 * u ∷ [])
-  up_rises zero l = omega (arith, spread_of-rises 32 (y - 1) y (omega arith) (omega (arith, two_pow_le k around.order_in_range)))
-  up_rises (suc zero) l = omega (arith, spread_of-rises 32 y (y + 1) (omega arith) (omega (arith, two_pow_le k around.order_in_range)))
-  up_rises (suc (suc a)) l = absurd (omega arith)
+  pub up_ascends : IsStrictlyIncreasing (2 * s ∷ 2 * t ∷ 2 * u ∷ [])
+  up_ascends zero l = omega (arith, spread_of-ascends 32 (y - 1) y (omega arith) (omega (arith, two_pow_le k around.order_in_range)))
+  up_ascends (suc zero) l = omega (arith, spread_of-ascends 32 y (y + 1) (omega arith) (omega (arith, two_pow_le k around.order_in_range)))
+  up_ascends (suc (suc a)) l = absurd (omega arith)
 
   -- the sums except the middle one are the cells that touch
   pub sums_touch : (i : ℕ) (items : List ℕ) → i < cell_count k → face_of k i ≡ f → x_of k i ≡ x → y_of k i ≡ y
@@ -105,7 +105,7 @@ module _ (k f x y first p q r s t u : ℕ) (around : IsAround k f x y first p q 
   sums_touch i items ib ef ex ey has j = (
     (λ c. let sum = (has j).0 c in Touches-from_step k i sum.0 j ib sum.1 sum.2 (there sum.0 j sum.1 (sum.3 ∙ sum_is sum.0 sum.1))),
     (λ t. let step = step_from_Touches k i j t in
-        (has j).1 (step.0, step.1, step.2, one_at_step k i step.0 j _ step.3 (there step.0 _ step.1 refl) ∙ sym (sum_is step.0 step.1))),
+        (has j).1 (step.0, step.1, step.2, cell_at_step_is_unique k i step.0 j _ step.3 (there step.0 _ step.1 refl) ∙ sym (sum_is step.0 step.1))),
   )
     where
       there : (d j : ℕ) → d < 9 → j ≡ index_of k f (x + d / 3 - 1) (y + d % 3 - 1) → IsAtStep k i d j

@@ -5,8 +5,8 @@ use Rattle.std.proofs.Math.Nat.{mul-le-mul_right}
 use Rattle.moc_sphere.specs.Rings.{row_at, column_at, column_factor}
 use Rattle.moc_sphere.specs.Private.RingFormula.{row_start, place_in_row}
 use Rattle.moc_sphere.proofs.Belt.{row_factor_is, column_factor_is}
-use Rattle.moc_sphere.proofs.RingOrder.{start_below_n, start_from_n, start-south, place_below_n, place_from_n, place_past_belt}
-use Rattle.moc_sphere.proofs.Zones.{column_plain, column_turned}
+use Rattle.moc_sphere.proofs.RingOrder.{start_below_n, start_from_n, start-south, place_below_n, place_from_n, place_in_south}
+use Rattle.moc_sphere.proofs.Zones.{column_plain, column_wraps}
 
 -- ---- the rows before a row, counted from a pole; s cells are a quarter of the row
 
@@ -110,7 +110,7 @@ west_middle n zero x y r s w l u row least =
     let e : s ≡ n = omega arith in
     elim (cases_lt x y) [
       | inl turn ↦
-          let place = west_belt n 4 x y r 0 (8 * n + x - y) row (omega arith) (omega arith) (column_turned n x y turn u) in
+          let place = west_belt n 4 x y r 0 (8 * n + x - y) row (omega arith) (omega arith) (column_wraps n x y turn u) in
           record { past = λ h. absurd (omega arith); round = λ h. omega (arith, place) }
       | inr plain ↦
           let place = west_belt n 4 x y r 0 (2 * 0 * n + x - y) row (omega arith) (omega arith) (column_of_middle n 0 x y w l u (omega arith)) in
@@ -174,7 +174,7 @@ mirror_place n f x y low high l u =
           let quarter : g % 4 ≡ f % 4 = omega arith in
           let m : row_at n g a b ≡ 4 * n - row_at n f x y = omega arith in
           let rest : n - 1 - b ≡ x = omega arith in
-          place_below_n n g a b cap ∙ (λ i. quarter i * m i + rest i) ∙ sym (place_past_belt n f x y (omega arith) (omega arith))
+          place_below_n n g a b cap ∙ (λ i. quarter i * m i + rest i) ∙ sym (place_in_south n f x y (omega arith) (omega arith))
       | inr belt ↦
           place_from_n n g a b belt (omega arith) ∙ ap (λ c. c / 2) (mirror_column n f x y low high l u)
           ∙ sym (place_from_n n f x y (omega arith) (omega arith))

@@ -9,13 +9,13 @@ use Rattle.moc_sphere.specs.Faces.{face_of, x_of, y_of}
 use Rattle.moc_sphere.specs.Touching.{Point, corner_point, corner_points, corners_of, corners_shared, is_same_point, is_touching, IsNeighbour, Touches}
 use Rattle.moc_sphere.specs.Private.Sides.{corners_of_step, goes_down, goes_up, IsAtStep, IsBeside}
 use Rattle.moc_sphere.specs.declared.direction.Direction.{Direction}
-use Rattle.moc_sphere.proofs.Shared.{IsCorner, at_corner, corner_in, found_in, same_from_test, same_point, Touches-from_test}
+use Rattle.moc_sphere.proofs.Shared.{IsCorner, at_corner, corner_in, same_point_in_list, same_from_test, same_point, Touches-from_test}
 use Rattle.moc_sphere.proofs.Points.{IsSameCorner-from_same_point}
 use Rattle.moc_sphere.proofs.Names.{same_point-from_Meets}
 use Rattle.moc_sphere.proofs.Cells.{Adjoins, adjoins_from_beside, corner_of_beside}
 use Rattle.moc_sphere.proofs.FaceBounds.{face_of-below, x_of-below, y_of-below, side_positive}
 use Rattle.moc_sphere.proofs.Touching.{step_from_Touches, Touches-from_step}
-use Rattle.moc_sphere.proofs.Search.{one_at_step}
+use Rattle.moc_sphere.proofs.Search.{cell_at_step_is_unique}
 use Rattle.moc_sphere.proofs.CellFacts.{cell_is}
 
 same_test : (b t : Bool) → (b ≡ true → t ≡ true) → (t ≡ true → b ≡ true) → b ≡ t
@@ -97,7 +97,7 @@ module _ (k i j a b : ℕ) (al : a < 3) (bl : b < 3) (ib : i < 12 * 4 ^ k) (jb :
       let v = corner_of_beside (2 ^ k) (face_of k i) X Y (x_of k i + a) (y_of k i + b) (face_of k j) (x_of k j) (y_of k j) (side_positive k) (omega arith) (omega arith) p q at in
       let one = same_point-from_Meets (2 ^ k) (face_of k i) (face_of k j) X Y v.Z v.W (side_positive k) (face_of-below k i ib) (omega arith) (omega arith) v.meets in
       let e = same_point (corner X Y) (corner_point (2 ^ k) (face_of k j) v.Z v.W) one.row one.column in
-      found_in (corner X Y) (corner_points k j) (subst (λ p. Contains (corner_points k j) p) (sym e) (corner_in k j v.Z v.W v.corner))
+      same_point_in_list (corner X Y) (corner_points k j) (subst (λ p. Contains (corner_points k j) p) (sym e) (corner_in k j v.Z v.W v.corner))
 
   south : has (x_of k i) (y_of k i) ≡ (goes_down a && goes_down b)
   south =
@@ -133,10 +133,10 @@ module _ (k i j a b : ℕ) (al : a < 3) (bl : b < 3) (ib : i < 12 * 4 ^ k) (jb :
 
 -- ---- the step of a direction
 
-abbrev any : List Bool → Bool
-any bs = list_any (λ b. b) bs
+abbrev any_of : List Bool → Bool
+any_of bs = list_any (λ b. b) bs
 
-some_corner : (a b : ℕ) → a < 3 → b < 3 → any (corners_of_step a b) ≡ true
+some_corner : (a b : ℕ) → a < 3 → b < 3 → any_of (corners_of_step a b) ≡ true
 some_corner zero zero al bl = refl
 some_corner zero (suc zero) al bl = refl
 some_corner zero (suc (suc zero)) al bl = refl
@@ -152,20 +152,20 @@ some_corner (suc (suc zero)) (suc (suc (suc b))) al bl = absurd (omega arith)
 some_corner (suc (suc (suc a))) b al bl = absurd (omega arith)
 
 -- a cell shares all corners with itself
-own_corners : (k i : ℕ) → corners_shared k i i ≡ corners_of_step 1 1
+corners_of_cell_itself : (k i : ℕ) → corners_shared k i i ≡ corners_of_step 1 1
 unfolding corners_shared corner_points
-own_corners k i =
+corners_of_cell_itself k i =
     let x = x_of k i in
     let y = y_of k i in
     let own : (X Y : ℕ) → IsCorner x y X Y → list_any (is_same_point (corner_point (2 ^ k) (face_of k i) X Y)) (corner_points k i) ≡ true =
-    λ X Y c. found_in (corner_point (2 ^ k) (face_of k i) X Y) (corner_points k i) (corner_in k i X Y c) in
+    λ X Y c. same_point_in_list (corner_point (2 ^ k) (face_of k i) X Y) (corner_points k i) (corner_in k i X Y c) in
     let s = own x y (record { from_x = omega arith; to_x = omega arith; from_y = omega arith; to_y = omega arith }) in
     let e = own (x + 1) y (record { from_x = omega arith; to_x = omega arith; from_y = omega arith; to_y = omega arith }) in
     let w = own x (y + 1) (record { from_x = omega arith; to_x = omega arith; from_y = omega arith; to_y = omega arith }) in
     let n = own (x + 1) (y + 1) (record { from_x = omega arith; to_x = omega arith; from_y = omega arith; to_y = omega arith }) in
     λ t. s t ∷ e t ∷ w t ∷ n t ∷ []
 
-touching_test : (k i j : ℕ) → (i ≡ j → ⊥) → any (corners_shared k i j) ≡ true → is_touching k i j ≡ true
+touching_test : (k i j : ℕ) → (i ≡ j → ⊥) → any_of (corners_shared k i j) ≡ true → is_touching k i j ≡ true
 unfolding is_touching corners_shared corner_points
 touching_test k i j distinct h = and_from _ _ (not_from_false _ (ne_eqb i j distinct)) h
 
@@ -178,9 +178,9 @@ step_of_neighbour k i d s j ib sb off e (jb, shared) =
     let in_first : corners_shared k i j ≡ corners_of_step (s / 3) (s % 3) = shared ∙ sym e in
     let distinct : i ≡ j → ⊥ =
     λ same.
-    let own : corners_shared k i j ≡ corners_of_step 1 1 = subst (λ l. corners_shared k i l ≡ corners_of_step 1 1) same (own_corners k i) in
+    let own : corners_shared k i j ≡ corners_of_step 1 1 = subst (λ l. corners_shared k i l ≡ corners_of_step 1 1) same (corners_of_cell_itself k i) in
     off (same_step s 4 sb (omega arith) (sym in_first ∙ own)) in
-    let t = Touches-from_test k i j ib jb (touching_test k i j distinct (ap any in_first ∙ some_corner (s / 3) (s % 3) (omega arith) (omega arith))) in
+    let t = Touches-from_test k i j ib jb (touching_test k i j distinct (ap any_of in_first ∙ some_corner (s / 3) (s % 3) (omega arith) (omega arith))) in
     of_step (step_from_Touches k i j t) in_first
   where
     of_step : ((u : ℕ) × (u < 9) × (u ≡ 4 → ⊥) × IsAtStep k i u j) → corners_shared k i j ≡ corners_of_step (s / 3) (s % 3) → IsAtStep k i s j
@@ -200,7 +200,7 @@ module _ (k i : ℕ) (d : Direction) (s : ℕ) (ib : i < 12 * 4 ^ k) (sb : s < 9
 
   pub one_only : (r : Option CellNumber) → IsFoundAt k i s r → (j : ℕ) → IsNeighbour k d i j → r ≡ Some (cell_number k j)
   one_only None none j h = absurd (none j (step_of_neighbour k i d s j ib sb off e h))
-  one_only (Some c) (o, at) j h = ap Some (cell_is c k j o (one_at_step k i s c.index j at (step_of_neighbour k i d s j ib sb off e h)))
+  one_only (Some c) (o, at) j h = ap Some (cell_is c k j o (cell_at_step_is_unique k i s c.index j at (step_of_neighbour k i d s j ib sb off e h)))
 
   -- the result touches the cell
   pub one_touches : (r : Option CellNumber) → IsFoundAt k i s r → IfSome r (λ c. Touches k i c.index)

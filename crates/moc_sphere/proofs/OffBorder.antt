@@ -8,16 +8,16 @@ use Rattle.moc_sphere.proofs.Places.{pow_suc, x_of-lt, y_of-lt}
 use Rattle.moc_sphere.proofs.Powers.{shl_four}
 use Rattle.moc_sphere.proofs.RingCount.{four_pow_pos}
 
-above : (x s : ℕ) → s ≡ spread_of 32 x → 0 < s → 0 < x
-above x s e pos = elim (cases_lt 0 x) [
+x_positive_if_spread_positive : (x s : ℕ) → s ≡ spread_of 32 x → 0 < s → 0 < x
+x_positive_if_spread_positive x s e pos = elim (cases_lt 0 x) [
   | inl l ↦ l
   | inr g ↦
       let z : x ≡ 0 = omega arith in
       absurd (omega (arith, e, ap (spread_of 32) z, spread_of-zero 32, pos))
 ]
 
-below : (k x s : ℕ) → x < 2 ^ k → s ≡ spread_of 32 x → s < spread_of 32 (2 ^ k - 1) → x + 1 < 2 ^ k
-below k x s l e less = elim (cases_lt (x + 1) (2 ^ k)) [
+x_below_last : (k x s : ℕ) → x < 2 ^ k → s ≡ spread_of 32 x → s < spread_of 32 (2 ^ k - 1) → x + 1 < 2 ^ k
+x_below_last k x s l e less = elim (cases_lt (x + 1) (2 ^ k)) [
   | inl h ↦ h
   | inr g ↦
       let z : x ≡ 2 ^ k - 1 = omega arith in
@@ -31,12 +31,12 @@ pub record IsOff (k x y : ℕ) : Type 0 where
   pub y_above : 0 < y
   pub y_below : y + 1 < 2 ^ k
 
-pub is_off : (k i s t : ℕ) → s ≡ spread_of 32 (x_of k i) → t ≡ spread_of 32 (y_of k i) → 0 < s → s < spread_of 32 (2 ^ k - 1) → 0 < t → t < spread_of 32 (2 ^ k - 1) → IsOff k (x_of k i) (y_of k i)
-is_off k i s t right up sp sl tp tl = record {
-  x_above = above (x_of k i) s right sp;
-  x_below = below k (x_of k i) s (x_of-lt k i) right sl;
-  y_above = above (y_of k i) t up tp;
-  y_below = below k (y_of k i) t (y_of-lt k i) up tl;
+pub off_border : (k i s t : ℕ) → s ≡ spread_of 32 (x_of k i) → t ≡ spread_of 32 (y_of k i) → 0 < s → s < spread_of 32 (2 ^ k - 1) → 0 < t → t < spread_of 32 (2 ^ k - 1) → IsOff k (x_of k i) (y_of k i)
+off_border k i s t right up sp sl tp tl = record {
+  x_above = x_positive_if_spread_positive (x_of k i) s right sp;
+  x_below = x_below_last k (x_of k i) s (x_of-lt k i) right sl;
+  y_above = x_positive_if_spread_positive (y_of k i) t up tp;
+  y_below = x_below_last k (y_of k i) t (y_of-lt k i) up tl;
 }
 
 x_of-all : (k : ℕ) → x_of k (4 ^ k - 1) ≡ 2 ^ k - 1

@@ -15,8 +15,8 @@ pub record Found (k i step : ℕ) (items : List ℕ) : Type 0 where
   pub sound : (j : ℕ) → Contains items j → (d : ℕ) × (d < step) × (d ≡ 4 → ⊥) × IsAtStep k i d j
   pub complete : (j d : ℕ) → d < step → (d ≡ 4 → ⊥) → IsAtStep k i d j → Contains items j
 
-pub found_first : (k i : ℕ) → Found k i 0 []
-found_first k i = record {
+pub nothing_found_at_first : (k i : ℕ) → Found k i 0 []
+nothing_found_at_first k i = record {
   ascending = λ a h. absurd (omega arith);
   early = λ h. omega arith;
   late = λ h. absurd (omega arith);
@@ -67,8 +67,8 @@ module _ (n f s t g z w h u v : ℕ) (b : IsBeside n f s t h u v) where
         | inr (inr (inr (inr (inr (inr (inr (inr (x)))))))) ↦ one_west x
       ]
 
-pub one_at_step : (k i d j l : ℕ) → IsAtStep k i d j → IsAtStep k i d l → j ≡ l
-one_at_step k i d j l (jb, a) (lb, b) =
+pub cell_at_step_is_unique : (k i d j l : ℕ) → IsAtStep k i d j → IsAtStep k i d l → j ≡ l
+cell_at_step_is_unique k i d j l (jb, a) (lb, b) =
     let e = one_beside (2 ^ k) (face_of k i) (x_of k i + d / 3) (y_of k i + d % 3) (face_of k j) (x_of k j) (y_of k j)
     (face_of k l) (x_of k l) (y_of k l) b a in
     same_cell k j l e.0 e.1 e.2
@@ -78,8 +78,8 @@ module _ (k i step : ℕ) (items : List ℕ) (found : Found k i step items) wher
   late_so_far off h = elim (cases_lt 4 step) [ inl s ↦ found.late s | inr s ↦ absurd (off (omega arith)) ]
 
   -- a step that leads to no cell
-  pub found_none : (step ≡ 4 → ⊥) → ((j : ℕ) → IsAtStep k i step j → ⊥) → Found k i (step + 1) items
-  found_none off none = record {
+  pub no_range_contains : (step ≡ 4 → ⊥) → ((j : ℕ) → IsAtStep k i step j → ⊥) → Found k i (step + 1) items
+  no_range_contains off none = record {
     ascending = found.ascending;
     early = λ h. omega (arith, found.early (omega arith));
     late = λ h. omega (arith, late_so_far off h);
@@ -126,18 +126,18 @@ module _ (k i step : ℕ) (items : List ℕ) (found : Found k i step items) wher
             | inl s ↦ inr (found.complete j d s o here)
             | inr s ↦
                 let e : d ≡ step = omega arith in
-                inl (one_at_step k i step j v (subst (λ t. IsAtStep k i t j) e here) at_v)
+                inl (cell_at_step_is_unique k i step j v (subst (λ t. IsAtStep k i t j) e here) at_v)
           ]
 
 pub not_at_step : (k i d n f x y : ℕ) → n ≡ 2 ^ k → f ≡ face_of k i → x ≡ x_of k i → y ≡ y_of k i
     → ((g z w : ℕ) → IsBeside n f (x + d / 3) (y + d % 3) g z w → ⊥) → (j : ℕ) → IsAtStep k i d j → ⊥
 not_at_step k i d n f x y en ef ex ey none j (jb, h) = none (face_of k j) (x_of k j) (y_of k j) (rw (en, ef, ex, ey) h)
 
-pub touch_from_found : (k i : ℕ) (items : List ℕ) → i < 12 * 4 ^ k → Found k i 9 items → (j : ℕ) → Contains items j ↔ Touches k i j
-touch_from_found k i items ib found j = (
+pub found_iff_touches : (k i : ℕ) (items : List ℕ) → i < 12 * 4 ^ k → Found k i 9 items → (j : ℕ) → Contains items j ↔ Touches k i j
+found_iff_touches k i items ib found j = (
   (λ c. let r = found.sound j c in Touches-from_step k i r.0 j ib r.1 r.2 r.3),
   (λ t. let r = step_from_Touches k i j t in found.complete j r.0 r.1 r.2 r.3),
 )
 
-pub few_found : (k i : ℕ) (items : List ℕ) → Found k i 9 items → length items ≤ 8
-few_found k i items found = omega (arith, found.late (omega arith))
+pub at_most_eight_found : (k i : ℕ) (items : List ℕ) → Found k i 9 items → length items ≤ 8
+at_most_eight_found k i items found = omega (arith, found.late (omega arith))

@@ -104,16 +104,16 @@ Touches-from_shared k i j ib jb distinct s =
       in_second = subst (λ p. Contains (corner_points k j) p) (sym e) (corner_in k j s.Z s.W s.in_second);
     }
 
-pub same_to_itself : (p : Point) → is_same_point p p ≡ true
-same_to_itself p = and_from _ _ (eq-eqb p.row p.row refl) (eq-eqb p.column p.column refl)
+pub same_point_reflexive : (p : Point) → is_same_point p p ≡ true
+same_point_reflexive p = and_from _ _ (eq-eqb p.row p.row refl) (eq-eqb p.column p.column refl)
 
 pub same_from_test : (p q : Point) → is_same_point p q ≡ true → p ≡ q
 same_from_test p q h =
     let t = and_parts _ _ h in
     same_point p q (eqb-true p.row q.row t.0) (eqb-true p.column q.column t.1)
 
-pub found_in : (p : Point) (ps : List Point) → Contains ps p → list_any (is_same_point p) ps ≡ true
-found_in p ps (m, h, e) = list_any_at (is_same_point p) ps m p h (ap (is_same_point p) e ∙ same_to_itself p)
+pub same_point_in_list : (p : Point) (ps : List Point) → Contains ps p → list_any (is_same_point p) ps ≡ true
+same_point_in_list p ps (m, h, e) = list_any_at (is_same_point p) ps m p h (ap (is_same_point p) e ∙ same_point_reflexive p)
 
 -- The test returns whether two cells of one order touch.
 pub is_touching-from : (k i j : ℕ) → Touches k i j → is_touching k i j ≡ true
@@ -121,7 +121,7 @@ unfolding is_touching
 is_touching-from k i j t =
     and_from _ _ (not_from_false _ (ne_eqb i j t.distinct))
     (list_any_at (λ p. list_any (is_same_point p) (corner_points k j)) (corner_points k i) t.in_first.0 t.point t.in_first.1
-    (ap (λ q. list_any (is_same_point q) (corner_points k j)) t.in_first.2 ∙ found_in t.point (corner_points k j) t.in_second))
+    (ap (λ q. list_any (is_same_point q) (corner_points k j)) t.in_first.2 ∙ same_point_in_list t.point (corner_points k j) t.in_second))
 
 pub Touches-from_test : (k i j : ℕ) → i < 12 * 4 ^ k → j < 12 * 4 ^ k → is_touching k i j ≡ true → Touches k i j
 unfolding is_touching

@@ -8,17 +8,17 @@ use Rattle.moc_sphere.proofs.BitBlocks.{spaced_ones, spaced_even, comb_1, and_be
 use Rattle.moc_sphere.proofs.CellFacts.{spread_of-zero}
 use Rattle.moc_sphere.proofs.Places.{pow_suc, x_of-spread}
 
-pub spread_of-rises : (k x y : ℕ) → x < y → y < 2 ^ k → spread_of k x < spread_of k y
+pub spread_of-ascends : (k x y : ℕ) → x < y → y < 2 ^ k → spread_of k x < spread_of k y
 unfolding spread_of
-spread_of-rises zero x y lt fits = absurd (omega arith)
-spread_of-rises (suc k) x y lt fits = elim (cases_lt (x / 2) (y / 2)) [
-  | inl less ↦ let rest = spread_of-rises k (x / 2) (y / 2) less (omega (arith, pow_suc 2 k)) in omega arith
+spread_of-ascends zero x y lt fits = absurd (omega arith)
+spread_of-ascends (suc k) x y lt fits = elim (cases_lt (x / 2) (y / 2)) [
+  | inl less ↦ let rest = spread_of-ascends k (x / 2) (y / 2) less (omega (arith, pow_suc 2 k)) in omega arith
   | inr same ↦ let e : x / 2 ≡ y / 2 = omega arith in let rest = ap (spread_of k) e in omega arith
 ]
 
 -- the spread bits of a positive number are positive
 pub spread_of-positive : (k x : ℕ) → 0 < x → x < 2 ^ k → 0 < spread_of k x
-spread_of-positive k x pos fits = omega (arith, spread_of-rises k 0 x pos fits)
+spread_of-positive k x pos fits = omega (arith, spread_of-ascends k 0 x pos fits)
 
 -- the greatest number of spread bits
 pub spread_of-most : spread_of 32 (2 ^ 32 - 1) ≡ 0x5555_5555_5555_5555
@@ -26,7 +26,7 @@ unfolding spread_of
 spread_of-most = refl
 
 pub spread_of-below : (x : ℕ) → x + 1 < 2 ^ 32 → spread_of 32 x < 0x5555_5555_5555_5555
-spread_of-below x fits = omega (arith, spread_of-rises 32 x (2 ^ 32 - 1) (omega arith) (omega arith), spread_of-most)
+spread_of-below x fits = omega (arith, spread_of-ascends 32 x (2 ^ 32 - 1) (omega arith) (omega arith), spread_of-most)
 
 x_of-alone : (k x : ℕ) → x < 2 ^ k → x_of k (spread_of k x) ≡ x
 x_of-alone k x fits =
@@ -36,10 +36,10 @@ x_of-alone k x fits =
 
 -- ---- subtraction of one: a digit 0 borrows, and gives the bit 1
 
-borrowed : (k x : ℕ) → 0 < x → x < 2 ^ k → x_of k (spread_of k x - 1) ≡ x - 1
+x_of_spread_predecessor : (k x : ℕ) → 0 < x → x < 2 ^ k → x_of k (spread_of k x - 1) ≡ x - 1
 unfolding x_of spread_of
-borrowed zero x pos fits = absurd (omega arith)
-borrowed (suc k) x pos fits =
+x_of_spread_predecessor zero x pos fits = absurd (omega arith)
+x_of_spread_predecessor (suc k) x pos fits =
     let s = spread_of k (x / 2) in
     let half : x / 2 < 2 ^ k = omega (arith, pow_suc 2 k) in
     elim (cases_lt 0 (x % 2)) [
@@ -52,47 +52,47 @@ borrowed (suc k) x pos fits =
           let some = spread_of-positive k (x / 2) (omega arith) half in
           let up : (4 * s + x % 2 - 1) / 4 ≡ s - 1 = omega arith in
           let low : (4 * s + x % 2 - 1) % 4 % 2 ≡ 1 = omega arith in
-          let rest = borrowed k (x / 2) (omega arith) half in
+          let rest = x_of_spread_predecessor k (x / 2) (omega arith) half in
           rw (up, low, rest) (omega arith)
     ]
 
 -- ---- addition of one, if each position between is set: a digit 1 carries
 
 -- the positions between k bits
-filling : ℕ → ℕ
-filling zero = 0
-filling (suc k) = 4 * filling k + 2
+spread_gaps : ℕ → ℕ
+spread_gaps zero = 0
+spread_gaps (suc k) = 4 * spread_gaps k + 2
 
-filling_is : filling 32 ≡ 0xaaaa_aaaa_aaaa_aaaa
-unfolding filling
+filling_is : spread_gaps 32 ≡ 0xaaaa_aaaa_aaaa_aaaa
+unfolding spread_gaps
 filling_is = refl
 
-filled : (k x : ℕ) → x < 2 ^ k → x_of k (spread_of k x + filling k) ≡ x
-unfolding x_of spread_of filling
-filled zero x fits = omega arith
-filled (suc k) x fits =
+x_of_spread_filled : (k x : ℕ) → x < 2 ^ k → x_of k (spread_of k x + spread_gaps k) ≡ x
+unfolding x_of spread_of spread_gaps
+x_of_spread_filled zero x fits = omega arith
+x_of_spread_filled (suc k) x fits =
     let s = spread_of k (x / 2) in
-    let up : (4 * s + x % 2 + (4 * filling k + 2)) / 4 ≡ s + filling k = omega arith in
-    let low : (4 * s + x % 2 + (4 * filling k + 2)) % 4 % 2 ≡ x % 2 = omega arith in
-    let rest = filled k (x / 2) (omega (arith, pow_suc 2 k)) in
+    let up : (4 * s + x % 2 + (4 * spread_gaps k + 2)) / 4 ≡ s + spread_gaps k = omega arith in
+    let low : (4 * s + x % 2 + (4 * spread_gaps k + 2)) % 4 % 2 ≡ x % 2 = omega arith in
+    let rest = x_of_spread_filled k (x / 2) (omega (arith, pow_suc 2 k)) in
     rw (up, low, rest) (omega arith)
 
-carried : (k x : ℕ) → x + 1 < 2 ^ k → x_of k (spread_of k x + filling k + 1) ≡ x + 1
-unfolding x_of spread_of filling
-carried zero x fits = absurd (omega arith)
-carried (suc k) x fits =
+x_of_spread_successor : (k x : ℕ) → x + 1 < 2 ^ k → x_of k (spread_of k x + spread_gaps k + 1) ≡ x + 1
+unfolding x_of spread_of spread_gaps
+x_of_spread_successor zero x fits = absurd (omega arith)
+x_of_spread_successor (suc k) x fits =
     let s = spread_of k (x / 2) in
     let side = pow_suc 2 k in
     elim (cases_lt 0 (x % 2)) [
       | inl odd ↦
-          let up : (4 * s + x % 2 + (4 * filling k + 2) + 1) / 4 ≡ s + filling k + 1 = omega arith in
-          let low : (4 * s + x % 2 + (4 * filling k + 2) + 1) % 4 % 2 ≡ 0 = omega arith in
-          let rest = carried k (x / 2) (omega arith) in
+          let up : (4 * s + x % 2 + (4 * spread_gaps k + 2) + 1) / 4 ≡ s + spread_gaps k + 1 = omega arith in
+          let low : (4 * s + x % 2 + (4 * spread_gaps k + 2) + 1) % 4 % 2 ≡ 0 = omega arith in
+          let rest = x_of_spread_successor k (x / 2) (omega arith) in
           rw (up, low, rest) (omega arith)
       | inr even ↦
-          let up : (4 * s + x % 2 + (4 * filling k + 2) + 1) / 4 ≡ s + filling k = omega arith in
-          let low : (4 * s + x % 2 + (4 * filling k + 2) + 1) % 4 % 2 ≡ 1 = omega arith in
-          let rest = filled k (x / 2) (omega arith) in
+          let up : (4 * s + x % 2 + (4 * spread_gaps k + 2) + 1) / 4 ≡ s + spread_gaps k = omega arith in
+          let low : (4 * s + x % 2 + (4 * spread_gaps k + 2) + 1) % 4 % 2 ≡ 1 = omega arith in
+          let rest = x_of_spread_filled k (x / 2) (omega arith) in
           rw (up, low, rest) (omega arith)
     ]
 
@@ -103,9 +103,9 @@ pub spread_mask : (s : ℕ) → bit_and s 0x5555_5555_5555_5555 ≡ spread_of 32
 spread_mask s = spaced_ones (x_of 32 s) (bit_and s 0x5555_5555_5555_5555) (spaced_even s 0x5555_5555_5555_5555 comb_1) (and_below s 0x5555_5555_5555_5555 (omega arith))
 
 pub before_is : (s x : ℕ) → 0 < x → x < 2 ^ 32 → s ≡ spread_of 32 x → bit_and (s - 1) 0x5555_5555_5555_5555 ≡ spread_of 32 (x - 1)
-before_is s x pos fits e = ap (λ n. bit_and (n - 1) 0x5555_5555_5555_5555) e ∙ spread_mask (spread_of 32 x - 1) ∙ ap (spread_of 32) (borrowed 32 x pos fits)
+before_is s x pos fits e = ap (λ n. bit_and (n - 1) 0x5555_5555_5555_5555) e ∙ spread_mask (spread_of 32 x - 1) ∙ ap (spread_of 32) (x_of_spread_predecessor 32 x pos fits)
 
 pub after_is : (s x : ℕ) → x + 1 < 2 ^ 32 → s ≡ spread_of 32 x → bit_and (s + 0xaaaa_aaaa_aaaa_aaaa + 1) 0x5555_5555_5555_5555 ≡ spread_of 32 (x + 1)
 after_is s x fits e =
-    let sum : s + 0xaaaa_aaaa_aaaa_aaaa + 1 ≡ spread_of 32 x + filling 32 + 1 = λ i. e i + sym filling_is i + 1 in
-    ap (λ n. bit_and n 0x5555_5555_5555_5555) sum ∙ spread_mask (spread_of 32 x + filling 32 + 1) ∙ ap (spread_of 32) (carried 32 x fits)
+    let sum : s + 0xaaaa_aaaa_aaaa_aaaa + 1 ≡ spread_of 32 x + spread_gaps 32 + 1 = λ i. e i + sym filling_is i + 1 in
+    ap (λ n. bit_and n 0x5555_5555_5555_5555) sum ∙ spread_mask (spread_of 32 x + spread_gaps 32 + 1) ∙ ap (spread_of 32) (x_of_spread_successor 32 x fits)

@@ -33,9 +33,9 @@ Touches-from_step k i d j ib db off (jb, h) =
     })
 
 -- the number of the step, and that no step but step 4 leads to the cell itself
-numbered : (n f x y g z w : ℕ) → x < n → y < n → Reaches n f x y g z w
+index_of_reached : (n f x y g z w : ℕ) → x < n → y < n → Reaches n f x y g z w
     → (d : ℕ) × (d < 9) × (d ≡ 4 → (f ≡ g) × (x ≡ z) × (y ≡ w)) × IsBeside n f (x + d / 3) (y + d % 3) g z w
-numbered n f x y g z w xn yn (a, b, an, bn, h) =
+index_of_reached n f x y g z w xn yn (a, b, an, bn, h) =
     let p : (3 * a + b) / 3 ≡ a = omega arith in
     let q : (3 * a + b) % 3 ≡ b = omega arith in (
       3 * a + b,
@@ -64,7 +64,7 @@ step_from_Touches k i j t =
     (omega arith) (omega arith) (omega arith) (omega arith) v.point in
     let r = Reaches-from_corners (2 ^ k) (face_of k i) (x_of k i) (y_of k i) v.X v.Y (face_of k j) (x_of k j) (y_of k j) v.Z v.W f x y z w
     v.in_first v.in_second m in
-    let u = numbered (2 ^ k) (face_of k i) (x_of k i) (y_of k i) (face_of k j) (x_of k j) (y_of k j) x y r in
+    let u = index_of_reached (2 ^ k) (face_of k i) (x_of k i) (y_of k i) (face_of k j) (x_of k j) (y_of k j) x y r in
     (u.0, u.1, λ e. t.distinct (let q = u.2 e in same_cell k i j q.0 q.1 q.2), (t.second, u.3))
 
 pub Touches-sym : (k i j : ℕ) → Touches k i j → Touches k j i

@@ -2,7 +2,7 @@
 use Rattle.std.specs.Prelude.{◌≡◌, ℕ, ◌<◌, ◌≤◌, Bool, ◌==◌, List, codes, length, Result, Ok, IfErr, IfOk}
 use Rattle.std.specs.List.{position_or_len, before_first, after_first}
 use Rattle.std.specs.Str.Parse.{IsNumeral, digits_value, without_leading_plus}
-use Rattle.moc_sphere.specs.CellNumber.{CellNumber, IsCell}
+use Rattle.moc_sphere.specs.CellNumber.{max_order, CellNumber, IsCell}
 use Rattle.moc_sphere.specs.declared.invalid_name.InvalidName.{InvalidName}
 
 -- the text is decimal digits, which may follow a plus, and their value is n
@@ -33,8 +33,8 @@ cell_names = codes "an order, a slash and the index of a cell of this order, suc
 
 -- the result of parsing is the order that the text spells, or an error if the text spells no order
 pub record ParsesOrder (text : List ℕ) (r : Result ℕ InvalidName) : Type 0 where
-  pub order : IfOk r (λ k. Spells text k × (k ≤ 29))
-  pub only : (k : ℕ) → k ≤ 29 → Spells text k → r ≡ Ok k
+  pub order : IfOk r (λ k. Spells text k × (k ≤ max_order))
+  pub only : (k : ℕ) → k ≤ max_order → Spells text k → r ≡ Ok k
   pub error : IfErr r (Expects order_names)
 
 -- the result of parsing is the cell that the text spells, or an error if the text spells no cell

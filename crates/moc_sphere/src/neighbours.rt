@@ -1,6 +1,6 @@
 //! The cells that touch a cell, which HEALPix calls its neighbours.
 ghost use Rattle.smallvec.specs.SmallVec.{small_vec_len};
-ghost use Rattle.moc_sphere.specs.CellNumber.{cell_number, IsCell};
+ghost use Rattle.moc_sphere.specs.CellNumber.{base_pixel_count, cell_number, IsCell};
 ghost use Rattle.moc_sphere.specs.Faces.{IsAt, x_of, y_of};
 ghost use Rattle.moc_sphere.specs.Private.Spread.{spread_of};
 ghost use Rattle.moc_sphere.specs.Touching.{IsNeighbour, Touches, healpy_index, touching_cells};
@@ -98,7 +98,7 @@ impl Cell {
 
 /// Returns the neighbour in a direction of the cell at `from`.
 fn neighbour_of(cell: Cell, from: FaceXy, direction: Direction) -> Option<Cell>
-    requires face { from.face < 12 }
+    requires face { from.face < base_pixel_count }
     requires place { IsAt cell from.face from.x from.y }
     requires x { from.x < 2 ^ cell.order }
     requires y { from.y < 2 ^ cell.order }
@@ -112,7 +112,7 @@ fn neighbour_of(cell: Cell, from: FaceXy, direction: Direction) -> Option<Cell>
 /// Returns the cell one step from the cell at `from`, or `None` if no cell is there. The nine steps are numbered by x
 /// and then by y; step 4 leads to the cell itself.
 fn at_step(cell: Cell, from: FaceXy, step: u32) -> Option<Cell>
-    requires face { from.face < 12 }
+    requires face { from.face < base_pixel_count }
     requires place { IsAt cell from.face from.x from.y }
     requires x { from.x < 2 ^ cell.order }
     requires y { from.y < 2 ^ cell.order }
@@ -154,7 +154,7 @@ fn touching_in_face(cell: Cell, x: u64, y: u64, alloc: Global) -> SmallVec<u64, 
 
 /// Returns the indices of the cells that touch the cell at x and y of a base pixel, in any base pixels.
 fn touching_across(cell: Cell, face: u8, x: u32, y: u32, alloc: Global) -> SmallVec<u64, 8>
-    requires face { face < 12 }
+    requires face { face < base_pixel_count }
     requires place { IsAt cell face x y }
     requires x { x < 2 ^ cell.order }
     requires y { y < 2 ^ cell.order }

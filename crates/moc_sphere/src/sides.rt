@@ -6,6 +6,7 @@ ghost use Rattle.moc_sphere.specs.Private.Sides.{IsBeside, IsBeyondEast, IsBeyon
 ghost use Rattle.moc_sphere.specs.Private.Sides.{IsBeyondNorthWest, IsBeyondSouth, IsBeyondSouthEast};
 ghost use Rattle.moc_sphere.specs.Private.Sides.{IsBeyondSouthWest, IsBeyondWest};
 ghost use Rattle.std.specs.Prelude.{◌≡◌, ℕ, ◌+◌, ◌<◌, ◌≤◌, ◌^◌, MatchOption};
+ghost use Rattle.moc_sphere.specs.CellNumber.{base_pixel_count, max_order};
 
 /// A base pixel, and the coordinates (x, y) of a cell in it.
 #[derive(Clone, Copy)]
@@ -26,7 +27,7 @@ impl FaceXy {
 
 /// Returns the cell across the north-eastern side, `along` steps from the eastern end of this side.
 fn beyond_north_east(last: u32, face: u32, along: u32) -> FaceXy
-    requires { face < 12 }
+    requires { face < base_pixel_count }
     ensures { IsBeyondNorthEast last face along result.face result.x result.y }
 {
     if face < 4 {
@@ -40,7 +41,7 @@ fn beyond_north_east(last: u32, face: u32, along: u32) -> FaceXy
 
 /// Returns the cell across the south-western side, `along` steps from the southern end of this side.
 fn beyond_south_west(last: u32, face: u32, along: u32) -> FaceXy
-    requires { face < 12 }
+    requires { face < base_pixel_count }
     ensures { IsBeyondSouthWest last face along result.face result.x result.y }
 {
     if face < 4 {
@@ -54,7 +55,7 @@ fn beyond_south_west(last: u32, face: u32, along: u32) -> FaceXy
 
 /// Returns the cell across the north-western side, `along` steps from the western end of this side.
 fn beyond_north_west(last: u32, face: u32, along: u32) -> FaceXy
-    requires { face < 12 }
+    requires { face < base_pixel_count }
     ensures { IsBeyondNorthWest last face along result.face result.x result.y }
 {
     if face < 4 {
@@ -68,7 +69,7 @@ fn beyond_north_west(last: u32, face: u32, along: u32) -> FaceXy
 
 /// Returns the cell across the south-eastern side, `along` steps from the southern end of this side.
 fn beyond_south_east(last: u32, face: u32, along: u32) -> FaceXy
-    requires { face < 12 }
+    requires { face < base_pixel_count }
     ensures { IsBeyondSouthEast last face along result.face result.x result.y }
 {
     if face < 4 {
@@ -82,7 +83,7 @@ fn beyond_south_east(last: u32, face: u32, along: u32) -> FaceXy
 
 /// Returns the cell across the northern vertex, or `None` if no base pixel touches there.
 fn beyond_north(last: u32, face: u32) -> Option<FaceXy>
-    requires { face < 12 }
+    requires { face < base_pixel_count }
     ensures { MatchOption result
         ((g z w : ℕ) → IsBeyondNorth last face g z w → ⊥)
         (λ to. IsBeyondNorth last face to.face to.x to.y) }
@@ -98,7 +99,7 @@ fn beyond_north(last: u32, face: u32) -> Option<FaceXy>
 
 /// Returns the cell across the southern vertex, or `None` if no base pixel touches there.
 fn beyond_south(last: u32, face: u32) -> Option<FaceXy>
-    requires { face < 12 }
+    requires { face < base_pixel_count }
     ensures { MatchOption result
         ((g z w : ℕ) → IsBeyondSouth last face g z w → ⊥)
         (λ to. IsBeyondSouth last face to.face to.x to.y) }
@@ -114,7 +115,7 @@ fn beyond_south(last: u32, face: u32) -> Option<FaceXy>
 
 /// Returns the cell across the eastern vertex, or `None` if no base pixel touches there.
 fn beyond_east(last: u32, face: u32) -> Option<FaceXy>
-    requires { face < 12 }
+    requires { face < base_pixel_count }
     ensures { MatchOption result
         ((g z w : ℕ) → IsBeyondEast last face g z w → ⊥)
         (λ to. IsBeyondEast last face to.face to.x to.y) }
@@ -128,7 +129,7 @@ fn beyond_east(last: u32, face: u32) -> Option<FaceXy>
 
 /// Returns the cell across the western vertex, or `None` if no base pixel touches there.
 fn beyond_west(last: u32, face: u32) -> Option<FaceXy>
-    requires { face < 12 }
+    requires { face < base_pixel_count }
     ensures { MatchOption result
         ((g z w : ℕ) → IsBeyondWest last face g z w → ⊥)
         (λ to. IsBeyondWest last face to.face to.x to.y) }
@@ -144,8 +145,8 @@ fn beyond_west(last: u32, face: u32) -> Option<FaceXy>
 /// pixels meet. `n` is the number of cells along a side of a base pixel.
 pub(crate) fn beside(n: u32, from: FaceXy, a: u32, b: u32) -> Option<FaceXy>
     requires some { 0 < n }
-    requires bounded { n ≤ 2 ^ 29 }
-    requires face { from.face < 12 }
+    requires bounded { n ≤ 2 ^ max_order }
+    requires face { from.face < base_pixel_count }
     requires x { from.x < n }
     requires y { from.y < n }
     requires a_small { a < 3 }

@@ -42,9 +42,9 @@ module _ {Op Reply : Type 0} (o : Object Op Reply) where
   permitted_on w (step ∷ front) back h k =
       (h.0, subst (λ s. ArePermitted o s (front ++ back)) (sym (locks_are o w step)) (permitted_on (world_after o w step) front back (subst (λ s. ArePermitted o s front) (locks_are o w step) h.1) k))
 
-  pub local_on : (front back : List (Step Op)) → AreLocal o front → AreLocal o back → AreLocal o (front ++ back)
-  local_on [] back h k = k
-  local_on (step ∷ front) back h k = let l = first_local o step front h in rest_local o step (front ++ back) l.0 (local_on front back l.1 k)
+  pub local_step_appended : (front back : List (Step Op)) → AreLocal o front → AreLocal o back → AreLocal o (front ++ back)
+  local_step_appended [] back h k = k
+  local_step_appended (step ∷ front) back h k = let l = first_local o step front h in rest_local o step (front ++ back) l.0 (local_step_appended front back l.1 k)
 
   pub ends_well : (start : NumberSet) (steps more : List (Step Op)) → AreValidSteps o start steps → ArePermitted o (reached_world o start steps).locks more → AreProgress more → ExtendsOrder o start steps more
   ends_well start steps more h k progress =
@@ -52,7 +52,7 @@ module _ {Op Reply : Type 0} (o : Object Op Reply) where
       let covers = covers_of start h.within in
       let e = ends_explained start steps h in
       let all = permitted_on (start_world o start) steps more h.permitted k in
-      let all_local = local_on steps more h.local (progress_all_local o more progress) in
+      let all_local = local_step_appended steps more h.local (progress_all_local o more progress) in
       let f = run_keeps o start more (operations steps) w e.0 e.1 k (progress_all_local o more progress) in
       let closed = run_closes o start (steps ++ more) [] (start_world o start) start (begins_explained o start covers) (λ n x g. absurd (cc (g))) all all_local in
       let ops_are : operations (steps ++ more) ≡ fold operations_after (operations steps) more = operations_append o [] steps more in
@@ -81,7 +81,7 @@ module _ {Op Reply : Type 0} (o : Object Op Reply) where
         steps = reached.steps ++ step ∷ [];
         played = record {
           within = reached.played.within;
-          local = local_on reached.steps (step ∷ []) reached.played.local local;
+          local = local_step_appended reached.steps (step ∷ []) reached.played.local local;
           permitted = permitted_on (start_world o reached.start) reached.steps (step ∷ []) reached.played.permitted
               (ap (λ (u : World Op Reply). refusal o u.locks step) reached.leads ∙ h, tt);
         };

@@ -2,13 +2,13 @@
 use Rattle.std.proofs.Common.{◌≡◌, ℕ, zero, suc, ◌+◌, ◌≤◌, ◌<◌, List, [], ◌∷◌, ◌++◌, length, get_or, refl, sym, ap, subst, ◌∙◌, arith}
 use Rattle.moc_parts.specs.Lemmas.{all_parts}
 
-pub record IsRising (parts : List ℕ) : Type 0 where
+pub record AreFirstParts (parts : List ℕ) : Type 0 where
   pub small : length parts ≤ 12
   pub at : (k : ℕ) → k < length parts → get_or parts k 0 ≡ k
 
-pub all_rising : (parts : List ℕ)
-    → parts ≡ 0 ∷ (1 ∷ (2 ∷ (3 ∷ (4 ∷ (5 ∷ (6 ∷ (7 ∷ (8 ∷ (9 ∷ (10 ∷ (11 ∷ []))))))))))) → (length parts ≡ 12) × IsRising parts
-all_rising parts is =
+pub all_parts_are_first : (parts : List ℕ)
+    → parts ≡ 0 ∷ (1 ∷ (2 ∷ (3 ∷ (4 ∷ (5 ∷ (6 ∷ (7 ∷ (8 ∷ (9 ∷ (10 ∷ (11 ∷ []))))))))))) → (length parts ≡ 12) × AreFirstParts parts
+all_parts_are_first parts is =
     let many : length parts ≡ 12 = ap length is in (
       many,
       record {
@@ -35,10 +35,10 @@ pub record IsTaken (parts others : List ℕ) (b : ℕ) : Type 0 where
   pub fewer : length parts ≡ b + 1
   pub left : length others ≡ b
   pub below : b < 12
-  pub ascending : IsRising others
+  pub ascending : AreFirstParts others
 
-pub last_taken : (parts others : List ℕ) (b : ℕ) → parts ≡ others ++ b ∷ [] → IsRising parts → IsTaken parts others b
-last_taken parts others b is h =
+pub last_part_not_taken : (parts others : List ℕ) (b : ℕ) → parts ≡ others ++ b ∷ [] → AreFirstParts parts → IsTaken parts others b
+last_part_not_taken parts others b is h =
     let many : length parts ≡ length others + 1 = ap length is ∙ length-more others b in
     let last : b ≡ length others =
     sym (at_last others b) ∙ ap (λ xs. get_or xs (length others) 0) (sym is) ∙ h.at (length others) (omega (arith, many)) in

@@ -24,8 +24,8 @@ is_midway x = not x.ended
 
 module _ {Op Reply : Type 0} (o : Object Op Reply) where
   -- a client, if it is midway, holds the part
-  abbrev pub holds_now : Option (Running Op) → ℕ → Bool
-  holds_now r b = option_map_or (λ r. holds o r b) r false
+  abbrev pub holds_in_call : Option (Running Op) → ℕ → Bool
+  holds_in_call r b = option_map_or (λ r. holds o r b) r false
 
   -- a Take, an Edit and a Give for each part of the footprint, and an End
   abbrev pub steps_wanted : Option (Running Op) → ℕ
@@ -50,7 +50,7 @@ module _ {Op Reply : Type 0} (o : Object Op Reply) where
 
   -- the first of these clients that holds a part
   abbrev pub holder_among : Clients Op → List ℕ → ℕ → Option ℕ
-  holder_among m cs b = find (λ c. holds_now (map.get m c) b) cs
+  holder_among m cs b = find (λ c. holds_in_call (map.get m c) b) cs
 
   -- why a Take of a client that has not quit is refused, from its next part
   abbrev pub next_refusal : Locks Op → Option ℕ → Option StepError

@@ -24,17 +24,17 @@ use Rattle.moc_steps.proofs.Headline.{run_append}
 use Rattle.moc_steps.proofs.Measure.{steps_bounded}
 use Rattle.moc_steps.proofs.AnyObject.{permitted_on, ends_well, reached_explained}
 
-progress_on : (front back : List (machine.Step (List Command))) → AreProgress front → AreProgress back → AreProgress (front ++ back)
-progress_on [] back h k = k
-progress_on (s ∷ front) back h k = (h.0, progress_on front back h.1 k)
+progress_of_append : (front back : List (machine.Step (List Command))) → AreProgress front → AreProgress back → AreProgress (front ++ back)
+progress_of_append [] back h k = k
+progress_of_append (s ∷ front) back h k = (h.0, progress_of_append front back h.1 k)
 
 length_on : {X : Type 0} (xs : List X) (x : X) → length (xs ++ x ∷ []) ≡ length xs + 1
 length_on [] x = omega arith
 length_on (y ∷ xs) x = let k : length (xs ++ x ∷ []) ≡ length xs + 1 = length_on xs x in omega arith
 
 -- further steps from a reached world
-on : (old new : BatchWorld) (steps : List (machine.Step (List Command))) (n : ℕ) → IsReachable batches old → length steps ≡ n → ArePermitted batches old.locks steps → AreProgress steps → machine.world_after_all batches old steps ≡ new → LeadsTo old n new
-on old new steps n reached count permitted progress leads =
+leads_by_steps : (old new : BatchWorld) (steps : List (machine.Step (List Command))) (n : ℕ) → IsReachable batches old → length steps ≡ n → ArePermitted batches old.locks steps → AreProgress steps → machine.world_after_all batches old steps ≡ new → LeadsTo old n new
+leads_by_steps old new steps n reached count permitted progress leads =
     let inv = reached_explained batches old reached in
     record {
       steps = steps;
@@ -46,16 +46,16 @@ on old new steps n reached count permitted progress leads =
       ends = λ start before h e. ends_well batches start before steps h (subst (λ (w : BatchWorld). ArePermitted batches w.locks steps) (sym e) permitted) progress;
     }
 
-pub first_on : (old new : BatchWorld) → IsReachable batches old → new ≡ old → LeadsTo old 0 new
-first_on old new reached same = on old new [] 0 reached refl tt tt (sym same)
+pub leads_to_itself : (old new : BatchWorld) → IsReachable batches old → new ≡ old → LeadsTo old 0 new
+leads_to_itself old new reached same = leads_by_steps old new [] 0 reached refl tt tt (sym same)
 
-pub next_on : (old world new : BatchWorld) (n : ℕ) (step : machine.Step (List Command)) → IsReachable batches old → LeadsTo old n world → refusal batches world.locks step ≡ None → is_progress step ≡ true
+pub leads_one_step : (old world new : BatchWorld) (n : ℕ) (step : machine.Step (List Command)) → IsReachable batches old → LeadsTo old n world → refusal batches world.locks step ≡ None → is_progress step ≡ true
     → new ≡ world_after batches world step → LeadsTo old (n + 1) new
-next_on old world new n step reached h permitted progress is =
-    on old new (h.steps ++ step ∷ []) (n + 1) reached
+leads_one_step old world new n step reached h permitted progress is =
+    leads_by_steps old new (h.steps ++ step ∷ []) (n + 1) reached
     (length_on h.steps step ∙ ap (λ k. k + 1) h.count)
     (permitted_on batches old h.steps (step ∷ []) h.permitted (ap (λ (w : BatchWorld). refusal batches w.locks step) h.leads ∙ permitted, tt))
-    (progress_on h.steps (step ∷ []) h.progress (progress, tt))
+    (progress_of_append h.steps (step ∷ []) h.progress (progress, tt))
     (run_append batches old h.steps (step ∷ []) ∙ ap (λ (w : BatchWorld). world_after batches w step) h.leads ∙ sym is)
 
 -- The number of steps to the end is bounded: at most 37 steps for each client
@@ -93,9 +93,9 @@ less_of x y h = let t : nat_lt x y ≡ true = go (nat_lt x y) (nat_eq x y) h in 
     go false true h = absurd h
     go false false h = absurd h
 
-split : (a b : Bool) → T (a && b) → T a × T b
-split true b h = (tt, h)
-split false b h = absurd h
+split_conjunction : (a b : Bool) → T (a && b) → T a × T b
+split_conjunction true b h = (tt, h)
+split_conjunction false b h = absurd h
 
 -- every key in the list is below n
 abbrev AreBelow : ℕ → List (ℕ × Running (List Command)) → Type 0
@@ -110,27 +110,27 @@ below_tail n e es h q r is = elim (same_or q e.0) [
   | inr d ↦ h q r (ap (λ b. cond b (Some e.1) (find nat_cmp q es)) (unsigned_tied q e.0 ∙ ne_eqb q e.0 d) ∙ is)
 ]
 
-ascending : (n x : ℕ) (es : List (ℕ × Running (List Command))) → x < n → T (below_all nat_cmp x es) → T (is_sorted nat_cmp es) → AreBelow n es → suc x + length es ≤ n
-ascending n x [] l above sorted below = omega arith
-ascending n x (e ∷ es) l above sorted below =
-    let a = split (is_lt (nat_cmp x e.0)) (below_all nat_cmp x es) above in
-    let s = split (below_all nat_cmp e.0 es) (is_sorted nat_cmp es) sorted in
+sorted_entries_bounded : (n x : ℕ) (es : List (ℕ × Running (List Command))) → x < n → T (below_all nat_cmp x es) → T (is_sorted nat_cmp es) → AreBelow n es → suc x + length es ≤ n
+sorted_entries_bounded n x [] l above sorted below = omega arith
+sorted_entries_bounded n x (e ∷ es) l above sorted below =
+    let a = split_conjunction (is_lt (nat_cmp x e.0)) (below_all nat_cmp x es) above in
+    let s = split_conjunction (below_all nat_cmp e.0 es) (is_sorted nat_cmp es) sorted in
     let over : x < e.0 = less_of x e.0 a.0 in
-    let rest : suc e.0 + length es ≤ n = ascending n e.0 es (below_head n e es below) s.0 s.1 (below_tail n e es below) in
+    let rest : suc e.0 + length es ≤ n = sorted_entries_bounded n e.0 es (below_head n e es below) s.0 s.1 (below_tail n e es below) in
     omega arith
 
-few_entries : (n : ℕ) (es : List (ℕ × Running (List Command))) → T (is_sorted nat_cmp es) → AreBelow n es → length es ≤ n
-few_entries n [] sorted below = omega arith
-few_entries n (e ∷ es) sorted below =
-    let s = split (below_all nat_cmp e.0 es) (is_sorted nat_cmp es) sorted in
-    let rest : suc e.0 + length es ≤ n = ascending n e.0 es (below_head n e es below) s.0 s.1 (below_tail n e es below) in
+sorted_entry_count_bounded : (n : ℕ) (es : List (ℕ × Running (List Command))) → T (is_sorted nat_cmp es) → AreBelow n es → length es ≤ n
+sorted_entry_count_bounded n [] sorted below = omega arith
+sorted_entry_count_bounded n (e ∷ es) sorted below =
+    let s = split_conjunction (below_all nat_cmp e.0 es) (is_sorted nat_cmp es) sorted in
+    let rest : suc e.0 + length es ≤ n = sorted_entries_bounded n e.0 es (below_head n e es below) s.0 s.1 (below_tail n e es below) in
     omega arith
 
-few_keys : (m : Clients (List Command)) → AreSmall m → length (map.keys m) ≤ 2 ^ 32
-few_keys m h =
+key_count_bounded : (m : Clients (List Command)) → AreSmall m → length (map.keys m) ≤ 2 ^ 32
+key_count_bounded m h =
     let es : List (ℕ × Running (List Command)) = map.entries m in
-    let k : length es ≤ 2 ^ 32 = few_entries (2 ^ 32) es (map.entries_sorted m) (λ q r is. h q r (map.get-entries m q ∙ is)) in
+    let k : length es ≤ 2 ^ 32 = sorted_entry_count_bounded (2 ^ 32) es (map.entries_sorted m) (λ q r is. h q r (map.get-entries m q ∙ is)) in
     subst (λ n. n ≤ 2 ^ 32) (sym (length-map (λ (e : ℕ × Running (List Command)). e.0) es)) k
 
 pub short_way : (m : Clients (List Command)) → AreSmall m → steps_left batches m < 2 ^ 64
-short_way m h = left_short m (few_keys m h)
+short_way m h = left_short m (key_count_bounded m h)

@@ -16,8 +16,8 @@ use Rattle.moc_steps.specs.Private.ClientState.{ClientState}
 use Rattle.moc_steps.specs.Played.{BatchWorld, entries_of}
 use Rattle.moc_steps.specs.Private.Worlds.{HasEntryIndex, IsWorld, world_of}
 use Rattle.moc_steps.specs.declared.step.Entry.{Entry}
-use Rattle.moc_steps.proofs.Cases.{ended_reply, holds_now, completed}
-use Rattle.moc_steps.proofs.Basics.{clash, some_same, true_or_false, not_true_false, not_of_false, both, same_or}
+use Rattle.moc_steps.proofs.Cases.{ended_reply, holds_in_call, completed}
+use Rattle.moc_steps.proofs.Basics.{absurd_bool, some_same, true_or_false, not_true_false, not_of_false, and_is_true, same_or}
 use Rattle.moc_steps.proofs.Basics.{count-append, get-remove_same, get-remove_other}
 use Rattle.moc_steps.proofs.TakingParts.{in_twelve, taken_footprint, took_one}
 use Rattle.moc_steps.proofs.Invariant.{is_any_of}
@@ -25,66 +25,66 @@ use Rattle.moc_steps.proofs.Permitted.{midway_of, end_permitted, end_taken}
 use Rattle.moc_steps.proofs.EndStep.{replied_begin, names_map}
 use Rattle.moc_steps.proofs.AnyObject.{reached_explained}
 use Rattle.moc_steps.proofs.Values.{get-values, values-remove}
-use Rattle.moc_steps.proofs.Preserved.{Table, holder_same, kept_on}
+use Rattle.moc_steps.proofs.Preserved.{Table, holder_same, open_step_unchanged}
 use Rattle.moc_steps.proofs.PreservedSteps.{Goes, entry_of, runs, previous_is}
 
 -- an entry with its reply
-abbrev pub answers : Entry → List Reply → Entry
-answers e y = record { begin = e.begin; client = e.client; reply = Some y }
+abbrev pub entry_with_replies : Entry → List Reply → Entry
+entry_with_replies e y = record { begin = e.begin; client = e.client; reply = Some y }
 
 -- one if the numbers are equal, and zero otherwise
-abbrev one : ℕ → ℕ → ℕ
-one x n = cond (nat_eq x n) 1 0
+abbrev one_if_equal : ℕ → ℕ → ℕ
+one_if_equal x n = cond (nat_eq x n) 1 0
 
-one_is : (x n : ℕ) → x ≡ n → one x n ≡ 1
-one_is x n e = ap (λ b. cond b 1 0) (eq-eqb x n e)
+one_if_equal_is_one : (x n : ℕ) → x ≡ n → one_if_equal x n ≡ 1
+one_if_equal_is_one x n e = ap (λ b. cond b 1 0) (eq-eqb x n e)
 
-one_no : (x n : ℕ) → nat_eq x n ≡ false → one x n ≡ 0
-one_no x n e = ap (λ b. cond b 1 0) e
+one_if_equal_is_zero : (x n : ℕ) → nat_eq x n ≡ false → one_if_equal x n ≡ 0
+one_if_equal_is_zero x n e = ap (λ b. cond b 1 0) e
 
-times_next : (x n : ℕ) (ns : List ℕ) → occurrences n (x ∷ ns) ≡ one x n + occurrences n ns
-times_next x n ns = let head : 0 + one x n ≡ one x n = omega arith in count-append (λ z. nat_eq z n) (x ∷ []) ns ∙ ap (λ k. k + occurrences n ns) head
+times_next : (x n : ℕ) (ns : List ℕ) → occurrences n (x ∷ ns) ≡ one_if_equal x n + occurrences n ns
+times_next x n ns = let head : 0 + one_if_equal x n ≡ one_if_equal x n = omega arith in count-append (λ z. nat_eq z n) (x ∷ []) ns ∙ ap (λ k. k + occurrences n ns) head
 
 -- no reply is set if the number is not in the order
 replied_none : (n : ℕ) (y : List Reply) (es : List Entry) → occurrences n (operation_numbers (entries_of es)) ≡ 0 → map_list (with_reply batches n y) (entries_of es) ≡ entries_of es
 replied_none n y [] h = refl
 replied_none n y (e ∷ es) h =
-    let whole : occurrences n (operation_numbers (entries_of (e ∷ es))) ≡ one e.begin n + occurrences n (operation_numbers (entries_of es)) = times_next e.begin n (operation_numbers (entries_of es)) in
+    let whole : occurrences n (operation_numbers (entries_of (e ∷ es))) ≡ one_if_equal e.begin n + occurrences n (operation_numbers (entries_of es)) = times_next e.begin n (operation_numbers (entries_of es)) in
     let rest : occurrences n (operation_numbers (entries_of es)) ≡ 0 = omega arith in
     elim (true_or_false (nat_eq e.begin n)) [
-      | inl t ↦ (let o : one e.begin n ≡ 1 = ap (λ b. cond b 1 0) t in absurd (omega arith))
+      | inl t ↦ (let o : one_if_equal e.begin n ≡ 1 = ap (λ b. cond b 1 0) t in absurd (omega arith))
       | inr f ↦ (λ i. cond (f i) (record { begin = e.begin; client = e.client; reply = Some y }) (entry_of e) ∷ replied_none n y es rest i)
     ]
 
 -- a number at some index occurs at least once
-stands_once : (ns : List ℕ) (i n : ℕ) → slice_get ns i ≡ Some n → 0 < occurrences n ns
-stands_once [] i n h = absurd (cc)
-stands_once (x ∷ ns) zero n h =
-    let o : one x n ≡ 1 = one_is x n (some_same (Some x) x n refl h) in
-    let whole : occurrences n (x ∷ ns) ≡ one x n + occurrences n ns = times_next x n ns in omega arith
-stands_once (x ∷ ns) (suc i) n h =
-    let l : 0 < occurrences n ns = stands_once ns i n h in
-    let whole : occurrences n (x ∷ ns) ≡ one x n + occurrences n ns = times_next x n ns in omega arith
+occurs_at_index : (ns : List ℕ) (i n : ℕ) → slice_get ns i ≡ Some n → 0 < occurrences n ns
+occurs_at_index [] i n h = absurd (cc)
+occurs_at_index (x ∷ ns) zero n h =
+    let o : one_if_equal x n ≡ 1 = one_if_equal_is_one x n (some_same (Some x) x n refl h) in
+    let whole : occurrences n (x ∷ ns) ≡ one_if_equal x n + occurrences n ns = times_next x n ns in omega arith
+occurs_at_index (x ∷ ns) (suc i) n h =
+    let l : 0 < occurrences n ns = occurs_at_index ns i n h in
+    let whole : occurrences n (x ∷ ns) ≡ one_if_equal x n + occurrences n ns = times_next x n ns in omega arith
 
 -- the reply is set in the entry at the index of a number that occurs once
 pub replied_at : (n : ℕ) (y : List Reply) (es : List Entry) (i : ℕ) (e : Entry) → slice_get es i ≡ Some e → slice_get (operation_numbers (entries_of es)) i ≡ Some n → occurrences n (operation_numbers (entries_of es)) ≡ 1
-    → entries_of (set_at es i (answers e y)) ≡ map_list (with_reply batches n y) (entries_of es)
+    → entries_of (set_at es i (entry_with_replies e y)) ≡ map_list (with_reply batches n y) (entries_of es)
 replied_at n y [] i e is at once = absurd (cc)
 replied_at n y (x ∷ es) zero e is at once =
     let same : x ≡ e = some_same (Some x) x e refl is in
     let named : x.begin ≡ n = some_same (Some x.begin) x.begin n refl at in
     let t : nat_eq x.begin n ≡ true = eq-eqb x.begin n named in
-    let o : one x.begin n ≡ 1 = one_is x.begin n named in
-    let whole : occurrences n (operation_numbers (entries_of (x ∷ es))) ≡ one x.begin n + occurrences n (operation_numbers (entries_of es)) = times_next x.begin n (operation_numbers (entries_of es)) in
+    let o : one_if_equal x.begin n ≡ 1 = one_if_equal_is_one x.begin n named in
+    let whole : occurrences n (operation_numbers (entries_of (x ∷ es))) ≡ one_if_equal x.begin n + occurrences n (operation_numbers (entries_of es)) = times_next x.begin n (operation_numbers (entries_of es)) in
     let rest : occurrences n (operation_numbers (entries_of es)) ≡ 0 = omega arith in
-    ap (λ (z : Entry). entry_of (answers z y) ∷ entries_of es) (sym same)
+    ap (λ (z : Entry). entry_of (entry_with_replies z y) ∷ entries_of es) (sym same)
     ∙ (λ j. cond (sym t j) (record { begin = x.begin; client = x.client; reply = Some y }) (entry_of x) ∷ sym (replied_none n y es rest) j)
 replied_at n y (x ∷ es) (suc i) e is at once =
-    let whole : occurrences n (operation_numbers (entries_of (x ∷ es))) ≡ one x.begin n + occurrences n (operation_numbers (entries_of es)) = times_next x.begin n (operation_numbers (entries_of es)) in
+    let whole : occurrences n (operation_numbers (entries_of (x ∷ es))) ≡ one_if_equal x.begin n + occurrences n (operation_numbers (entries_of es)) = times_next x.begin n (operation_numbers (entries_of es)) in
     elim (true_or_false (nat_eq x.begin n)) [
-      | inl t ↦ (let o : one x.begin n ≡ 1 = ap (λ b. cond b 1 0) t in let l : 0 < occurrences n (operation_numbers (entries_of es)) = stands_once (operation_numbers (entries_of es)) i n at in absurd (omega arith))
+      | inl t ↦ (let o : one_if_equal x.begin n ≡ 1 = ap (λ b. cond b 1 0) t in let l : 0 < occurrences n (operation_numbers (entries_of es)) = occurs_at_index (operation_numbers (entries_of es)) i n at in absurd (omega arith))
       | inr f ↦
-          let o : one x.begin n ≡ 0 = one_no x.begin n f in
+          let o : one_if_equal x.begin n ≡ 0 = one_if_equal_is_zero x.begin n f in
           let rest : occurrences n (operation_numbers (entries_of es)) ≡ 1 = omega arith in
           (λ j. cond (sym f j) (record { begin = x.begin; client = x.client; reply = Some y }) (entry_of x) ∷ replied_at n y es i e is at rest j)
     ]
@@ -123,12 +123,12 @@ module _ (n : ℕ) (m : Table) (ps : List NumberSet) (hs : List (Option ℕ)) (e
         order = (order_is ∙ sym (ap (completed batches v c) (runs n m ps hs es kept c s has))) i;
       }) in (
         is,
-        kept_on n n m (map.remove m c) ps ps hs hs es es' (machine.Step.End c) kept tt tt h is
+        open_step_unchanged n n m (map.remove m c) ps ps hs hs es es' (machine.Step.End c) kept tt tt h is
             (λ reached d l. kept.held d l ∙ sym (holder_same v (world_of n (map.remove m c) ps es') reached d (λ q. elim (same_or q c) [
-              | inl e ↦ ap (λ x. holds_now batches (client_at batches (world_of n (map.remove m c) ps es') x) d) e
-                  ∙ ap (λ x. holds_now batches x d) (get-values (λ (s : ClientState). s.running) (map.remove m c) c ∙ ap (option_map (λ (s : ClientState). s.running)) (get-remove_same m c))
-                  ∙ sym (ap (λ x. holds_now batches (client_at batches v x) d) e ∙ ap (λ x. holds_now batches x d) (runs n m ps hs es kept c s has) ∙ none d (in_twelve d l))
-              | inr f ↦ ap (λ x. holds_now batches x d) (get-values (λ (s : ClientState). s.running) (map.remove m c) q ∙ ap (option_map (λ (s : ClientState). s.running)) (get-remove_other m c q f) ∙ sym (get-values (λ (s : ClientState). s.running) m q))
+              | inl e ↦ ap (λ x. holds_in_call batches (client_at batches (world_of n (map.remove m c) ps es') x) d) e
+                  ∙ ap (λ x. holds_in_call batches x d) (get-values (λ (s : ClientState). s.running) (map.remove m c) c ∙ ap (option_map (λ (s : ClientState). s.running)) (get-remove_same m c))
+                  ∙ sym (ap (λ x. holds_in_call batches (client_at batches v x) d) e ∙ ap (λ x. holds_in_call batches x d) (runs n m ps hs es kept c s has) ∙ none d (in_twelve d l))
+              | inr f ↦ ap (λ x. holds_in_call batches x d) (get-values (λ (s : ClientState). s.running) (map.remove m c) q ∙ ap (option_map (λ (s : ClientState). s.running)) (get-remove_other m c q f) ∙ sym (get-values (λ (s : ClientState). s.running) m q))
             ])))
             (λ q z g. elim (same_or q c) [
               | inl e ↦ absurd (let gone : map.get (map.remove m c) q ≡ None = ap (map.get (map.remove m c)) e ∙ get-remove_same m c in cc (g, gone))
@@ -145,29 +145,29 @@ module _ (n : ℕ) (m : Table) (ps : List NumberSet) (hs : List (Option ℕ)) (e
       let allowed = refused_not c s has h in
       let some = end_taken batches r allowed q in
       let f = own.local.some in
-      let t = took_one batches r f.0 f.1 f.2 (λ zero. clash (nat_eq r.taken 0) (eq-eqb r.taken 0 zero) some) in
+      let t = took_one batches r f.0 f.1 f.2 (λ zero. absurd_bool (nat_eq r.taken 0) (eq-eqb r.taken 0 zero) some) in
       let low = (taken_footprint batches r t.0 t.1).0 in
       let none : holds batches r t.0 ≡ false = end_permitted batches r allowed t.0 (in_twelve t.0 low) in
       sym (kept.placed c s has).0 ∙ elim (true_or_false (set.contains r.given t.0)) [
         | inl g ↦ elim (own.sound.why t.0 g) [
           | inl e ↦ is_any_of r.edited t.0 e
-          | inr u ↦ clash r.quits u q
+          | inr u ↦ absurd_bool r.quits u q
         ]
-        | inr g ↦ clash (holds batches r t.0) (both t.1 (not_of_false g)) none
+        | inr g ↦ absurd_bool (holds batches r t.0) (and_is_true t.1 (not_of_false g)) none
       ]
 
   -- an operation that quits is not committed
   pub quits_uncommitted : (c : ℕ) (s : ClientState) → map.get m c ≡ Some s → s.entry_index ≡ None → refusal batches (world_of n m ps es).locks (machine.Step.End c) ≡ None → s.running.quits ≡ true
   quits_uncommitted c s has none h = elim (true_or_false s.running.quits) [
     | inl q ↦ q
-    | inr q ↦ absurd (let some : is_some s.entry_index ≡ true = ends_committed c s has h q in let not_some : is_some s.entry_index ≡ false = ap is_some none in clash (is_some s.entry_index) some not_some)
+    | inr q ↦ absurd (let some : is_some s.entry_index ≡ true = ends_committed c s has h q in let not_some : is_some s.entry_index ≡ false = ap is_some none in absurd_bool (is_some s.entry_index) some not_some)
   ]
 
   pub committed_stays : (c : ℕ) (s : ClientState) → map.get m c ≡ Some s → is_some s.entry_index ≡ true → s.running.quits ≡ false
   committed_stays c s has some =
       let inv = reached_explained batches (world_of n m ps es) kept.reached in
       let own = inv.1.client c s.running (runs n m ps hs es kept c s has) in
-      not_true_false s.running.quits (λ q. clash (is_nonempty s.running.edited) ((kept.placed c s has).0 ∙ some) (own.sound.clean q))
+      not_true_false s.running.quits (λ q. absurd_bool (is_nonempty s.running.edited) ((kept.placed c s has).0 ∙ some) (own.sound.clean q))
 
   pub quit_ends : (c : ℕ) (s : ClientState) → map.get m c ≡ Some s → s.entry_index ≡ None → refusal batches (world_of n m ps es).locks (machine.Step.End c) ≡ None
       → Goes n m ps es (machine.Step.End c) n (map.remove m c) ps hs es
@@ -190,14 +190,14 @@ module _ (n : ℕ) (m : Table) (ps : List NumberSet) (hs : List (Option ℕ)) (e
   reply_is c s has = ap (λ F. replies_on F s.running.operation) (previous_is n m ps hs es kept c s has)
 
   pub done_ends : (c : ℕ) (s : ClientState) (i : ℕ) (e : Entry) (y : List Reply) → map.get m c ≡ Some s → s.entry_index ≡ Some i → slice_get es i ≡ Some e → y ≡ replies_on s.taken_content s.running.operation
-      → refusal batches (world_of n m ps es).locks (machine.Step.End c) ≡ None → Goes n m ps es (machine.Step.End c) n (map.remove m c) ps hs (set_at es i (answers e y))
+      → refusal batches (world_of n m ps es).locks (machine.Step.End c) ≡ None → Goes n m ps es (machine.Step.End c) n (map.remove m c) ps hs (set_at es i (entry_with_replies e y))
   done_ends c s i e y has at there y_is h =
       let r : Running (List Command) = s.running in
       let inv = reached_explained batches (world_of n m ps es) kept.reached in
       let some : is_some s.entry_index ≡ true = ap is_some at in
       let own = inv.1.client c r (runs n m ps hs es kept c s has) in
       let once : occurrences r.number (operation_numbers (entries_of es)) ≡ 1 = inv.1.named r.number ∙ ap (λ x. cond (is_committed x) 1 0) own.opened ∙ ap (λ b. cond b 1 0) ((kept.placed c s has).0 ∙ some) in
-      end_goes c s (set_at es i (answers e y)) has
+      end_goes c s (set_at es i (entry_with_replies e y)) has
       (replied_at r.number y es i e there (some_name s.entry_index i (operation_numbers (entries_of es)) r.number at (kept.placed c s has).1) once
       ∙ ap (λ z. map_list (with_reply batches r.number z) (entries_of es)) (y_is ∙ sym (reply_is c s has))
       ∙ sym (ap (λ b. cond b (entries_of es) (map_list (with_reply batches r.number (answer_on_previous batches (world_of n m ps es) c r).1) (entries_of es))) (committed_stays c s has some))) h

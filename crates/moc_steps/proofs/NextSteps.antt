@@ -22,7 +22,7 @@ use Rattle.std.specs.FinMap.{find}
 use Rattle.moc_steps.proofs.Cases.{next_refusal, is_in}
 use Rattle.moc_steps.proofs.Permitted.{midway_of}
 use Rattle.moc_steps.specs.declared.error.StepError.TheVariants.{PartHeld}
-use Rattle.moc_steps.proofs.Basics.{clash, some_same, none_or_some, and_true, or_left, or_right, not_of_true, cond_else}
+use Rattle.moc_steps.proofs.Basics.{absurd_bool, some_same, none_or_some, and_true, or_left, or_right, not_of_true, cond_else}
 use Rattle.moc_steps.proofs.TakingParts.{of_twelve, has_all, taken_alike, nothing_taken, taken_below, next_footprint}
 use Rattle.moc_steps.proofs.TakingParts.{nobody_holds, holder_holds}
 use Rattle.moc_steps.proofs.AnyObject.{reached_explained}
@@ -32,7 +32,7 @@ use Rattle.moc_steps.proofs.Values.{len-entries_of}
 pub len_none : {X : Type 0} (es : List (ℕ × X)) → (0 < length es → false ≡ true) → map.len (map.from_entries {R = nat_cmp} es) ≡ 0
 unfolding IsStrictlySortedBy
 len_none [] h = len-entries_of [] tt
-len_none (e ∷ es) h = let clash : false ≡ true = h (omega arith) in absurd (cc (clash))
+len_none (e ∷ es) h = let absurd_bool : false ≡ true = h (omega arith) in absurd (cc (absurd_bool))
 
 none_of : (test : ℕ → Bool) (bs : List ℕ) → ((b : ℕ) → is_in b bs ≡ true → test b ≡ false) → list_any test bs ≡ false
 none_of test [] h = refl
@@ -51,7 +51,7 @@ module _ (w : BatchWorld) (c : ℕ) (r : Running (List Command)) (was : client_a
 
   pub highest_takes : (b : ℕ) → IsHighestHolder w c b → is_some (next_part batches r) ≡ true → r.quits ≡ false → refusal batches w.locks (machine.Step.Take c) ≡ None
   highest_takes b h some stays = elim (none_or_some (next_part batches r)) [
-    | inl e ↦ clash (is_some (next_part batches r)) some (ap is_some e)
+    | inl e ↦ absurd_bool (is_some (next_part batches r)) some (ap is_some e)
     | inr e ↦ takes e.0 e.1 stays (h.1 e.0 (taken_below batches r e.0 b e.1 (and_true _ _ (holder_has b h)).0) (next_footprint batches r e.0 e.1).0)
   ]
 
@@ -88,7 +88,7 @@ module _ (w : BatchWorld) (c : ℕ) (r : Running (List Command)) (was : client_a
         let inv = reached_explained batches w reached in
         let f = (inv.1.client c r was).local.some in
         let zero : r.taken ≡ 0 = grind (arith, nat_tests) in
-        clash (has_taken batches r f.0) (has_all batches r f.0 e f.1 f.2)
+        absurd_bool (has_taken batches r f.0) (has_all batches r f.0 e f.1 f.2)
         (taken_alike batches r (record { number = r.number; operation = r.operation; taken = 0; edited = r.edited; given = r.given; quits = r.quits }) refl zero f.0
         ∙ nothing_taken batches r.number r.operation r.edited r.given r.quits f.0)
   ]

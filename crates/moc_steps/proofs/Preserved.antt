@@ -16,13 +16,13 @@ use Rattle.moc_steps.specs.Private.ClientState.{ClientState}
 use Rattle.moc_steps.specs.Played.{BatchWorld, entries_of}
 use Rattle.moc_steps.specs.Private.Worlds.{HasEntryIndex, IsWorld, map_values, world_of}
 use Rattle.moc_steps.specs.declared.step.Entry.{Entry}
-use Rattle.moc_steps.proofs.Cases.{changed, holds_now}
-use Rattle.moc_steps.proofs.Basics.{clash, some_same, none_or_some, not_true_false, same_or, get-insert_same}
+use Rattle.moc_steps.proofs.Cases.{changed, holds_in_call}
+use Rattle.moc_steps.proofs.Basics.{absurd_bool, some_same, none_or_some, not_true_false, same_or, get-insert_same}
 use Rattle.moc_steps.proofs.Basics.{get-insert_other, get-remove_same, get-remove_other}
 use Rattle.moc_steps.proofs.Headline.{locks_are}
 use Rattle.moc_steps.proofs.TakingParts.{nobody_holds, holder_holds}
 use Rattle.moc_steps.proofs.AnyObject.{reached_explained, step_reached}
-use Rattle.moc_steps.proofs.Values.{get-values, values-insert, insert_again}
+use Rattle.moc_steps.proofs.Values.{get-values, values-insert, insert_same_entry}
 
 abbrev pub Table : Type 0
 Table = map.FinMap nat_cmp ClientState
@@ -46,39 +46,39 @@ clients_changed n m c s s' f is e =
 pub previous_same : (m : Table) (c : ℕ) (s s' : ClientState) → map.get m c ≡ Some s → s'.taken_content ≡ s.taken_content → taken_content_is (map.insert m c s') ≡ taken_content_is m
 previous_same m c s s' is e =
     values-insert (λ (s : ClientState). s.taken_content) m c s' ∙ ap (map.insert (taken_content_is m) c) e
-    ∙ insert_again (taken_content_is m) c s.taken_content (get-values (λ (s : ClientState). s.taken_content) m c ∙ ap (option_map (λ (s : ClientState). s.taken_content)) is)
+    ∙ insert_same_entry (taken_content_is m) c s.taken_content (get-values (λ (s : ClientState). s.taken_content) m c ∙ ap (option_map (λ (s : ClientState). s.taken_content)) is)
 
 -- the holder of a part
 pub holder_of : (w : BatchWorld) → IsReachable batches w → (c b : ℕ) (r : Running (List Command)) → client_at batches w c ≡ Some r → holds batches r b ≡ true → holder batches w.locks.clients b ≡ Some c
 holder_of w reached c b r is h =
     let inv = reached_explained batches w reached in
     elim (none_or_some (holder batches w.locks.clients b)) [
-      | inl e ↦ clash (holds batches r b) h (nobody_holds batches w.locks.clients b c r e is)
+      | inl e ↦ absurd_bool (holds batches r b) h (nobody_holds batches w.locks.clients b c r e is)
       | inr e ↦ let k = holder_holds batches w.locks.clients b e.0 e.1 in e.1 ∙ ap (λ d. Some d) (inv.1.alone e.0 c k.0 r b k.1 is k.2 h)
     ]
 
 pub holder_nobody : (m : Clients (List Command)) (b : ℕ) → ((c : ℕ) (r : Running (List Command)) → map.get m c ≡ Some r → holds batches r b ≡ false) → holder batches m b ≡ None
 holder_nobody m b none = elim (none_or_some (holder batches m b)) [
   | inl e ↦ e
-  | inr e ↦ let k = holder_holds batches m b e.0 e.1 in clash (holds batches k.0 b) k.2 (none e.0 k.0 k.1)
+  | inr e ↦ let k = holder_holds batches m b e.0 e.1 in absurd_bool (holds batches k.0 b) k.2 (none e.0 k.0 k.1)
 ]
 
-now_of : (x : Option (Running (List Command))) (b : ℕ) (r : Running (List Command)) → x ≡ Some r → holds_now batches x b ≡ holds batches r b
-now_of x b r e = ap (λ y. holds_now batches y b) e
+holds_now_of_running : (x : Option (Running (List Command))) (b : ℕ) (r : Running (List Command)) → x ≡ Some r → holds_in_call batches x b ≡ holds batches r b
+holds_now_of_running x b r e = ap (λ y. holds_in_call batches y b) e
 
-of_now : (x : Option (Running (List Command))) (b : ℕ) → holds_now batches x b ≡ true → (r : Running (List Command)) × (x ≡ Some r) × (holds batches r b ≡ true)
-of_now None b h = absurd (cc)
-of_now (Some r) b h = (r, refl, h)
+running_of_holds_now : (x : Option (Running (List Command))) (b : ℕ) → holds_in_call batches x b ≡ true → (r : Running (List Command)) × (x ≡ Some r) × (holds batches r b ≡ true)
+running_of_holds_now None b h = absurd (cc)
+running_of_holds_now (Some r) b h = (r, refl, h)
 
 -- a step after which each client holds the part if and only if it held it before
-pub holder_same : (w w' : BatchWorld) → IsReachable batches w' → (b : ℕ) → ((q : ℕ) → holds_now batches (client_at batches w' q) b ≡ holds_now batches (client_at batches w q) b)
+pub holder_same : (w w' : BatchWorld) → IsReachable batches w' → (b : ℕ) → ((q : ℕ) → holds_in_call batches (client_at batches w' q) b ≡ holds_in_call batches (client_at batches w q) b)
     → holder batches w'.locks.clients b ≡ holder batches w.locks.clients b
 holder_same w w' reached b same = elim (none_or_some (holder batches w.locks.clients b)) [
   | inl e ↦ holder_nobody w'.locks.clients b (λ q r is. not_true_false (holds batches r b) (λ h.
-      let k = of_now (client_at batches w q) b (sym (same q) ∙ now_of (client_at batches w' q) b r is ∙ h) in clash (holds batches k.0 b) k.2 (nobody_holds batches w.locks.clients b q k.0 e k.1))) ∙ sym e
+      let k = running_of_holds_now (client_at batches w q) b (sym (same q) ∙ holds_now_of_running (client_at batches w' q) b r is ∙ h) in absurd_bool (holds batches k.0 b) k.2 (nobody_holds batches w.locks.clients b q k.0 e k.1))) ∙ sym e
   | inr e ↦
       let k = holder_holds batches w.locks.clients b e.0 e.1 in
-      let t = of_now (client_at batches w' e.0) b (same e.0 ∙ now_of (client_at batches w e.0) b k.0 k.1 ∙ k.2) in
+      let t = running_of_holds_now (client_at batches w' e.0) b (same e.0 ∙ holds_now_of_running (client_at batches w e.0) b k.0 k.1 ∙ k.2) in
       holder_of w' reached e.0 b t.0 t.1 t.2 ∙ sym e.1
 ]
 
@@ -117,13 +117,13 @@ small_step l (machine.Step.End c) h b = λ q r is. elim (same_or q c) [
 ]
 
 -- the invariant of the next world, from its holders and the indices of its entries
-pub kept_on : (n n' : ℕ) (m m' : Table) (ps ps' : List NumberSet) (hs hs' : List (Option ℕ)) (es es' : List Entry) (step : machine.Step (List Command))
+pub open_step_unchanged : (n n' : ℕ) (m m' : Table) (ps ps' : List NumberSet) (hs hs' : List (Option ℕ)) (es es' : List Entry) (step : machine.Step (List Command))
     → IsWorld n m ps hs es → AreLocal batches (step ∷ []) → BeginsSmall step → refusal batches (world_of n m ps es).locks step ≡ None
     → world_of n' m' ps' es' ≡ world_after batches (world_of n m ps es) step
     → (IsReachable batches (world_of n' m' ps' es') → (b : ℕ) → b < 12 → get_or hs' b None ≡ holder batches (clients_of m') b)
     → ((c : ℕ) (s : ClientState) → map.get m' c ≡ Some s → HasEntryIndex (operation_numbers (entries_of es')) s.running s.entry_index)
     → IsWorld n' m' ps' hs' es'
-kept_on n n' m m' ps ps' hs hs' es es' step kept local small permitted is held placed =
+open_step_unchanged n n' m m' ps ps' hs hs' es es' step kept local small permitted is held placed =
     let reached : IsReachable batches (world_of n' m' ps' es') = subst (λ w. IsReachable batches w) (sym is) (step_reached batches (world_of n m ps es) step kept.reached local permitted) in
     record {
       reached = reached;
@@ -144,15 +144,15 @@ running_of n m ps es q = get-values (λ (s : ClientState). s.running) m q
 
 -- a client that still holds the same parts
 pub same_on : (n n' : ℕ) (m : Table) (ps ps' : List NumberSet) (es es' : List Entry) (c b : ℕ) (s s' : ClientState) → map.get m c ≡ Some s → holds batches s'.running b ≡ holds batches s.running b
-    → (q : ℕ) → holds_now batches (client_at batches (world_of n' (map.insert m c s') ps' es') q) b ≡ holds_now batches (client_at batches (world_of n m ps es) q) b
+    → (q : ℕ) → holds_in_call batches (client_at batches (world_of n' (map.insert m c s') ps' es') q) b ≡ holds_in_call batches (client_at batches (world_of n m ps es) q) b
 same_on n n' m ps ps' es es' c b s s' is same q =
-    ap (λ x. holds_now batches x b) (running_of n' (map.insert m c s') ps' es' q)
+    ap (λ x. holds_in_call batches x b) (running_of n' (map.insert m c s') ps' es' q)
     ∙ elim (same_or q c) [
-      | inl e ↦ ap (λ x. holds_now batches (option_map (λ (s : ClientState). s.running) x) b) (ap (map.get (map.insert m c s')) e ∙ get-insert_same m c s') ∙ same
-          ∙ sym (ap (λ x. holds_now batches (option_map (λ (s : ClientState). s.running) x) b) (ap (map.get m) e ∙ is))
-      | inr d ↦ ap (λ x. holds_now batches (option_map (λ (s : ClientState). s.running) x) b) (get-insert_other m c s' q d)
+      | inl e ↦ ap (λ x. holds_in_call batches (option_map (λ (s : ClientState). s.running) x) b) (ap (map.get (map.insert m c s')) e ∙ get-insert_same m c s') ∙ same
+          ∙ sym (ap (λ x. holds_in_call batches (option_map (λ (s : ClientState). s.running) x) b) (ap (map.get m) e ∙ is))
+      | inr d ↦ ap (λ x. holds_in_call batches (option_map (λ (s : ClientState). s.running) x) b) (get-insert_other m c s' q d)
     ]
-    ∙ sym (ap (λ x. holds_now batches x b) (running_of n m ps es q))
+    ∙ sym (ap (λ x. holds_in_call batches x b) (running_of n m ps es q))
 
 -- a Quit
 pub quits : ClientState → ClientState

@@ -29,9 +29,9 @@ use Rattle.moc_steps.specs.Played.{BatchWorld, entries_of, step_of}
 use Rattle.moc_steps.specs.Private.Worlds.{HasEntryIndex, IsWorld, world_of}
 use Rattle.moc_parts.specs.declared.reply.Reply.{Reply}
 use Rattle.moc_steps.specs.declared.step.Entry.{Entry}
-use Rattle.moc_steps.proofs.Cases.{previous_next, edited_parts, holds_now, appended}
-use Rattle.moc_steps.proofs.Basics.{clash, some_same, true_or_false, not_true_false, not_of_false, is_some_of, or_false}
-use Rattle.moc_steps.proofs.Basics.{or_right, and_true, both, same_or, same_set, has-empty, map_some_from, get_front}
+use Rattle.moc_steps.proofs.Cases.{previous_next, edited_parts, holds_in_call, appended}
+use Rattle.moc_steps.proofs.Basics.{absurd_bool, some_same, true_or_false, not_true_false, not_of_false, is_some_of, or_false}
+use Rattle.moc_steps.proofs.Basics.{or_right, and_true, and_is_true, same_or, same_set, has-empty, map_some_from, get_front}
 use Rattle.moc_steps.proofs.Basics.{get_last, get-insert_same, get-insert_other, get_set_same, get_set_other}
 use Rattle.moc_steps.proofs.Basics.{has-insert_same, has-insert_other}
 use Rattle.moc_steps.proofs.TakingParts.{taken_alike, taken_footprint, taken-next, taken_below, next_footprint}
@@ -43,7 +43,7 @@ use Rattle.moc_steps.proofs.EditStep.{has_part, names_push}
 use Rattle.moc_steps.proofs.AnyObject.{reached_explained}
 use Rattle.moc_steps.proofs.Values.{get-values, values-insert}
 use Rattle.moc_steps.proofs.Preserved.{Table, clients_of, taken_content_is, clients_changed, previous_same, holder_of, holder_nobody}
-use Rattle.moc_steps.proofs.Preserved.{holder_same, same_on, kept_on, at_each}
+use Rattle.moc_steps.proofs.Preserved.{holder_same, same_on, open_step_unchanged, at_each}
 
 -- a step from one world to the next that preserves the invariant
 abbrev pub Goes : ℕ → Table → List NumberSet → List Entry → machine.Step (List Command) → ℕ → Table → List NumberSet → List (Option ℕ) → List Entry → Type 0
@@ -97,7 +97,7 @@ module _ (n : ℕ) (m : Table) (ps : List NumberSet) (hs : List (Option ℕ)) (e
       }) in
       subst (λ m'. Goes n m ps es (machine.Step.Quit c) n m' ps hs es) (sym (table_is m c s Quit t.1)) (
         is,
-        kept_on n n m (map.insert m c s') ps ps hs hs es es (machine.Step.Quit c) kept tt tt h is
+        open_step_unchanged n n m (map.insert m c s') ps ps hs hs es es (machine.Step.Quit c) kept tt tt h is
             (λ reached b l. kept.held b l ∙ sym (holder_same (world_of n m ps es) (world_of n (map.insert m c s') ps es) reached b
             (same_on n n m ps ps es es c b s s' t.1 (ap (λ x. x && not (set.contains s.running.given b)) (taken_alike batches s'.running s.running refl refl b)))))
             (at_each m c s' (λ q z. HasEntryIndex (operation_numbers (entries_of es)) z.running z.entry_index) (kept.placed c s t.1) (λ q z d g. kept.placed q z g)),
@@ -120,7 +120,7 @@ module _ (n : ℕ) (m : Table) (ps : List NumberSet) (hs : List (Option ℕ)) (e
       let b_low : b < 12 = (taken_footprint batches s.running b (and_true _ _ g.0).0).0 in
       subst (λ m'. Goes n m ps es (machine.Step.Give c b) n m' ps (set_at hs b None) es) (sym (table_is m c s (Give b) t.1)) (
         is,
-        kept_on n n m (map.insert m c s') ps ps hs (set_at hs b None) es es (machine.Step.Give c b) kept tt tt h is
+        open_step_unchanged n n m (map.insert m c s') ps ps hs (set_at hs b None) es es (machine.Step.Give c b) kept tt tt h is
             (λ reached d l. elim (same_or d b) [
               | inl e ↦ ap (λ x. get_or (set_at hs b None) x None) e ∙ get_set_same hs b None None (subst (λ x. b < x) (sym twelve_hs) b_low)
                   ∙ sym (ap (holder batches (clients_of (map.insert m c s'))) e ∙ holder_nobody (clients_of (map.insert m c s')) b (λ q r at. elim (same_or q c) [
@@ -171,7 +171,7 @@ module _ (n : ℕ) (m : Table) (ps : List NumberSet) (hs : List (Option ℕ)) (e
       let own = inv.1.client c r (runs c s has) in
       let ungiven : set.contains r.given q ≡ false = not_true_false _ (λ g. elim (own.sound.why q g) [
         | inl e ↦ absurd (cc (next, own.sound.all (is_any_of r.edited q e)))
-        | inr e ↦ clash r.quits e p.0
+        | inr e ↦ absurd_bool r.quits e p.0
       ]) in
       let found_e : previous_next batches (world_of n m ps es) c (client_at batches (world_of n m ps es) c) ≡ set.union s.taken_content list =
       ap (previous_next batches (world_of n m ps es) c) (runs c s has)
@@ -185,12 +185,12 @@ module _ (n : ℕ) (m : Table) (ps : List NumberSet) (hs : List (Option ℕ)) (e
       }) in
       subst (λ m'. Goes n m ps es (machine.Step.Take c) n m' ps (set_at hs q (Some c)) es) (sym (table_is m c s (Take q list) has)) (
         is,
-        kept_on n n m (map.insert m c s') ps ps hs (set_at hs q (Some c)) es es (machine.Step.Take c) kept tt tt h is
+        open_step_unchanged n n m (map.insert m c s') ps ps hs (set_at hs q (Some c)) es es (machine.Step.Take c) kept tt tt h is
             (λ reached d l. elim (same_or d q) [
               | inl e ↦ ap (λ x. get_or (set_at hs q (Some c)) x None) e ∙ get_set_same hs q (Some c) None (subst (λ x. q < x) (sym twelve_hs) (next_footprint batches r q next).0)
                   ∙ sym (ap (holder batches (clients_of (map.insert m c s'))) e ∙ holder_of (world_of n (map.insert m c s') ps es) reached c q s'.running
                   (get-values (λ (s : ClientState). s.running) (map.insert m c s') c ∙ ap (option_map (λ (s : ClientState). s.running)) (get-insert_same m c s'))
-                  (both (taken-next batches r q q next ∙ or_right (has_taken batches r q) _ (eq-eqb q q refl)) (not_of_false ungiven)))
+                  (and_is_true (taken-next batches r q q next ∙ or_right (has_taken batches r q) _ (eq-eqb q q refl)) (not_of_false ungiven)))
               | inr e ↦ get_set_other hs q d (Some c) None e ∙ kept.held d l ∙ sym (holder_same (world_of n m ps es) (world_of n (map.insert m c s') ps es) reached d
                   (same_on n n m ps ps es es c d s s' has (ap (λ x. x && not (set.contains r.given d)) (taken-next batches r q d next ∙ ap (λ x. has_taken batches r d || x) (ne_eqb q d (λ x. e (sym x))) ∙ or_false (has_taken batches r d)))))
             ])
@@ -212,7 +212,7 @@ module _ (n : ℕ) (m : Table) (ps : List NumberSet) (hs : List (Option ℕ)) (e
         order = (order_is ∙ sym (ap (appended batches (entries_of es) c) (runs c s has))) i;
       }) in (
         is,
-        kept_on n n m (map.insert m c s') ps (set_at ps b list) hs hs es es' (machine.Step.Edit c b) kept tt tt h is
+        open_step_unchanged n n m (map.insert m c s') ps (set_at ps b list) hs hs es es' (machine.Step.Edit c b) kept tt tt h is
             (λ reached d l. kept.held d l ∙ sym (holder_same v (world_of n (map.insert m c s') (set_at ps b list) es') reached d
             (same_on n n m ps (set_at ps b list) es es' c d s s' has
             (ap (λ r. holds batches r d) run_is ∙ ap (λ x. x && not (set.contains s.running.given d)) (taken_alike batches (record s.running { edited = set.insert s.running.edited b }) s.running refl refl d)))))
@@ -232,13 +232,13 @@ module _ (n : ℕ) (m : Table) (ps : List NumberSet) (hs : List (Option ℕ)) (e
         order = entries_of es;
       }) in (
         is,
-        kept_on n (suc n) m (map.insert m c s') ps ps hs hs es es (machine.Step.Begin c op) kept (local, tt) l h is
+        open_step_unchanged n (suc n) m (map.insert m c s') ps ps hs hs es es (machine.Step.Begin c op) kept (local, tt) l h is
             (λ reached d k. kept.held d k ∙ sym (holder_same v (world_of (suc n) (map.insert m c s') ps es) reached d (λ q. elim (same_or q c) [
-              | inl e ↦ ap (λ x. holds_now batches (client_at batches (world_of (suc n) (map.insert m c s') ps es) x) d) e
-                  ∙ ap (λ x. holds_now batches x d) (get-values (λ (s : ClientState). s.running) (map.insert m c s') c ∙ ap (option_map (λ (s : ClientState). s.running)) (get-insert_same m c s'))
+              | inl e ↦ ap (λ x. holds_in_call batches (client_at batches (world_of (suc n) (map.insert m c s') ps es) x) d) e
+                  ∙ ap (λ x. holds_in_call batches x d) (get-values (λ (s : ClientState). s.running) (map.insert m c s') c ∙ ap (option_map (λ (s : ClientState). s.running)) (get-insert_same m c s'))
                   ∙ ap (λ x. x && not (set.contains (set.empty {R = nat_cmp}) d)) (nothing_taken batches n op set.empty set.empty false d)
-                  ∙ sym (ap (λ x. holds_now batches (client_at batches v x) d) e ∙ ap (λ x. holds_now batches x d) idle)
-              | inr f ↦ ap (λ x. holds_now batches x d) (get-values (λ (s : ClientState). s.running) (map.insert m c s') q ∙ ap (option_map (λ (s : ClientState). s.running)) (get-insert_other m c s' q f) ∙ sym (get-values (λ (s : ClientState). s.running) m q))
+                  ∙ sym (ap (λ x. holds_in_call batches (client_at batches v x) d) e ∙ ap (λ x. holds_in_call batches x d) idle)
+              | inr f ↦ ap (λ x. holds_in_call batches x d) (get-values (λ (s : ClientState). s.running) (map.insert m c s') q ∙ ap (option_map (λ (s : ClientState). s.running)) (get-insert_other m c s' q f) ∙ sym (get-values (λ (s : ClientState). s.running) m q))
             ])))
             (at_each m c s' (λ q z. HasEntryIndex (operation_numbers (entries_of es)) z.running z.entry_index) (not_any_empty, tt) (λ q z d g. kept.placed q z g)),
       )

@@ -14,7 +14,7 @@ use Rattle.moc_steps.specs.declared.step.Step.TheVariants.{Begin, Take, Edit, Gi
 use Rattle.moc_steps.specs.declared.error.StepError.{StepError}
 use Rattle.moc_steps.proofs.Basics.{some_same}
 use Rattle.moc_steps.proofs.Headline.{run_append}
-use Rattle.moc_steps.proofs.AnyObject.{local_on, permitted_on, one_order}
+use Rattle.moc_steps.proofs.AnyObject.{local_step_appended, permitted_on, one_order}
 
 pub step_local : (s : Step) → ((c : ℕ) (op : List Command) → s ≡ Begin c op → IsLocal batches op) → AreLocal batches (step_of s ∷ [])
 step_local (Begin c op) h = (h c op refl, tt)
@@ -28,49 +28,49 @@ step_local (End c) h = tt
 abbrev pub Leads : NumberSet → List Step → ℕ → BatchWorld → Type 0
 Leads start steps n w = (w ≡ reached_world batches start (steps_of (take n steps))) × AreValidSteps batches start (steps_of (take n steps))
 
-none_taken : (steps : List Step) → steps_of (take 0 steps) ≡ []
-none_taken [] = refl
-none_taken (x ∷ steps) = refl
+steps_of_none : (steps : List Step) → steps_of (take 0 steps) ≡ []
+steps_of_none [] = refl
+steps_of_none (x ∷ steps) = refl
 
-next_taken : (steps : List Step) (i : ℕ) (x : Step) → slice_get steps i ≡ Some x → steps_of (take (suc i) steps) ≡ steps_of (take i steps) ++ step_of x ∷ []
-next_taken [] i x h = absurd (cc)
-next_taken (s ∷ steps) zero x h = (λ j. step_of (some_same (Some s) s x refl h j) ∷ none_taken steps j) ∙ ap (λ ys. ys ++ step_of x ∷ []) (sym (none_taken (s ∷ steps)))
-next_taken (s ∷ steps) (suc i) x h = ap (λ ys. step_of s ∷ ys) (next_taken steps i x h)
+steps_of_next : (steps : List Step) (i : ℕ) (x : Step) → slice_get steps i ≡ Some x → steps_of (take (suc i) steps) ≡ steps_of (take i steps) ++ step_of x ∷ []
+steps_of_next [] i x h = absurd (cc)
+steps_of_next (s ∷ steps) zero x h = (λ j. step_of (some_same (Some s) s x refl h j) ∷ steps_of_none steps j) ∙ ap (λ ys. ys ++ step_of x ∷ []) (sym (steps_of_none (s ∷ steps)))
+steps_of_next (s ∷ steps) (suc i) x h = ap (λ ys. step_of s ∷ ys) (steps_of_next steps i x h)
 
-all_taken : (steps : List Step) → take (length steps) steps ≡ steps
-all_taken [] = refl
-all_taken (x ∷ steps) = ap (λ ys. x ∷ ys) (all_taken steps)
+take_all_steps : (steps : List Step) → take (length steps) steps ≡ steps
+take_all_steps [] = refl
+take_all_steps (x ∷ steps) = ap (λ ys. x ∷ ys) (take_all_steps steps)
 
-pub leads_first : (start : NumberSet) (steps : List Step) (w : BatchWorld) → IsWithin start pixels → w ≡ start_world batches start → Leads start steps 0 w
-leads_first start steps w within is = (
-  is ∙ ap (reached_world batches start) (sym (none_taken steps)),
-  subst (AreValidSteps batches start) (sym (none_taken steps)) (record { within = within; local = tt; permitted = tt }),
+pub leads_from_start : (start : NumberSet) (steps : List Step) (w : BatchWorld) → IsWithin start pixels → w ≡ start_world batches start → Leads start steps 0 w
+leads_from_start start steps w within is = (
+  is ∙ ap (reached_world batches start) (sym (steps_of_none steps)),
+  subst (AreValidSteps batches start) (sym (steps_of_none steps)) (record { within = within; local = tt; permitted = tt }),
 )
 
-pub leads_next : (start : NumberSet) (steps : List Step) (i : ℕ) (x : Step) (w w' : BatchWorld) → Leads start steps i w → slice_get steps i ≡ Some x → AreLocal batches (step_of x ∷ [])
+pub leads_after_step : (start : NumberSet) (steps : List Step) (i : ℕ) (x : Step) (w w' : BatchWorld) → Leads start steps i w → slice_get steps i ≡ Some x → AreLocal batches (step_of x ∷ [])
     → refusal batches w.locks (step_of x) ≡ None → w' ≡ world_after batches w (step_of x) → Leads start steps (i + 1) w'
-leads_next start steps i x w w' h at local permitted is =
+leads_after_step start steps i x w w' h at local permitted is =
     let e : i + 1 ≡ suc i = omega arith in
-    let more : steps_of (take (i + 1) steps) ≡ steps_of (take i steps) ++ step_of x ∷ [] = ap (λ n. steps_of (take n steps)) e ∙ next_taken steps i x at in (
+    let more : steps_of (take (i + 1) steps) ≡ steps_of (take i steps) ++ step_of x ∷ [] = ap (λ n. steps_of (take n steps)) e ∙ steps_of_next steps i x at in (
       is ∙ ap (λ (u : BatchWorld). world_after batches u (step_of x)) h.0 ∙ sym (run_append batches (start_world batches start) (steps_of (take i steps)) (step_of x ∷ [])) ∙ sym (ap (reached_world batches start) more),
       subst (AreValidSteps batches start) (sym more) (record {
         within = h.1.within;
-        local = local_on batches (steps_of (take i steps)) (step_of x ∷ []) h.1.local local;
+        local = local_step_appended batches (steps_of (take i steps)) (step_of x ∷ []) h.1.local local;
         permitted = permitted_on batches (start_world batches start) (steps_of (take i steps)) (step_of x ∷ []) h.1.permitted (sym (ap (λ (u : BatchWorld). refusal batches u.locks (step_of x)) h.0) ∙ permitted, tt);
       }),
     )
 
-pub leads_all : (start : NumberSet) (steps : List Step) (n : ℕ) (w : BatchWorld) → Leads start steps n w → n ≡ length steps → (w ≡ reached_world batches start (steps_of steps)) × AreValidSteps batches start (steps_of steps)
-leads_all start steps n w h e =
-    let all : steps_of (take n steps) ≡ steps_of steps = ap (λ k. steps_of (take k steps)) e ∙ ap steps_of (all_taken steps) in
+pub leads_complete : (start : NumberSet) (steps : List Step) (n : ℕ) (w : BatchWorld) → Leads start steps n w → n ≡ length steps → (w ≡ reached_world batches start (steps_of steps)) × AreValidSteps batches start (steps_of steps)
+leads_complete start steps n w h e =
+    let all : steps_of (take n steps) ≡ steps_of steps = ap (λ k. steps_of (take k steps)) e ∙ ap steps_of (take_all_steps steps) in
     (h.0 ∙ ap (reached_world batches start) all, subst (AreValidSteps batches start) all h.1)
 
-pub leads_explained : (start : NumberSet) (steps : List Step) → AreValidSteps batches start (steps_of steps) → HasOneOrder batches start (steps_of steps)
-leads_explained start steps h = one_order batches start (steps_of steps) h
+pub leads_to_one_order : (start : NumberSet) (steps : List Step) → AreValidSteps batches start (steps_of steps) → HasOneOrder batches start (steps_of steps)
+leads_to_one_order start steps h = one_order batches start (steps_of steps) h
 
-pub leads_refused : (start : NumberSet) (steps : List Step) (i : ℕ) (x : Step) (w : BatchWorld) (why : StepError) → Leads start steps i w → slice_get steps i ≡ Some x
+pub leads_if_refused : (start : NumberSet) (steps : List Step) (i : ℕ) (x : Step) (w : BatchWorld) (why : StepError) → Leads start steps i w → slice_get steps i ≡ Some x
     → IsRefused (refusal batches w.locks (step_of x)) (step_of x) why → IsRefusedAt start steps i why
-leads_refused start steps i x w why h at refused = inr (record {
+leads_if_refused start steps i x w why h at refused = inr (record {
   step = x;
   here = at;
   before = h.1;

@@ -19,21 +19,21 @@ use Rattle.moc_steps.proofs.Values.{get-values, values-empty}
 use Rattle.moc_steps.proofs.Preserved.{Table, clients_of, holder_nobody}
 
 -- one more list has an owner
-pub one_over : {X : Type 0} (done next : List X) (list new : X) (left rest all : List X) → next ≡ done ++ new ∷ [] → new ≡ list → left ≡ list ∷ rest → done ++ left ≡ all → next ++ rest ≡ all
-one_over [] next list new left rest all add is more whole = (λ i. add i ++ rest) ∙ ap (λ x. x ∷ rest) is ∙ sym more ∙ whole
-one_over (x ∷ done) next list new left rest all add is more whole = (λ i. add i ++ rest) ∙ ap (λ xs. x ∷ xs) (one_over done (done ++ new ∷ []) list new left rest (done ++ left) refl is more refl) ∙ whole
+pub next_list_of_rest : {X : Type 0} (done next : List X) (list new : X) (left rest all : List X) → next ≡ done ++ new ∷ [] → new ≡ list → left ≡ list ∷ rest → done ++ left ≡ all → next ++ rest ≡ all
+next_list_of_rest [] next list new left rest all add is more whole = (λ i. add i ++ rest) ∙ ap (λ x. x ∷ rest) is ∙ sym more ∙ whole
+next_list_of_rest (x ∷ done) next list new left rest all add is more whole = (λ i. add i ++ rest) ∙ ap (λ xs. x ∷ xs) (next_list_of_rest done (done ++ new ∷ []) list new left rest (done ++ left) refl is more refl) ∙ whole
 
 pub no_items : {X : Type 0} (xs : List X) → length xs ≡ 0 → xs ≡ []
 no_items [] none = refl
 no_items (x ∷ xs) none = absurd (omega arith)
 
 -- no list remains
-pub none_over : {X : Type 0} (done left all : List X) → left ≡ [] → done ++ left ≡ all → done ≡ all
-none_over [] left all none whole = sym none ∙ whole
-none_over (x ∷ done) left all none whole = ap (λ xs. x ∷ xs) (none_over done left (done ++ left) none refl) ∙ whole
+pub all_done_at_end : {X : Type 0} (done left all : List X) → left ≡ [] → done ++ left ≡ all → done ≡ all
+all_done_at_end [] left all none whole = sym none ∙ whole
+all_done_at_end (x ∷ done) left all none whole = ap (λ xs. x ∷ xs) (all_done_at_end done left (done ++ left) none refl) ∙ whole
 
-abbrev pub nobody : List (Option ℕ)
-nobody = None ∷ None ∷ None ∷ None ∷ None ∷ None ∷ None ∷ None ∷ None ∷ None ∷ None ∷ None ∷ []
+abbrev pub no_holders : List (Option ℕ)
+no_holders = None ∷ None ∷ None ∷ None ∷ None ∷ None ∷ None ∷ None ∷ None ∷ None ∷ None ∷ None ∷ []
 
 module _ (m : Table) (ps : List NumberSet) (es : List Entry) (start : NumberSet) (idle : m ≡ map.empty) (parts : ps ≡ parts_below start 12) (none : es ≡ []) where
   pub starts : world_of 0 m ps es ≡ start_world batches start
@@ -47,7 +47,7 @@ module _ (m : Table) (ps : List NumberSet) (es : List Entry) (start : NumberSet)
   not_there : {A : Type 0} (c : ℕ) (s : ClientState) → map.get m c ≡ Some s → A
   not_there c s h = let gone : map.get m c ≡ None = ap (λ (t : Table). map.get t c) idle ∙ map.get-empty nat_cmp c in absurd (cc (gone, h))
 
-  pub start_kept : IsWithin start pixels → IsWorld 0 m ps nobody es
+  pub start_kept : IsWithin start pixels → IsWorld 0 m ps no_holders es
   start_kept within = record {
     reached = subst (λ w. IsReachable batches w) (sym starts) (start_reached batches start within);
     held = λ b l. twelve_nones b ∙ sym (holder_nobody (clients_of m) b (λ c r h. (

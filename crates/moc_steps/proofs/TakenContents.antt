@@ -15,8 +15,8 @@ use Rattle.moc_steps.specs.Private.ClientState.{contents_of, UpdateResult, IsRes
 use Rattle.moc_steps.proofs.Cases.{is_in}
 use Rattle.moc_steps.proofs.Sky.{within_of}
 use Rattle.moc_steps.proofs.Headline.{of_union}
-use Rattle.moc_steps.proofs.Basics.{has-union, has-empty, same_set, same_or, clash, not_true_false, and_true, both}
-use Rattle.moc_steps.proofs.Basics.{or_left, or_right, get_set_same, get_set_other, length_set, length-map, or_again}
+use Rattle.moc_steps.proofs.Basics.{has-union, has-empty, same_set, same_or, absurd_bool, not_true_false, and_true, and_is_true}
+use Rattle.moc_steps.proofs.Basics.{or_left, or_right, get_set_same, get_set_other, length_set, length-map, or_assoc_right}
 use Rattle.moc_steps.proofs.Basics.{or_false}
 use Rattle.moc_steps.proofs.EditStep.{has_part}
 use Rattle.moc_steps.proofs.TakingParts.{take_next}
@@ -32,11 +32,11 @@ contents_of-set (x ∷ xs) zero l = refl
 contents_of-set (None ∷ xs) (suc q) l = ap (λ ys. set.empty ∷ ys) (contents_of-set xs q l)
 contents_of-set (Some a ∷ xs) (suc q) l = ap (λ ys. a ∷ ys) (contents_of-set xs q l)
 
-turned : (x y : Bool) → (x || y) ≡ (y || x)
-turned true true = refl
-turned true false = refl
-turned false true = refl
-turned false false = refl
+or_swap : (x y : Bool) → (x || y) ≡ (y || x)
+or_swap true true = refl
+or_swap true false = refl
+or_swap false true = refl
+or_swap false false = refl
 
 in_union : (As : List NumberSet) (b p : ℕ) → set.contains (get_or As b set.empty) p ≡ true → set.contains (union_of As) p ≡ true
 in_union [] b p h = h
@@ -45,21 +45,21 @@ in_union (A ∷ As) (suc b) p h = has-union A (union_of As) p ∙ or_right _ _ (
 
 union-set : (As : List NumberSet) (q : ℕ) (l : NumberSet) (p : ℕ) → q < length As → get_or As q set.empty ≡ set.empty → set.contains (union_of (set_at As q l)) p ≡ (set.contains (union_of As) p || set.contains l p)
 union-set [] q l p h e = absurd (omega arith)
-union-set (A ∷ As) zero l p h e = has-union l (union_of As) p ∙ turned (set.contains l p) (set.contains (union_of As) p) ∙ ap (λ x. x || set.contains l p) (sym (has-union A (union_of As) p ∙ ap (λ B. set.contains B p || set.contains (union_of As) p) e ∙ ap (λ x. x || set.contains (union_of As) p) (has-empty p)))
-union-set (A ∷ As) (suc q) l p h e = has-union A (union_of (set_at As q l)) p ∙ ap (λ x. set.contains A p || x) (union-set As q l p (omega arith) e) ∙ or_again (set.contains A p) (set.contains (union_of As) p) (set.contains l p) ∙ ap (λ x. x || set.contains l p) (sym (has-union A (union_of As) p))
+union-set (A ∷ As) zero l p h e = has-union l (union_of As) p ∙ or_swap (set.contains l p) (set.contains (union_of As) p) ∙ ap (λ x. x || set.contains l p) (sym (has-union A (union_of As) p ∙ ap (λ B. set.contains B p || set.contains (union_of As) p) e ∙ ap (λ x. x || set.contains (union_of As) p) (has-empty p)))
+union-set (A ∷ As) (suc q) l p h e = has-union A (union_of (set_at As q l)) p ∙ ap (λ x. set.contains A p || x) (union-set As q l p (omega arith) e) ∙ or_assoc_right (set.contains A p) (set.contains (union_of As) p) (set.contains l p) ∙ ap (λ x. x || set.contains l p) (sym (has-union A (union_of As) p))
 
 -- a part whose taken content is empty
-nothing_there : (As : List NumberSet) (q : ℕ) → part_of (get_or As q set.empty) q ≡ get_or As q set.empty → part_of (union_of As) q ≡ set.empty → get_or As q set.empty ≡ set.empty
-nothing_there As q own fresh = same_set _ _ (λ p. not_true_false _ (λ t.
+part_is_empty : (As : List NumberSet) (q : ℕ) → part_of (get_or As q set.empty) q ≡ get_or As q set.empty → part_of (union_of As) q ≡ set.empty → get_or As q set.empty ≡ set.empty
+part_is_empty As q own fresh = same_set _ _ (λ p. not_true_false _ (λ t.
     let a = and_true (set.contains (get_or As q set.empty) p) (nat_eq (base_pixel p) q) (sym (has_part (get_or As q set.empty) q p) ∙ ap (λ B. set.contains B p) own ∙ t) in
-    clash (set.contains (set.empty) p) (ap (λ B. set.contains B p) (sym fresh) ∙ has_part (union_of As) q p ∙ both (in_union As q p t) a.1) (has-empty p)) ∙ sym (has-empty p))
+    absurd_bool (set.contains (set.empty) p) (ap (λ B. set.contains B p) (sym fresh) ∙ has_part (union_of As) q p ∙ and_is_true (in_union As q p t) a.1) (has-empty p)) ∙ sym (has-empty p))
 
 pub previous_more : (xs : List (Option NumberSet)) (q : ℕ) (l : NumberSet) → AreWithinParts (contents_of xs) → q < 12 → part_of (union_of (contents_of xs)) q ≡ set.empty → union_of (contents_of (set_at xs q (Some l))) ≡ set.union (union_of (contents_of xs)) l
 previous_more xs q l lie low fresh = same_set _ _ (λ p. ap (λ As. set.contains (union_of As) p) (contents_of-set xs q l)
-    ∙ union-set (contents_of xs) q l p (subst (λ n. q < n) (sym lie.twelve) low) (nothing_there (contents_of xs) q (lie.own q low) fresh) ∙ sym (has-union (union_of (contents_of xs)) l p))
+    ∙ union-set (contents_of xs) q l p (subst (λ n. q < n) (sym lie.twelve) low) (part_is_empty (contents_of xs) q (lie.own q low) fresh) ∙ sym (has-union (union_of (contents_of xs)) l p))
 
-pub lie_more : (xs : List (Option NumberSet)) (q : ℕ) (l : NumberSet) → AreWithinParts (contents_of xs) → q < 12 → part_of l q ≡ l → AreWithinParts (contents_of (set_at xs q (Some l)))
-lie_more xs q l lie low own = subst AreWithinParts (sym (contents_of-set xs q l)) (record {
+pub contents_within_parts_next : (xs : List (Option NumberSet)) (q : ℕ) (l : NumberSet) → AreWithinParts (contents_of xs) → q < 12 → part_of l q ≡ l → AreWithinParts (contents_of (set_at xs q (Some l)))
+contents_within_parts_next xs q l lie low own = subst AreWithinParts (sym (contents_of-set xs q l)) (record {
   twelve = length_set (contents_of xs) q l ∙ lie.twelve;
   own = λ b k. elim (same_or b q) [
     | inl e ↦ ap (λ i. part_of (get_or (set_at (contents_of xs) q l) i set.empty) i) e ∙ ap (λ B. part_of B q) (get_set_same (contents_of xs) q l set.empty (subst (λ n. q < n) (sym lie.twelve) low)) ∙ own
@@ -69,16 +69,16 @@ lie_more xs q l lie low own = subst AreWithinParts (sym (contents_of-set xs q l)
 })
 
 -- one more part is taken
-pub filled_more : (xs : List (Option NumberSet)) (parts : List ℕ) (n q : ℕ) (l : NumberSet) → slice_get parts n ≡ Some q → q < length xs
+pub taken_contents_next : (xs : List (Option NumberSet)) (parts : List ℕ) (n q : ℕ) (l : NumberSet) → slice_get parts n ≡ Some q → q < length xs
     → ((b : ℕ) → b < 12 → is_some (get_or xs b None) ≡ is_in b (take n parts)) → (b : ℕ) → b < 12 → is_some (get_or (set_at xs q (Some l)) b None) ≡ is_in b (take (suc n) parts)
-filled_more xs parts n q l next low h b k = elim (same_or b q) [
+taken_contents_next xs parts n q l next low h b k = elim (same_or b q) [
   | inl e ↦ ap is_some (ap (λ i. get_or (set_at xs q (Some l)) i None) e ∙ get_set_same xs q (Some l) None low) ∙ sym (take_next b n q parts next ∙ or_right (is_in b (take n parts)) (nat_eq q b) (eq-eqb q b (sym e)))
   | inr d ↦ ap is_some (get_set_other xs q b (Some l) None d) ∙ h b k ∙ sym (take_next b n q parts next ∙ ap (λ t. is_in b (take n parts) || t) (ne_eqb q b (λ e. d (sym e))) ∙ or_false (is_in b (take n parts)))
 ]
 
-pub none_made : (prepared_update : Option UpdateResult) (P : UpdateResult → Type 0) → option_map (λ (m : UpdateResult). m.entry_index) prepared_update ≡ None → IfSome prepared_update P
-none_made None P h = tt
-none_made (Some m) P h = absurd (cc)
+pub no_index_no_update : (prepared_update : Option UpdateResult) (P : UpdateResult → Type 0) → option_map (λ (m : UpdateResult). m.entry_index) prepared_update ≡ None → IfSome prepared_update P
+no_index_no_update None P h = tt
+no_index_no_update (Some m) P h = absurd (cc)
 
 -- an existing element does not depend on the default value
 pub same_default : {X : Type 0} (xs : List X) (i : ℕ) (d e : X) → i < length xs → get_or xs i d ≡ get_or xs i e
@@ -87,12 +87,12 @@ same_default (x ∷ xs) zero d e h = refl
 same_default (x ∷ xs) (suc i) d e h = same_default xs i d e (omega arith)
 
 -- no part is taken yet
-pub no_taken_content : (xs : List (Option NumberSet)) → ((b : ℕ) → get_or xs b None ≡ None) → union_of (contents_of xs) ≡ set.empty
-no_taken_content [] h = refl
-no_taken_content (x ∷ xs) h = same_set _ _ (λ p. has-union (content_or_empty x) (union_of (contents_of xs)) p
+pub union_of_no_contents : (xs : List (Option NumberSet)) → ((b : ℕ) → get_or xs b None ≡ None) → union_of (contents_of xs) ≡ set.empty
+union_of_no_contents [] h = refl
+union_of_no_contents (x ∷ xs) h = same_set _ _ (λ p. has-union (content_or_empty x) (union_of (contents_of xs)) p
     ∙ ap (λ A. set.contains A p || set.contains (union_of (contents_of xs)) p) (ap content_or_empty (h 0))
     ∙ ap (λ t. t || set.contains (union_of (contents_of xs)) p) (has-empty p)
-    ∙ ap (λ A. set.contains A p) (no_taken_content xs (λ b. h (suc b))))
+    ∙ ap (λ A. set.contains A p) (union_of_no_contents xs (λ b. h (suc b))))
 
 get-contents_of : (xs : List (Option NumberSet)) (b : ℕ) → get_or (contents_of xs) b set.empty ≡ content_or_empty (get_or xs b None)
 get-contents_of [] b = refl
@@ -102,15 +102,15 @@ get-contents_of (x ∷ xs) (suc b) = get-contents_of xs b
 part-empty : (b : ℕ) → part_of set.empty b ≡ set.empty
 part-empty b = same_set _ _ (λ p. has_part set.empty b p ∙ ap (λ t. t && nat_eq (base_pixel p) b) (has-empty p) ∙ sym (has-empty p))
 
-pub nothing_lies : (xs : List (Option NumberSet)) → length xs ≡ 12 → ((b : ℕ) → get_or xs b None ≡ None) → AreWithinParts (contents_of xs)
-nothing_lies xs n h = record {
+pub no_contents_within_parts : (xs : List (Option NumberSet)) → length xs ≡ 12 → ((b : ℕ) → get_or xs b None ≡ None) → AreWithinParts (contents_of xs)
+no_contents_within_parts xs n h = record {
   twelve = length-map content_or_empty xs ∙ n;
   own = λ b l. let e : get_or (contents_of xs) b set.empty ≡ set.empty = get-contents_of xs b ∙ ap content_or_empty (h b) in ap (λ A. part_of A b) e ∙ part-empty b ∙ sym e;
 }
 
 -- the union of lists within their base pixels is within the sky
-pub lies_within : (As : List NumberSet) → AreWithinParts As → IsWithin (union_of As) pixels
-lies_within As lie = within_of (union_of As) (λ p t. let k = of_union As p t in
+pub union_within_sky : (As : List NumberSet) → AreWithinParts As → IsWithin (union_of As) pixels
+union_within_sky As lie = within_of (union_of As) (λ p t. let k = of_union As p t in
     let low : k.0 < 12 = subst (λ n. k.0 < n) lie.twelve k.1 in
     let own : set.contains (part_of (get_or As k.0 set.empty) k.0) p ≡ true = ap (λ A. set.contains A p) (lie.own k.0 low) ∙ k.2 in
     subst (λ b. b < 12) (sym (eqb-true (base_pixel p) k.0 (and_true _ _ (sym (has_part (get_or As k.0 set.empty) k.0 p) ∙ own)).1)) low)

@@ -10,6 +10,6 @@ pub next_is : (r : Running (List Command)) (parts : List ℕ) → parts ≡ foot
 unfolding next_part
 next_is r parts e = ap (λ xs. slice_get xs r.taken) e
 
-pub taken_is : (r : Running (List Command)) (parts : List ℕ) (b : ℕ) → parts ≡ footprint_parts batches r.operation → list_any (λ x. nat_eq x b) (take r.taken parts) ≡ has_taken batches r b
+pub is_taken_iff : (r : Running (List Command)) (parts : List ℕ) (b : ℕ) → parts ≡ footprint_parts batches r.operation → list_any (λ x. nat_eq x b) (take r.taken parts) ≡ has_taken batches r b
 unfolding has_taken
-taken_is r parts b e = ap (λ xs. is_in b (take r.taken xs)) e
+is_taken_iff r parts b e = ap (λ xs. is_in b (take r.taken xs)) e

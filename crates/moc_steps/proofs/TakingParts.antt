@@ -9,8 +9,8 @@ use Rattle.std.specs.FinMap as map
 use Rattle.moc_parts.specs.Objects.{Object}
 use Rattle.moc_steps.specs.Machine.{Running, Clients, twelve, footprint_parts, next_part, has_taken, holds}
 use Rattle.moc_steps.specs.Machine.{holder}
-use Rattle.moc_steps.proofs.Cases.{holder_among, is_in, holds_now}
-use Rattle.moc_steps.proofs.Basics.{or_true, or_left, or_right, or_again, clash, not_true_false, true_or_false}
+use Rattle.moc_steps.proofs.Cases.{holder_among, is_in, holds_in_call}
+use Rattle.moc_steps.proofs.Basics.{or_true, or_left, or_right, or_assoc_right, absurd_bool, not_true_false, true_or_false}
 use Rattle.moc_steps.proofs.Basics.{some_same}
 use Rattle.std.specs.Cmp.{unsigned_tied}
 
@@ -97,7 +97,7 @@ in_filter test b t (x ∷ xs) h =
           ])
       | inr e ↦ subst (λ c. is_in b (cond c (x ∷ filter test xs) (filter test xs)) ≡ true) (sym e)
           (elim (or_true (nat_eq x b) (is_in b xs) h) [
-            | inl q ↦ clash (test x) (ap test (eqb-true x b q) ∙ t) e
+            | inl q ↦ absurd_bool (test x) (ap test (eqb-true x b q) ∙ t) e
             | inr q ↦ in_filter test b t xs q
           ])
     ]
@@ -113,19 +113,19 @@ of_filter test b (x ∷ xs) h = go (of_filter test b xs) (test x) refl h
     ]
     go rest false e h = let r = rest h in (or_right (nat_eq x b) _ r.0, r.1)
 
-in_take : (b : ℕ) (n : ℕ) (xs : List ℕ) → is_in b (take n xs) ≡ true → is_in b xs ≡ true
-in_take b zero xs h = absurd (cc)
-in_take b (suc n) [] h = h
-in_take b (suc n) (x ∷ xs) h = elim (or_true (nat_eq x b) (is_in b (take n xs)) h) [ inl e ↦ or_left (nat_eq x b) _ e | inr e ↦ or_right (nat_eq x b) _ (in_take b n xs e) ]
+contained_in_take : (b : ℕ) (n : ℕ) (xs : List ℕ) → is_in b (take n xs) ≡ true → is_in b xs ≡ true
+contained_in_take b zero xs h = absurd (cc)
+contained_in_take b (suc n) [] h = h
+contained_in_take b (suc n) (x ∷ xs) h = elim (or_true (nat_eq x b) (is_in b (take n xs)) h) [ inl e ↦ or_left (nat_eq x b) _ e | inr e ↦ or_right (nat_eq x b) _ (contained_in_take b n xs e) ]
 
-or_nothing : (x : Bool) → (x || false) ≡ (false || x)
-or_nothing true = refl
-or_nothing false = refl
+or_with_false : (x : Bool) → (x || false) ≡ (false || x)
+or_with_false true = refl
+or_with_false false = refl
 
 pub take_next : (b n q : ℕ) (xs : List ℕ) → slice_get xs n ≡ Some q → is_in b (take (suc n) xs) ≡ (is_in b (take n xs) || nat_eq q b)
 take_next b n q [] h = absurd (cc)
-take_next b zero q (x ∷ xs) h = or_nothing (nat_eq x b) ∙ ap (λ y. nat_eq y b) (some_same (Some x) x q refl h)
-take_next b (suc n) q (x ∷ xs) h = ap (λ t. nat_eq x b || t) (take_next b n q xs h) ∙ or_again (nat_eq x b) _ _
+take_next b zero q (x ∷ xs) h = or_with_false (nat_eq x b) ∙ ap (λ y. nat_eq y b) (some_same (Some x) x q refl h)
+take_next b (suc n) q (x ∷ xs) h = ap (λ t. nat_eq x b || t) (take_next b n q xs h) ∙ or_assoc_right (nat_eq x b) _ _
 
 in_get : (n q : ℕ) (xs : List ℕ) → slice_get xs n ≡ Some q → is_in q xs ≡ true
 in_get n q [] h = absurd (cc)
@@ -137,33 +137,33 @@ get_none [] n h = omega arith
 get_none (x ∷ xs) zero h = absurd (cc)
 get_none (x ∷ xs) (suc n) h = let l = get_none xs n h in omega arith
 
-take_whole : (xs : List ℕ) (n : ℕ) → length xs ≤ n → take n xs ≡ xs
-take_whole [] zero h = refl
-take_whole [] (suc n) h = refl
-take_whole (x ∷ xs) zero h = absurd (omega arith)
-take_whole (x ∷ xs) (suc n) h = ap (λ ys. x ∷ ys) (take_whole xs n (omega arith))
+take_beyond_length : (xs : List ℕ) (n : ℕ) → length xs ≤ n → take n xs ≡ xs
+take_beyond_length [] zero h = refl
+take_beyond_length [] (suc n) h = refl
+take_beyond_length (x ∷ xs) zero h = absurd (omega arith)
+take_beyond_length (x ∷ xs) (suc n) h = ap (λ ys. x ∷ ys) (take_beyond_length xs n (omega arith))
 
 -- the list is strictly ascending and starts at lo or later
-abbrev Rises : ℕ → List ℕ → Type 0
-Rises lo [] = Unit {0}
-Rises lo (x ∷ xs) = (lo ≤ x) × Rises (suc x) xs
+abbrev IsAscendingFrom : ℕ → List ℕ → Type 0
+IsAscendingFrom lo [] = Unit {0}
+IsAscendingFrom lo (x ∷ xs) = (lo ≤ x) × IsAscendingFrom (suc x) xs
 
-rises_from : (lo lo' : ℕ) (xs : List ℕ) → lo ≤ lo' → Rises lo' xs → Rises lo xs
-rises_from lo lo' [] l h = tt
-rises_from lo lo' (x ∷ xs) l h = (let k : lo' ≤ x = h.0 in omega arith, h.1)
+ascending_from_less : (lo lo' : ℕ) (xs : List ℕ) → lo ≤ lo' → IsAscendingFrom lo' xs → IsAscendingFrom lo xs
+ascending_from_less lo lo' [] l h = tt
+ascending_from_less lo lo' (x ∷ xs) l h = (let k : lo' ≤ x = h.0 in omega arith, h.1)
 
-rises_filter : (test : ℕ → Bool) (lo : ℕ) (xs : List ℕ) → Rises lo xs → Rises lo (filter test xs)
-rises_filter test lo [] h = tt
-rises_filter test lo (x ∷ xs) h = go (test x) (rises_filter test (suc x) xs h.1)
+ascending_from_filter : (test : ℕ → Bool) (lo : ℕ) (xs : List ℕ) → IsAscendingFrom lo xs → IsAscendingFrom lo (filter test xs)
+ascending_from_filter test lo [] h = tt
+ascending_from_filter test lo (x ∷ xs) h = go (test x) (ascending_from_filter test (suc x) xs h.1)
   where
-    go : (c : Bool) → Rises (suc x) (filter test xs) → Rises lo (cond c (x ∷ filter test xs) (filter test xs))
+    go : (c : Bool) → IsAscendingFrom (suc x) (filter test xs) → IsAscendingFrom lo (cond c (x ∷ filter test xs) (filter test xs))
     go true r = (h.0, r)
-    go false r = rises_from lo (suc x) (filter test xs) (let k : lo ≤ x = h.0 in omega arith) r
+    go false r = ascending_from_less lo (suc x) (filter test xs) (let k : lo ≤ x = h.0 in omega arith) r
 
-twelve_rises : Rises 0 twelve
-twelve_rises = (omega arith, (omega arith, (omega arith, (omega arith, (omega arith, (omega arith, (omega arith, (omega arith, (omega arith, (omega arith, (omega arith, (omega arith, tt))))))))))))
+twelve_ascending : IsAscendingFrom 0 twelve
+twelve_ascending = (omega arith, (omega arith, (omega arith, (omega arith, (omega arith, (omega arith, (omega arith, (omega arith, (omega arith, (omega arith, (omega arith, (omega arith, tt))))))))))))
 
-at_least : (lo b : ℕ) (xs : List ℕ) → Rises lo xs → is_in b xs ≡ true → lo ≤ b
+at_least : (lo b : ℕ) (xs : List ℕ) → IsAscendingFrom lo xs → is_in b xs ≡ true → lo ≤ b
 at_least lo b [] r h = absurd (cc)
 at_least lo b (x ∷ xs) r h = elim (or_true (nat_eq x b) (is_in b xs) h) [
   | inl e ↦ subst (λ y. lo ≤ y) (eqb-true x b e) r.0
@@ -171,7 +171,7 @@ at_least lo b (x ∷ xs) r h = elim (or_true (nat_eq x b) (is_in b xs) h) [
 ]
 
 -- every element before the index of q is less than q
-before_place : (lo n q b : ℕ) (xs : List ℕ) → Rises lo xs → slice_get xs n ≡ Some q → is_in b (take n xs) ≡ true → b < q
+before_place : (lo n q b : ℕ) (xs : List ℕ) → IsAscendingFrom lo xs → slice_get xs n ≡ Some q → is_in b (take n xs) ≡ true → b < q
 before_place lo n q b [] r g h = absurd (cc)
 before_place lo zero q b (x ∷ xs) r g h = absurd (cc)
 before_place lo (suc n) q b (x ∷ xs) r g h = elim (or_true (nat_eq x b) (is_in b (take n xs)) h) [
@@ -180,9 +180,9 @@ before_place lo (suc n) q b (x ∷ xs) r g h = elim (or_true (nat_eq x b) (is_in
 ]
 
 module _ {Op Reply : Type 0} (o : Object Op Reply) where
-  parts_rise : (op : Op) → Rises 0 (footprint_parts o op)
+  parts_rise : (op : Op) → IsAscendingFrom 0 (footprint_parts o op)
   unfolding footprint_parts
-  parts_rise op = rises_filter (o.footprint op) 0 twelve twelve_rises
+  parts_rise op = ascending_from_filter (o.footprint op) 0 twelve twelve_ascending
 
   -- parts are taken in ascending order
   pub taken_below : (r : Running Op) (q b : ℕ) → next_part o r ≡ Some q → has_taken o r b ≡ true → b < q
@@ -201,18 +201,18 @@ module _ {Op Reply : Type 0} (o : Object Op Reply) where
   pub has_all : (r : Running Op) (b : ℕ) → next_part o r ≡ None → b < 12 → o.footprint r.operation b ≡ true → has_taken o r b ≡ true
   unfolding next_part has_taken
   has_all r b none l f =
-      subst (λ xs. is_in b xs ≡ true) (sym (take_whole (footprint_parts o r.operation) r.taken (get_none (footprint_parts o r.operation) r.taken none)))
+      subst (λ xs. is_in b xs ≡ true) (sym (take_beyond_length (footprint_parts o r.operation) r.taken (get_none (footprint_parts o r.operation) r.taken none)))
       (in_parts r.operation b l f)
 
   pub taken_footprint : (r : Running Op) (b : ℕ) → has_taken o r b ≡ true → (b < 12) × (o.footprint r.operation b ≡ true)
   unfolding has_taken
-  taken_footprint r b h = of_parts r.operation b (in_take b r.taken (footprint_parts o r.operation) h)
+  taken_footprint r b h = of_parts r.operation b (contained_in_take b r.taken (footprint_parts o r.operation) h)
 
   -- a client without a next part has taken exactly its footprint
-  pub all_taken : (r : Running Op) (b : ℕ) → next_part o r ≡ None → b < 12 → has_taken o r b ≡ o.footprint r.operation b
-  all_taken r b none l = elim (true_or_false (o.footprint r.operation b)) [
+  pub take_all_steps : (r : Running Op) (b : ℕ) → next_part o r ≡ None → b < 12 → has_taken o r b ≡ o.footprint r.operation b
+  take_all_steps r b none l = elim (true_or_false (o.footprint r.operation b)) [
     | inl f ↦ has_all r b none l f ∙ sym f
-    | inr f ↦ not_true_false (has_taken o r b) (λ t. clash (o.footprint r.operation b) (taken_footprint r b t).1 f) ∙ sym f
+    | inr f ↦ not_true_false (has_taken o r b) (λ t. absurd_bool (o.footprint r.operation b) (taken_footprint r b t).1 f) ∙ sym f
   ]
 
   pub next_footprint : (r : Running Op) (q : ℕ) → next_part o r ≡ Some q → (q < 12) × (o.footprint r.operation q ≡ true)
@@ -238,29 +238,29 @@ module _ {Op Reply : Type 0} (o : Object Op Reply) where
   next_alike r s e f = ap (λ n. slice_get (footprint_parts o r.operation) n) f ∙ ap (λ op. slice_get (footprint_parts o op) s.taken) e
 
   -- the search finds the client that holds a part
-  holds_now_of : (m : Clients Op) (c b : ℕ) (r : Running Op) → map.get m c ≡ Some r → holds_now o (map.get m c) b ≡ holds o r b
-  holds_now_of m c b r e = ap (λ x. holds_now o x b) e
+  holds_now_of : (m : Clients Op) (c b : ℕ) (r : Running Op) → map.get m c ≡ Some r → holds_in_call o (map.get m c) b ≡ holds o r b
+  holds_now_of m c b r e = ap (λ x. holds_in_call o x b) e
 
-  among_none : (m : Clients Op) (cs : List ℕ) (b c : ℕ) → holder_among o m cs b ≡ None → is_in c cs ≡ true → holds_now o (map.get m c) b ≡ false
+  among_none : (m : Clients Op) (cs : List ℕ) (b c : ℕ) → holder_among o m cs b ≡ None → is_in c cs ≡ true → holds_in_call o (map.get m c) b ≡ false
   among_none m [] b c h i = absurd (cc)
-  among_none m (x ∷ cs) b c h i = go (among_none m cs b c) (holds_now o (map.get m x) b) refl h
+  among_none m (x ∷ cs) b c h i = go (among_none m cs b c) (holds_in_call o (map.get m x) b) refl h
     where
-      go : (holder_among o m cs b ≡ None → is_in c cs ≡ true → holds_now o (map.get m c) b ≡ false) → (t : Bool) → holds_now o (map.get m x) b ≡ t → cond t (Some x) (holder_among o m cs b) ≡ None → holds_now o (map.get m c) b ≡ false
+      go : (holder_among o m cs b ≡ None → is_in c cs ≡ true → holds_in_call o (map.get m c) b ≡ false) → (t : Bool) → holds_in_call o (map.get m x) b ≡ t → cond t (Some x) (holder_among o m cs b) ≡ None → holds_in_call o (map.get m c) b ≡ false
       go rest true e h = absurd (cc)
       go rest false e h = elim (or_true (nat_eq x c) (is_in c cs) i) [
-        | inl q ↦ subst (λ y. holds_now o (map.get m y) b ≡ false) (eqb-true x c q) e
+        | inl q ↦ subst (λ y. holds_in_call o (map.get m y) b ≡ false) (eqb-true x c q) e
         | inr q ↦ rest h q
       ]
 
-  among_some : (m : Clients Op) (cs : List ℕ) (b c : ℕ) → holder_among o m cs b ≡ Some c → holds_now o (map.get m c) b ≡ true
+  among_some : (m : Clients Op) (cs : List ℕ) (b c : ℕ) → holder_among o m cs b ≡ Some c → holds_in_call o (map.get m c) b ≡ true
   among_some m [] b c h = absurd (cc)
-  among_some m (x ∷ cs) b c h = go (among_some m cs b c) (holds_now o (map.get m x) b) refl h
+  among_some m (x ∷ cs) b c h = go (among_some m cs b c) (holds_in_call o (map.get m x) b) refl h
     where
-      go : (holder_among o m cs b ≡ Some c → holds_now o (map.get m c) b ≡ true) → (t : Bool) → holds_now o (map.get m x) b ≡ t → cond t (Some x) (holder_among o m cs b) ≡ Some c → holds_now o (map.get m c) b ≡ true
-      go rest true e h = subst (λ y. holds_now o (map.get m y) b ≡ true) (some_same (Some x) x c refl h) e
+      go : (holder_among o m cs b ≡ Some c → holds_in_call o (map.get m c) b ≡ true) → (t : Bool) → holds_in_call o (map.get m x) b ≡ t → cond t (Some x) (holder_among o m cs b) ≡ Some c → holds_in_call o (map.get m c) b ≡ true
+      go rest true e h = subst (λ y. holds_in_call o (map.get m y) b ≡ true) (some_same (Some x) x c refl h) e
       go rest false e h = rest h
 
-  now_holds : (x : Option (Running Op)) (b : ℕ) → holds_now o x b ≡ true → (r : Running Op) × (x ≡ Some r) × (holds o r b ≡ true)
+  now_holds : (x : Option (Running Op)) (b : ℕ) → holds_in_call o x b ≡ true → (r : Running Op) × (x ≡ Some r) × (holds o r b ≡ true)
   now_holds None b h = absurd (cc)
   now_holds (Some r) b h = (r, refl, h)
 

@@ -21,9 +21,9 @@ digits_between k n low high lt =
     omega (arith, digits_at_least k n low lt, length-decimal-le (suc k) n (omega arith) (omega (arith, high, next)) lt)
 
 -- the content of a buffer up to the end of a number that is written after a byte
-pub number_behind : (at end before : ℕ) (number old new : List ℕ) → at < length old → end ≡ at + 1 + length number → take (at + 1) new ≡ take (at + 1) (set old at before)
+pub bytes_before_number : (at end before : ℕ) (number old new : List ℕ) → at < length old → end ≡ at + 1 + length number → take (at + 1) new ≡ take (at + 1) (set old at before)
     → drop (at + 1) new ≡ number ++ drop end (set old at before) → take end new ≡ take at old ++ before ∷ number
-number_behind at end before number old new lt is front back =
+bytes_before_number at end before number old new lt is front back =
     ap (λ n. take n new) is ∙ take-add (at + 1) (length number) new
     ∙ (λ i. front i ++ take (length number) (back i))
     ∙ (λ i. take_more_set old at before lt i ++ take-append_seam number (drop end (set old at before)) i)

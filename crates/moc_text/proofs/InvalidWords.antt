@@ -6,7 +6,7 @@ use Rattle.std.proofs.lemmas.Bool.{cases_lt}
 use Rattle.moc_text.specs.Ascii.{is_separator, IsValid, IsPrefix, HasShapeError}
 use Rattle.moc_text.specs.Private.Scan.{is_end, unexpected_byte}
 use Rattle.moc_text.specs.declared.ascii.error.TextError.TheVariants.{BadByte, Unfinished}
-use Rattle.moc_text.proofs.Automaton.{State, Start, Dead, step, run, accepts, run-Dead, run-append, accepts_lawful, dead_end}
+use Rattle.moc_text.proofs.Automaton.{State, Start, Dead, step, run, accepts, run-Dead, run-append, accepts_valid, dead_end}
 use Rattle.moc_text.proofs.WordBoundaries.{is_word_byte, IsWordPart, no_separator, take_while-part, take_while-more, word_bytes}
 
 -- A prefix p of a valid word that leads to the state st and cannot be continued with rest.
@@ -18,15 +18,15 @@ pub record InvalidWords (bytes p rest : List ℕ) (st : State) : Type 0 where
   pub bad : (b : ℕ) (more : List ℕ) → rest ≡ b ∷ more → is_separator b ≡ false → step st b ≡ Dead
 
 -- the part of a longer prefix after a shorter one
-longer : (p q x y : List ℕ) (b : ℕ) → p ++ b ∷ x ≡ q ++ y → length p < length q → (z : List ℕ) × (q ≡ (p ++ b ∷ []) ++ z)
-longer p [] x y b e lt = absurd (omega arith)
-longer [] (c ∷ q) x y b e lt =
+split_of_longer : (p q x y : List ℕ) (b : ℕ) → p ++ b ∷ x ≡ q ++ y → length p < length q → (z : List ℕ) × (q ≡ (p ++ b ∷ []) ++ z)
+split_of_longer p [] x y b e lt = absurd (omega arith)
+split_of_longer [] (c ∷ q) x y b e lt =
     let h : b ≡ c = cc in
     (q, ap (λ n. n ∷ q) (sym h))
-longer (d ∷ p) (c ∷ q) x y b e lt =
+split_of_longer (d ∷ p) (c ∷ q) x y b e lt =
     let h : d ≡ c = cc in
     let t : p ++ b ∷ x ≡ q ++ y = cc in
-    let k = longer p q x y b t (omega arith) in
+    let k = split_of_longer p q x y b t (omega arith) in
     (k.0, ap (λ n. n ∷ q) (sym h) ∙ ap (λ (r : List ℕ). d ∷ r) k.1)
 
 -- if a byte leads to failure, no prefix is longer
@@ -34,7 +34,7 @@ pub longest_at_bad : (p q x y : List ℕ) (b : ℕ) → step (run Start p) b ≡
 longest_at_bad p q x y b dead e begins =
     elim (cases_lt (length p) (length q)) [
       | inl lt ↦
-          let k = longer p q x y b e lt in
+          let k = split_of_longer p q x y b e lt in
           let r : run Start q ≡ Dead = ap (run Start) k.1 ∙ run-append Start (p ++ b ∷ []) k.0 ∙ ap (λ s. run s k.0) (run-append Start p (b ∷ []) ∙ dead) ∙ run-Dead k.0 in
           absurd (dead_end q begins r)
       | inr le ↦ le
@@ -57,7 +57,7 @@ at_end len bytes p rest st le s ends =
     let w : take_while is_word_byte bytes ≡ p = ap (take_while is_word_byte) s.parts ∙ word_bytes p rest part ends in
     let place : len - length rest ≡ len - length bytes + length p = omega (arith, ap length s.parts, length-append p rest) in
     let f : unexpected_byte len rest ≡ Unfinished (len - length bytes + length p) = unexpected_end len rest ends ∙ ap (λ n. Unfinished n) place in
-    let not_lawful : IsValid p → ⊥ = λ lawful. let no : false ≡ true = sym (s.unfinished ends) ∙ ap accepts (sym s.leads) ∙ accepts_lawful p lawful in absurd cc in (
+    let not_lawful : IsValid p → ⊥ = λ is_valid_shape. let no : false ≡ true = sym (s.unfinished ends) ∙ ap accepts (sym s.leads) ∙ accepts_valid p is_valid_shape in absurd cc in (
       p,
       [],
       record {
@@ -86,9 +86,9 @@ at_byte len bytes p b more st le s h =
     )
 
 -- the error of the first word
-pub stuck_fault : (len : ℕ) (bytes p rest : List ℕ) (st : State) → length bytes ≤ len → InvalidWords bytes p rest st → HasShapeError (record { at = len - length bytes; bytes = take_while is_word_byte bytes }) (unexpected_byte len rest)
-stuck_fault len bytes p [] st le s = at_end len bytes p [] st le s refl
-stuck_fault len bytes p (b ∷ more) st le s =
+pub shape_error_at_stop : (len : ℕ) (bytes p rest : List ℕ) (st : State) → length bytes ≤ len → InvalidWords bytes p rest st → HasShapeError (record { at = len - length bytes; bytes = take_while is_word_byte bytes }) (unexpected_byte len rest)
+shape_error_at_stop len bytes p [] st le s = at_end len bytes p [] st le s refl
+shape_error_at_stop len bytes p (b ∷ more) st le s =
     elim (is_separator b) as (λ v. is_separator b ≡ v → HasShapeError (record { at = len - length bytes; bytes = take_while is_word_byte bytes }) (unexpected_byte len (b ∷ more))) [
       | true ↦ λ e. at_end len bytes p (b ∷ more) st le s e
       | false ↦ λ e. at_byte len bytes p b more st le s e

@@ -23,16 +23,16 @@ first_fails m e f later (inr h) = inr (rw h refl)
 
 -- ---- items
 
-pub item_fine : (k name place : ℕ) (d : Data) (ds : Items) → element_error k name place (whole_number d) ≡ None → elements_error k name (place + 1) ds ≡ elements_error k name place (item d ds)
-item_fine k name place d ds h = sym (ap (λ f. option_or f (elements_error k name (place + 1) ds)) h)
+pub element_without_error : (k name place : ℕ) (d : Data) (ds : Items) → element_error k name place (whole_number d) ≡ None → elements_error k name (place + 1) ds ≡ elements_error k name place (item d ds)
+element_without_error k name place d ds h = sym (ap (λ f. option_or f (elements_error k name (place + 1) ds)) h)
 
 pub item_added : (k : ℕ) (old new : NumberSet) (d : Data) (ds : Items) → new ≡ set.union old (cell_pixels k (whole_number d)) → set.union new (items_pixels k ds) ≡ set.union old (items_pixels k (item d ds))
 item_added k old new d ds h = ap (λ (a : NumberSet). set.union a (items_pixels k ds)) h ∙ union-assoc old (cell_pixels k (whole_number d)) (items_pixels k ds)
 
 -- ---- members
 
-pub member_fine : (name : ℕ) (text : List ℕ) (d : Data) (ms : Members) → name_error name (order_of_name text) (as_array d) ≡ None → members_error (name + 1) ms ≡ members_error name (member text d ms)
-member_fine name text d ms h = sym (ap (λ f. option_or f (members_error (name + 1) ms)) h)
+pub member_without_error : (name : ℕ) (text : List ℕ) (d : Data) (ms : Members) → name_error name (order_of_name text) (as_array d) ≡ None → members_error (name + 1) ms ≡ members_error name (member text d ms)
+member_without_error name text d ms h = sym (ap (λ f. option_or f (members_error (name + 1) ms)) h)
 
 pub member_added : (old new : NumberSet) (text : List ℕ) (d : Data) (ms : Members) → new ≡ set.union old (array_pixels (order_of_name text) (as_array d)) → set.union new (members_pixels ms) ≡ set.union old (members_pixels (member text d ms))
 member_added old new text d ms h = ap (λ (a : NumberSet). set.union a (members_pixels ms)) h ∙ union-assoc old (array_pixels (order_of_name text) (as_array d)) (members_pixels ms)
@@ -45,24 +45,24 @@ member_deepest old new k text d ms o h =
 -- ---- the text
 
 -- a value is determined by its text
-one_value : (bytes : List ℕ) (c d : Data) → IsJson bytes c → IsJson bytes d → c ≡ d
-one_value bytes c d x y = let same : Some c ≡ Some d = sym x.value ∙ y.value in cc
+json_value_is_unique : (bytes : List ℕ) (c d : Data) → IsJson bytes c → IsJson bytes d → c ≡ d
+json_value_is_unique bytes c d x y = let same : Some c ≡ Some d = sym x.value ∙ y.value in cc
 
-pub one_members : (bytes : List ℕ) (a b : NumberSet) (j k : Option ℕ) → RepresentsJson bytes a j → RepresentsJson bytes b k → (a ≡ b) × (j ≡ k)
-one_members bytes a b j k x y =
-    let value = one_value bytes x.value y.value x.json y.json in
+pub json_set_is_unique : (bytes : List ℕ) (a b : NumberSet) (j k : Option ℕ) → RepresentsJson bytes a j → RepresentsJson bytes b k → (a ≡ b) × (j ≡ k)
+json_set_is_unique bytes a b j k x y =
+    let value = json_value_is_unique bytes x.value y.value x.json y.json in
     let found : Some x.members ≡ Some y.members = sym x.object ∙ ap as_object value ∙ y.object in
     let members : x.members ≡ y.members = cc in
     (x.set_is ∙ ap members_pixels members ∙ sym y.set_is, x.moc_order_is ∙ ap deepest_name members ∙ sym y.moc_order_is)
 
 -- a text with an error does not represent a set
-pub faulty_says_nothing : (bytes : List ℕ) (a : NumberSet) (k : Option ℕ) (e : JsonError) → RepresentsJson bytes a k → IsJsonError bytes e → ⊥
-faulty_says_nothing bytes a k e s (inl nothing) =
+pub error_excludes_value : (bytes : List ℕ) (a : NumberSet) (k : Option ℕ) (e : JsonError) → RepresentsJson bytes a k → IsJsonError bytes e → ⊥
+error_excludes_value bytes a k e s (inl nothing) =
     let none : read bytes ≡ None = nothing.1 s.json.utf8 in
     let some : read bytes ≡ Some s.value = s.json.value in
     absurd cc
-faulty_says_nothing bytes a k e s (inr d) =
-    let value = one_value bytes s.value d.0 s.json d.1 in
+error_excludes_value bytes a k e s (inr d) =
+    let value = json_value_is_unique bytes s.value d.0 s.json d.1 in
     let fault : members_error 0 s.members ≡ Some e =
     ap (λ (o : Option Members). option_map_or (members_error 0) o (Some NotObject)) (sym s.object ∙ ap as_object value)
     ∙ d.2 in

@@ -68,26 +68,26 @@ by_name zero = []
 by_name (suc k) = front_of k (by_name k) ++ k ∷ back_of k (by_name k)
 
 -- each order comes before the orders that follow it
-abbrev well_put : ℕ → Bool
-well_put zero = true
-well_put (suc k) = before_all k (back_of k (by_name k)) && well_put k
+abbrev is_name_order : ℕ → Bool
+is_name_order zero = true
+is_name_order (suc k) = before_all k (back_of k (by_name k)) && is_name_order k
 
 -- each order comes after the preceding ones
-abbrev are_rising : List ℕ → List ℕ → Bool
-are_rising done [] = true
-are_rising done (k ∷ ks) = after_all k done && are_rising (done ++ k ∷ []) ks
+abbrev are_ascending : List ℕ → List ℕ → Bool
+are_ascending done [] = true
+are_ascending done (k ∷ ks) = after_all k done && are_ascending (done ++ k ∷ []) ks
 
 by_name_is : by_name 30 ≡ orders_by_name
 unfolding digits
 by_name_is = refl
 
-all_well_put : well_put 30 ≡ true
+names_in_place : is_name_order 30 ≡ true
 unfolding digits
-all_well_put = refl
+names_in_place = refl
 
-orders_rise : are_rising [] orders_by_name ≡ true
+order_names_ascend : are_ascending [] orders_by_name ≡ true
 unfolding digits
-orders_rise = refl
+order_names_ascend = refl
 
 -- ---- helpers
 
@@ -159,16 +159,16 @@ module _ (cells : List CellNumber) (empty_order : Option ℕ) where
       ]
       ∙ sym (along_append pre (k ∷ post))
 
-  below_by_name : (n : ℕ) → well_put n ≡ true → members_below cells empty_order n ≡ members_in_order cells empty_order (by_name n)
+  below_by_name : (n : ℕ) → is_name_order n ≡ true → members_below cells empty_order n ≡ members_in_order cells empty_order (by_name n)
   below_by_name zero e = refl
   below_by_name (suc k) e =
-      let both = and_parts (before_all k (back_of k (by_name k))) (well_put k) e in
+      let both = and_parts (before_all k (back_of k (by_name k))) (is_name_order k) e in
       ap (with_order k empty_order (data_at k cells)) (below_by_name k both.1 ∙ ap (members_in_order cells empty_order) (sym (front_and_back k (by_name k))))
       ∙ one_more k (front_of k (by_name k)) (back_of k (by_name k)) (after_front k (by_name k)) both.0
 
   -- the members of the definition are those of the orders sorted by name
   pub members_by_name : members_below cells empty_order 30 ≡ members_in_order cells empty_order orders_by_name
-  members_by_name = below_by_name 30 all_well_put ∙ ap (members_in_order cells empty_order) by_name_is
+  members_by_name = below_by_name 30 names_in_place ∙ ap (members_in_order cells empty_order) by_name_is
 
   -- ---- numbers, and parsing their tokens
 
@@ -202,10 +202,10 @@ module _ (cells : List CellNumber) (empty_order : Option ℕ) where
   no_last k done none =
       ap (members_in_order cells empty_order) (sym (append-nil done)) ∙ along_append done [] ∙ sym (along_append done (k ∷ []) ∙ ap (before_members cells empty_order done) (rw none refl))
 
-  along_back : (done ks : List ℕ) → AllByRecursion IsCell cells → are_rising done ks ≡ true → of_members (members_outline (members_in_order cells empty_order ks)) (members_in_order cells empty_order done) ≡ Some (members_in_order cells empty_order (done ++ ks))
+  along_back : (done ks : List ℕ) → AllByRecursion IsCell cells → are_ascending done ks ≡ true → of_members (members_outline (members_in_order cells empty_order ks)) (members_in_order cells empty_order done) ≡ Some (members_in_order cells empty_order (done ++ ks))
   along_back done [] h e = ap (λ (js : List ℕ). Some (members_in_order cells empty_order js)) (sym (append-nil done))
   along_back done (k ∷ ks) h e =
-      let both = and_parts (after_all k done) (are_rising (done ++ k ∷ []) ks) e in
+      let both = and_parts (after_all k done) (are_ascending (done ++ k ∷ []) ks) e in
       let more = along_back (done ++ k ∷ []) ks h both.1 ∙ ap (λ (js : List ℕ). Some (members_in_order cells empty_order js)) (append_assoc done (k ∷ []) ks) in
       elim (named k) as (λ v. named k ≡ v → of_members (members_outline (cond v (member (decimal k) (value_of cells k) (members_in_order cells empty_order ks)) (members_in_order cells empty_order ks))) (members_in_order cells empty_order done) ≡ Some (members_in_order cells empty_order (done ++ k ∷ ks))) [
         | true ↦ λ is.
@@ -215,4 +215,4 @@ module _ (cells : List CellNumber) (empty_order : Option ℕ) where
       ] refl
 
   pub members_back : AllByRecursion IsCell cells → of_members (members_outline (members_in_order cells empty_order orders_by_name)) no_members ≡ Some (members_in_order cells empty_order orders_by_name)
-  members_back h = along_back [] orders_by_name h orders_rise
+  members_back h = along_back [] orders_by_name h order_names_ascend

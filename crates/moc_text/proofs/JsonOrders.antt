@@ -14,21 +14,21 @@ use Rattle.moc_text.specs.Private.JsonReading.{capped_order}
 abbrev order_up_to_29 : ℕ → Option ℕ
 order_up_to_29 k = cond (ltb 29 k) None (Some k)
 
-both : (a b : Bool) → (a && b) ≡ true → (a ≡ true) × (b ≡ true)
-both true b h = (refl, h)
-both false b h = absurd cc
+both_true : (a b : Bool) → (a && b) ≡ true → (a ≡ true) × (b ≡ true)
+both_true true b h = (refl, h)
+both_true false b h = absurd cc
 
 digit_range : (d : ℕ) → is_ascii_digit d ≡ true → IsInRange 48 57 d
 digit_range d h =
-    let p = both (leb 48 d) (leb d 57) h in
+    let p = both_true (leb 48 d) (leb d 57) h in
     (leb-true 48 d p.0, leb-true d 57 p.1)
 
-held_30 : (v : ℕ) → ltb 29 (min v 30) ≡ ltb 29 v
-held_30 v = grind (arith, nat_tests)
+capped_above_29 : (v : ℕ) → ltb 29 (min v 30) ≡ ltb 29 v
+capped_above_29 v = grind (arith, nat_tests)
 
-order_held : (v : ℕ) → order_up_to_29 (min v 30) ≡ order_up_to_29 v
-order_held v =
-    ap (λ b. cond b None (Some (min v 30))) (held_30 v)
+order_of_capped : (v : ℕ) → order_up_to_29 (min v 30) ≡ order_up_to_29 v
+order_of_capped v =
+    ap (λ b. cond b None (Some (min v 30))) (capped_above_29 v)
     ∙ elim (ltb 29 v) as (λ b. ltb 29 v ≡ b → cond b None (Some (min v 30)) ≡ cond b None (Some v)) [
       | true ↦ λ e. refl
       | false ↦ λ e. ap (λ (n : ℕ). Some n) (omega (arith, ltb-false 29 v e))
@@ -38,7 +38,7 @@ held_step : (v d x : ℕ) → x ≡ d - 48 → min (min v 30 * 10 + (d - 48)) 30
 held_step v d x e = omega arith
 
 capped_order-is : (v : ℕ) (ds : List ℕ) → capped_order (min v 30) ds ≡ cond (all_ascii_digits ds) (order_up_to_29 (digits_value_after 10 v ds)) None
-capped_order-is v [] = order_held v
+capped_order-is v [] = order_of_capped v
 capped_order-is v (d ∷ ds) =
     elim (is_ascii_digit d) as (λ b. is_ascii_digit d ≡ b → cond b (capped_order (min (min v 30 * 10 + (d - 48)) 30) ds) None ≡ cond (b && all_ascii_digits ds) (order_up_to_29 (digits_value_after 10 (v * 10 + digit_value d) ds)) None) [
       | true ↦ λ e.
@@ -57,10 +57,10 @@ up_to_29_small v k h =
       | false ↦ λ e h. let is : v ≡ k = cc in omega (arith, ltb-false 29 v e)
     ] refl h
 
-pub held_order_small : (v : ℕ) (ds : List ℕ) (k : ℕ) → capped_order v ds ≡ Some k → k ≤ 29
-held_order_small v [] k h = up_to_29_small v k h
-held_order_small v (d ∷ ds) k h =
+pub capped_order_small : (v : ℕ) (ds : List ℕ) (k : ℕ) → capped_order v ds ≡ Some k → k ≤ 29
+capped_order_small v [] k h = up_to_29_small v k h
+capped_order_small v (d ∷ ds) k h =
     elim (is_ascii_digit d) as (λ b. cond b (capped_order (min (v * 10 + (d - 48)) 30) ds) None ≡ Some k → k ≤ 29) [
-      | true ↦ λ h. held_order_small (min (v * 10 + (d - 48)) 30) ds k h
+      | true ↦ λ h. capped_order_small (min (v * 10 + (d - 48)) 30) ds k h
       | false ↦ λ h. absurd cc
     ] h

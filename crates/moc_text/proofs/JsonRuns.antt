@@ -51,10 +51,10 @@ name_written old comma name escaped is = rw is (regroup (old ++ comma) name)
     regroup a b = simp append_assoc
 
 -- an order that is written without cells
-pub bare_written : (k : ℕ) (empty_order : Option ℕ) (behind : Bool) (old named whole : List ℕ) (members : Members) → empty_order ≡ Some k
+pub empty_order_written : (k : ℕ) (empty_order : Option ℕ) (behind : Bool) (old named whole : List ℕ) (members : Members) → empty_order ≡ Some k
     → named ≡ ((old ++ comma_if behind) ++ quoted (decimal k)) ++ 58 ∷ [] → whole ≡ named ++ 91 ∷ 93 ∷ []
     → whole ++ members_text true members ≡ old ++ members_text behind (prepend_member k empty_order [] members)
-bare_written k empty_order behind old named whole members is name empty =
+empty_order_written k empty_order behind old named whole members is name empty =
     ap (λ (t : List ℕ). t ++ members_text true members) (empty ∙ ap (λ (t : List ℕ). t ++ 91 ∷ 93 ∷ []) name)
     ∙ regroup old (comma_if behind) (quoted (decimal k)) (members_text true members)
     ∙ ap (λ (v : Bool). old ++ members_text behind (cond v (member (decimal k) (array (items_of [])) members) members)) (sym (eq-eqb k k refl) ∙ ap (λ (x : Option ℕ). is_name k x []) (sym is))

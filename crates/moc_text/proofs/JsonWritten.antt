@@ -44,17 +44,17 @@ use Rattle.moc_text.proofs.Written.{IsNumber-decimal, value-decimal, not_deeper,
 
 -- ---- the cells of a set are in ascending order of their orders
 
-rising_from : (j k : ℕ) (cells : List CellNumber) → j ≤ k → AreAscending k cells → AreAscending j cells
-rising_from j k [] le h = tt
-rising_from j k (c ∷ cells) le h = (omega (arith, h.0), h.1)
+ascending_less : (j k : ℕ) (cells : List CellNumber) → j ≤ k → AreAscending k cells → AreAscending j cells
+ascending_less j k [] le h = tt
+ascending_less j k (c ∷ cells) le h = (omega (arith, h.0), h.1)
 
-rising_append : (j k : ℕ) (xs ys : List CellNumber) → AreAscending j xs → AllByRecursion (λ c. c.order ≤ k) xs → AreAscending k ys → j ≤ k → AreAscending j (xs ++ ys)
-rising_append j k [] ys h all more le = rising_from j k ys le more
-rising_append j k (x ∷ xs) ys h all more le = (h.0, rising_append x.order k xs ys h.1 all.1 more all.0)
+ascending_append : (j k : ℕ) (xs ys : List CellNumber) → AreAscending j xs → AllByRecursion (λ c. c.order ≤ k) xs → AreAscending k ys → j ≤ k → AreAscending j (xs ++ ys)
+ascending_append j k [] ys h all more le = ascending_less j k ys le more
+ascending_append j k (x ∷ xs) ys h all more le = (h.0, ascending_append x.order k xs ys h.1 all.1 more all.0)
 
-order_rising : (k from n : ℕ) → AreAscending k (map (cell_number k) (range_with_len from n))
-order_rising k from zero = tt
-order_rising k from (suc n) = (omega arith, order_rising k (from + 1) n)
+cells_of_order_ascend : (k from n : ℕ) → AreAscending k (map (cell_number k) (range_with_len from n))
+cells_of_order_ascend k from zero = tt
+cells_of_order_ascend k from (suc n) = (omega arith, cells_of_order_ascend k (from + 1) n)
 
 order_within : (k m from n : ℕ) → k ≤ m → AllByRecursion (λ c. c.order ≤ m) (map (cell_number k) (range_with_len from n))
 order_within k m from zero le = tt
@@ -69,20 +69,20 @@ unfolding cells_below
 below_within zero m le = tt
 below_within (suc k) m le = all_append (λ c. c.order ≤ m) (cells_below k) _ (below_within k m (omega arith)) (order_within k m 0 (cell_count k) (omega arith))
 
-below_rising : (n : ℕ) → AreAscending 0 (cells_below n)
+cells_below_ascend : (n : ℕ) → AreAscending 0 (cells_below n)
 unfolding cells_below
-below_rising zero = tt
-below_rising (suc k) = rising_append 0 k (cells_below k) _ (below_rising k) (below_within k k (omega arith)) (order_rising k 0 (cell_count k)) (omega arith)
+cells_below_ascend zero = tt
+cells_below_ascend (suc k) = ascending_append 0 k (cells_below k) _ (cells_below_ascend k) (below_within k k (omega arith)) (cells_of_order_ascend k 0 (cell_count k)) (omega arith)
 
-filter_rising : (p : CellNumber → Bool) (j : ℕ) (cells : List CellNumber) → AreAscending j cells → AreAscending j (filter p cells)
-filter_rising p j [] h = tt
-filter_rising p j (c ∷ cells) h =
-    let rest = filter_rising p c.order cells h.1 in
-    elim (p c) as (λ v. AreAscending j (cond v (c ∷ filter p cells) (filter p cells))) [ true ↦ (h.0, rest) | false ↦ rising_from j c.order (filter p cells) h.0 rest ]
+ascending_filter : (p : CellNumber → Bool) (j : ℕ) (cells : List CellNumber) → AreAscending j cells → AreAscending j (filter p cells)
+ascending_filter p j [] h = tt
+ascending_filter p j (c ∷ cells) h =
+    let rest = ascending_filter p c.order cells h.1 in
+    elim (p c) as (λ v. AreAscending j (cond v (c ∷ filter p cells) (filter p cells))) [ true ↦ (h.0, rest) | false ↦ ascending_less j c.order (filter p cells) h.0 rest ]
 
 pub cells_ascend : (a : NumberSet) → AreAscending 0 (cells_of a)
 unfolding cells_of
-cells_ascend a = filter_rising (is_cell_of a) 0 (cells_below 30) (below_rising 30)
+cells_ascend a = ascending_filter (is_cell_of a) 0 (cells_below 30) (cells_below_ascend 30)
 
 -- ---- properties of each member
 
@@ -97,19 +97,19 @@ abbrev AreMembers : List CellNumber → ℕ → Members → Type 0
 AreMembers cells n no_members = Unit {0}
 AreMembers cells n (member name d ms) = IsMember cells n name d × AreMembers cells n ms
 
-wider : (cells : List CellNumber) (n : ℕ) (ms : Members) → AreMembers cells n ms → AreMembers cells (suc n) ms
-wider cells n no_members h = tt
-wider cells n (member name d ms) h = (record { order = (h.0).order; below = omega (arith, (h.0).below); named = (h.0).named; has = (h.0).has }, wider cells n ms h.1)
+members_of_next_order : (cells : List CellNumber) (n : ℕ) (ms : Members) → AreMembers cells n ms → AreMembers cells (suc n) ms
+members_of_next_order cells n no_members h = tt
+members_of_next_order cells n (member name d ms) h = (record { order = (h.0).order; below = omega (arith, (h.0).below); named = (h.0).named; has = (h.0).has }, members_of_next_order cells n ms h.1)
 
-put_member : (cells : List CellNumber) (n : ℕ) (name : List ℕ) (d : Data) (ms : Members) → IsMember cells n name d → AreMembers cells n ms → AreMembers cells n (put name d ms)
-put_member cells n name d no_members is h = (is, tt)
-put_member cells n name d (member l e ms) is h =
+members_after_put : (cells : List CellNumber) (n : ℕ) (name : List ℕ) (d : Data) (ms : Members) → IsMember cells n name d → AreMembers cells n ms → AreMembers cells n (put name d ms)
+members_after_put cells n name d no_members is h = (is, tt)
+members_after_put cells n name d (member l e ms) is h =
     elim (slice_cmp nat_cmp name l) as (λ o. slice_cmp nat_cmp name l ≡ o → AreMembers cells n (match_ordering o (member name d (member l e ms)) (member l d ms) (member l e (put name d ms)))) [
       | Less ↦ λ o. (is, h)
       | Equal ↦ λ o.
           let same : name ≡ l = exact_bytes name l o in
           (subst (λ (x : List ℕ). IsMember cells n x d) same is, h.1)
-      | Greater ↦ λ o. (h.0, put_member cells n name d ms is h.1)
+      | Greater ↦ λ o. (h.0, members_after_put cells n name d ms is h.1)
     ] refl
 
 new_member : (cells : List CellNumber) (k : ℕ) → IsMember cells (suc k) (decimal k) (array (items_of (data_at k cells)))
@@ -118,8 +118,8 @@ new_member cells k = record { order = k; below = omega arith; named = refl; has 
 with_order_members : (cells : List CellNumber) (stated : Option ℕ) (k : ℕ) (ms : Members) → AreMembers cells k ms → AreMembers cells (suc k) (with_order k stated (data_at k cells) ms)
 with_order_members cells stated k ms h =
     elim (is_name k stated (data_at k cells)) as (λ v. AreMembers cells (suc k) (cond v (put (decimal k) (array (items_of (data_at k cells))) ms) ms)) [
-      | true ↦ put_member cells (suc k) (decimal k) (array (items_of (data_at k cells))) ms (new_member cells k) (wider cells k ms h)
-      | false ↦ wider cells k ms h
+      | true ↦ members_after_put cells (suc k) (decimal k) (array (items_of (data_at k cells))) ms (new_member cells k) (members_of_next_order cells k ms h)
+      | false ↦ members_of_next_order cells k ms h
     ]
 
 members_are : (cells : List CellNumber) (stated : Option ℕ) (n : ℕ) → AreMembers cells n (members_below cells stated n)
@@ -138,9 +138,9 @@ members_flat cells n (member name d ms) h =
     let here : depth d ≡ 1 = ap depth (h.0).has ∙ ap (λ n. suc n) (items_flat (filter (λ c. eqb c.order (h.0).order) cells)) in
     omega (arith, here, members_flat cells n ms h.1)
 
-shallow : (a : NumberSet) (stated : Option ℕ) → depth (json_value a stated) ≤ max_depth
+json_depth_bounded : (a : NumberSet) (stated : Option ℕ) → depth (json_value a stated) ≤ max_depth
 unfolding json_value
-shallow a stated =
+json_depth_bounded a stated =
     let empty_order = stated_if_deeper (deepest_cell (cells_of a)) stated in
     omega (arith, members_flat (cells_of a) 30 (members_below (cells_of a) empty_order 30) (members_are (cells_of a) empty_order 30))
 
@@ -149,15 +149,15 @@ shallow a stated =
 abbrev of_order : ℕ → List CellNumber → List CellNumber
 of_order k cells = filter (λ c. eqb c.order k) cells
 
-order_fine : (k name place : ℕ) (cells : List CellNumber) → AllByRecursion IsCell cells → elements_error k name place (items_of (map datum (of_order k cells))) ≡ None
-order_fine k name place [] h = refl
-order_fine k name place (c ∷ cells) h =
+order_cells_without_error : (k name place : ℕ) (cells : List CellNumber) → AllByRecursion IsCell cells → elements_error k name place (items_of (map datum (of_order k cells))) ≡ None
+order_cells_without_error k name place [] h = refl
+order_cells_without_error k name place (c ∷ cells) h =
     elim (eqb c.order k) as (λ v. eqb c.order k ≡ v → elements_error k name place (items_of (map datum (cond v (c ∷ of_order k cells) (of_order k cells)))) ≡ None) [
       | true ↦ λ e.
           let is : c.order ≡ k = eqb-true c.order k e in
           let fits : ltb c.index (cell_count k) ≡ true = lt-ltb c.index (cell_count k) (subst (λ j. c.index < cell_count j) is (h.0).index_in_range) in
-          rw fits (order_fine k name (place + 1) cells h.1)
-      | false ↦ λ e. order_fine k name place cells h.1
+          rw fits (order_cells_without_error k name (place + 1) cells h.1)
+      | false ↦ λ e. order_cells_without_error k name place cells h.1
     ] refl
 
 -- whether a pixel is in one of the cells
@@ -195,22 +195,22 @@ abbrev named_has : ℕ → List CellNumber → Option ℕ → Bool
 named_has q cells None = false
 named_has q cells (Some k) = has q k cells
 
-abbrev some_has : ℕ → List CellNumber → Members → Bool
-some_has q cells no_members = false
-some_has q cells (member name d ms) = named_has q cells (order_of_name name) || some_has q cells ms
+abbrev any_member_contains : ℕ → List CellNumber → Members → Bool
+any_member_contains q cells no_members = false
+any_member_contains q cells (member name d ms) = named_has q cells (order_of_name name) || any_member_contains q cells ms
 
 record Say (cells : List CellNumber) (ms : Members) (name : ℕ) : Type 0 where
   without_error : members_error name ms ≡ None
-  contain : (q : ℕ) → set.contains (members_pixels ms) q ≡ some_has q cells ms
+  contain : (q : ℕ) → set.contains (members_pixels ms) q ≡ any_member_contains q cells ms
 
-members_say : (cells : List CellNumber) (n : ℕ) (ms : Members) (name : ℕ) → n ≤ 30 → AllByRecursion IsCell cells → AreMembers cells n ms → Say cells ms name
-members_say cells n no_members name le all h = record { without_error = refl; contain = λ q. set.contains-empty nat_cmp q }
-members_say cells n (member text d ms) name le all h =
-    let later = members_say cells n ms (name + 1) le all h.1 in
+members_represent_cells : (cells : List CellNumber) (n : ℕ) (ms : Members) (name : ℕ) → n ≤ 30 → AllByRecursion IsCell cells → AreMembers cells n ms → Say cells ms name
+members_represent_cells cells n no_members name le all h = record { without_error = refl; contain = λ q. set.contains-empty nat_cmp q }
+members_represent_cells cells n (member text d ms) name le all h =
+    let later = members_represent_cells cells n ms (name + 1) le all h.1 in
     let k = (h.0).order in
     let o : order_of_name text ≡ Some k = ap order_of_name (h.0).named ∙ name_is k (omega (arith, (h.0).below)) in
     let items : as_array d ≡ Some (items_of (data_at k cells)) = ap as_array (h.0).has in
-    let here : name_error name (order_of_name text) (as_array d) ≡ None = rw (o, items) (order_fine k name 0 cells all) in
+    let here : name_error name (order_of_name text) (as_array d) ≡ None = rw (o, items) (order_cells_without_error k name 0 cells all) in
     let pixels : array_pixels (order_of_name text) (as_array d) ≡ items_pixels k (items_of (data_at k cells)) = rw (o, items) refl in
     record {
       without_error = ap (λ f. option_or f (members_error (name + 1) ms)) here ∙ later.without_error;
@@ -219,7 +219,7 @@ members_say cells n (member text d ms) name le all h =
           ∙ ap (λ (a : NumberSet). set.contains a q || set.contains (members_pixels ms) q) pixels
           ∙ ap (λ b. b || set.contains (members_pixels ms) q) (order_has q k cells)
           ∙ ap (λ b. has q k cells || b) (later.contain q)
-          ∙ ap (λ (x : Option ℕ). named_has q cells x || some_has q cells ms) (sym o);
+          ∙ ap (λ (x : Option ℕ). named_has q cells x || any_member_contains q cells ms) (sym o);
     }
 
 -- ---- one name among the others
@@ -236,54 +236,54 @@ deeper_swap (Some i) None c = refl
 deeper_swap (Some i) (Some j) None = ap (λ (n : ℕ). Some n) (omega arith)
 deeper_swap (Some i) (Some j) (Some k) = ap (λ (n : ℕ). Some n) (omega arith)
 
-one_name : (j k : ℕ) → j < 30 → k < 30 → decimal j ≡ decimal k → j ≡ k
-one_name j k lj lk e = sym (value-decimal j (omega arith)) ∙ ap (digits_value 10) e ∙ value-decimal k (omega arith)
+order_name_is_unique : (j k : ℕ) → j < 30 → k < 30 → decimal j ≡ decimal k → j ≡ k
+order_name_is_unique j k lj lk e = sym (value-decimal j (omega arith)) ∙ ap (digits_value 10) e ∙ value-decimal k (omega arith)
 
-put_has : (q : ℕ) (cells : List CellNumber) (k : ℕ) (d : Data) (ms : Members) → k < 30 → AreMembers cells k ms → some_has q cells (put (decimal k) d ms) ≡ (has q k cells || some_has q cells ms)
-put_has q cells k d no_members lt h = ap (λ (x : Option ℕ). named_has q cells x || false) (name_is k lt)
-put_has q cells k d (member l e ms) lt h =
-    elim (slice_cmp nat_cmp (decimal k) l) as (λ o. slice_cmp nat_cmp (decimal k) l ≡ o → some_has q cells (match_ordering o (member (decimal k) d (member l e ms)) (member l d ms) (member l e (put (decimal k) d ms))) ≡ (has q k cells || (named_has q cells (order_of_name l) || some_has q cells ms))) [
-      | Less ↦ λ o. ap (λ (x : Option ℕ). named_has q cells x || (named_has q cells (order_of_name l) || some_has q cells ms)) (name_is k lt)
-      | Equal ↦ λ o. absurd (omega (arith, (h.0).below, one_name k (h.0).order lt (omega (arith, (h.0).below)) (exact_bytes (decimal k) l o ∙ (h.0).named)))
-      | Greater ↦ λ o. ap (λ b. named_has q cells (order_of_name l) || b) (put_has q cells k d ms lt h.1) ∙ or_swap (named_has q cells (order_of_name l)) (has q k cells) (some_has q cells ms)
+contains_after_put : (q : ℕ) (cells : List CellNumber) (k : ℕ) (d : Data) (ms : Members) → k < 30 → AreMembers cells k ms → any_member_contains q cells (put (decimal k) d ms) ≡ (has q k cells || any_member_contains q cells ms)
+contains_after_put q cells k d no_members lt h = ap (λ (x : Option ℕ). named_has q cells x || false) (name_is k lt)
+contains_after_put q cells k d (member l e ms) lt h =
+    elim (slice_cmp nat_cmp (decimal k) l) as (λ o. slice_cmp nat_cmp (decimal k) l ≡ o → any_member_contains q cells (match_ordering o (member (decimal k) d (member l e ms)) (member l d ms) (member l e (put (decimal k) d ms))) ≡ (has q k cells || (named_has q cells (order_of_name l) || any_member_contains q cells ms))) [
+      | Less ↦ λ o. ap (λ (x : Option ℕ). named_has q cells x || (named_has q cells (order_of_name l) || any_member_contains q cells ms)) (name_is k lt)
+      | Equal ↦ λ o. absurd (omega (arith, (h.0).below, order_name_is_unique k (h.0).order lt (omega (arith, (h.0).below)) (exact_bytes (decimal k) l o ∙ (h.0).named)))
+      | Greater ↦ λ o. ap (λ b. named_has q cells (order_of_name l) || b) (contains_after_put q cells k d ms lt h.1) ∙ or_swap (named_has q cells (order_of_name l)) (has q k cells) (any_member_contains q cells ms)
     ] refl
 
-put_deepest : (cells : List CellNumber) (k : ℕ) (d : Data) (ms : Members) → k < 30 → AreMembers cells k ms → deepest_name (put (decimal k) d ms) ≡ deeper (Some k) (deepest_name ms)
-put_deepest cells k d no_members lt h = ap (λ (x : Option ℕ). deeper x None) (name_is k lt)
-put_deepest cells k d (member l e ms) lt h =
+deepest_name_after_put : (cells : List CellNumber) (k : ℕ) (d : Data) (ms : Members) → k < 30 → AreMembers cells k ms → deepest_name (put (decimal k) d ms) ≡ deeper (Some k) (deepest_name ms)
+deepest_name_after_put cells k d no_members lt h = ap (λ (x : Option ℕ). deeper x None) (name_is k lt)
+deepest_name_after_put cells k d (member l e ms) lt h =
     elim (slice_cmp nat_cmp (decimal k) l) as (λ o. slice_cmp nat_cmp (decimal k) l ≡ o → deepest_name (match_ordering o (member (decimal k) d (member l e ms)) (member l d ms) (member l e (put (decimal k) d ms))) ≡ deeper (Some k) (deeper (order_of_name l) (deepest_name ms))) [
       | Less ↦ λ o. ap (λ (x : Option ℕ). deeper x (deeper (order_of_name l) (deepest_name ms))) (name_is k lt)
-      | Equal ↦ λ o. absurd (omega (arith, (h.0).below, one_name k (h.0).order lt (omega (arith, (h.0).below)) (exact_bytes (decimal k) l o ∙ (h.0).named)))
-      | Greater ↦ λ o. ap (deeper (order_of_name l)) (put_deepest cells k d ms lt h.1) ∙ deeper_swap (order_of_name l) (Some k) (deepest_name ms)
+      | Equal ↦ λ o. absurd (omega (arith, (h.0).below, order_name_is_unique k (h.0).order lt (omega (arith, (h.0).below)) (exact_bytes (decimal k) l o ∙ (h.0).named)))
+      | Greater ↦ λ o. ap (deeper (order_of_name l)) (deepest_name_after_put cells k d ms lt h.1) ∙ deeper_swap (order_of_name l) (Some k) (deepest_name ms)
     ] refl
 
 -- ---- all pixels
 
-nothing_has : (q : ℕ) (cells : List CellNumber) → map datum cells ≡ [] → in_cells q cells ≡ false
-nothing_has q [] e = refl
-nothing_has q (c ∷ cells) e = absurd cc
+no_cell_contains : (q : ℕ) (cells : List CellNumber) → map datum cells ≡ [] → in_cells q cells ≡ false
+no_cell_contains q [] e = refl
+no_cell_contains q (c ∷ cells) e = absurd cc
 
 unnamed_empty : (k : ℕ) (stated : Option ℕ) (ds : List Data) → is_name k stated ds ≡ false → ds ≡ []
 unnamed_empty k stated [] h = refl
 unnamed_empty k stated (d ∷ ds) h = absurd cc
 
-with_order_has : (q : ℕ) (cells : List CellNumber) (stated : Option ℕ) (k : ℕ) (ms : Members) → k < 30 → AreMembers cells k ms → some_has q cells (with_order k stated (data_at k cells) ms) ≡ (has q k cells || some_has q cells ms)
+with_order_has : (q : ℕ) (cells : List CellNumber) (stated : Option ℕ) (k : ℕ) (ms : Members) → k < 30 → AreMembers cells k ms → any_member_contains q cells (with_order k stated (data_at k cells) ms) ≡ (has q k cells || any_member_contains q cells ms)
 with_order_has q cells stated k ms lt h =
-    elim (is_name k stated (data_at k cells)) as (λ v. is_name k stated (data_at k cells) ≡ v → some_has q cells (cond v (put (decimal k) (array (items_of (data_at k cells))) ms) ms) ≡ (has q k cells || some_has q cells ms)) [
-      | true ↦ λ e. put_has q cells k (array (items_of (data_at k cells))) ms lt h
-      | false ↦ λ e. ap (λ b. b || some_has q cells ms) (sym (nothing_has q (of_order k cells) (unnamed_empty k stated (data_at k cells) e)))
+    elim (is_name k stated (data_at k cells)) as (λ v. is_name k stated (data_at k cells) ≡ v → any_member_contains q cells (cond v (put (decimal k) (array (items_of (data_at k cells))) ms) ms) ≡ (has q k cells || any_member_contains q cells ms)) [
+      | true ↦ λ e. contains_after_put q cells k (array (items_of (data_at k cells))) ms lt h
+      | false ↦ λ e. ap (λ b. b || any_member_contains q cells ms) (sym (no_cell_contains q (of_order k cells) (unnamed_empty k stated (data_at k cells) e)))
     ] refl
 
-abbrev below_has : ℕ → ℕ → List CellNumber → Bool
-below_has q n cells = in_cells q (filter (λ c. ltb c.order n) cells)
+abbrev cell_below_contains : ℕ → ℕ → List CellNumber → Bool
+cell_below_contains q n cells = in_cells q (filter (λ c. ltb c.order n) cells)
 
-next_order : (q k : ℕ) (cells : List CellNumber) → (has q k cells || below_has q k cells) ≡ below_has q (suc k) cells
+next_order : (q k : ℕ) (cells : List CellNumber) → (has q k cells || cell_below_contains q k cells) ≡ cell_below_contains q (suc k) cells
 next_order q k [] = refl
 next_order q k (c ∷ cells) =
     let rest = next_order q k cells in
     elim (cases_order c.order k) [
-      | inl e ↦ rw (eq-eqb c.order k e, le-ltb c.order k (omega (arith, e)), lt-ltb c.order (suc k) (omega (arith, e))) (regroup (set.contains (span c.order c.index) q) (has q k cells) (below_has q k cells) ∙ ap (λ b. set.contains (span c.order c.index) q || b) rest)
-      | inr (inl l) ↦ rw (ne_eqb c.order k (λ e. omega (arith, l, e)), lt-ltb c.order k l, lt-ltb c.order (suc k) (omega (arith, l))) (or_swap (has q k cells) (set.contains (span c.order c.index) q) (below_has q k cells) ∙ ap (λ b. set.contains (span c.order c.index) q || b) rest)
+      | inl e ↦ rw (eq-eqb c.order k e, le-ltb c.order k (omega (arith, e)), lt-ltb c.order (suc k) (omega (arith, e))) (regroup (set.contains (span c.order c.index) q) (has q k cells) (cell_below_contains q k cells) ∙ ap (λ b. set.contains (span c.order c.index) q || b) rest)
+      | inr (inl l) ↦ rw (ne_eqb c.order k (λ e. omega (arith, l, e)), lt-ltb c.order k l, lt-ltb c.order (suc k) (omega (arith, l))) (or_swap (has q k cells) (set.contains (span c.order c.index) q) (cell_below_contains q k cells) ∙ ap (λ b. set.contains (span c.order c.index) q || b) rest)
       | inr (inr l) ↦ rw (ne_eqb c.order k (λ e. omega (arith, l, e)), le-ltb c.order k (omega (arith, l)), le-ltb c.order (suc k) (omega (arith, l))) rest
     ]
   where
@@ -291,17 +291,17 @@ next_order q k (c ∷ cells) =
     regroup true b c = refl
     regroup false b c = refl
 
-below_none : (q : ℕ) (cells : List CellNumber) → false ≡ below_has q 0 cells
-below_none q [] = refl
-below_none q (c ∷ cells) = below_none q cells ∙ sym (rw (le-ltb c.order 0 (omega arith)) refl)
+no_cell_below_zero : (q : ℕ) (cells : List CellNumber) → false ≡ cell_below_contains q 0 cells
+no_cell_below_zero q [] = refl
+no_cell_below_zero q (c ∷ cells) = no_cell_below_zero q cells ∙ sym (rw (le-ltb c.order 0 (omega arith)) refl)
 
-members_have : (q : ℕ) (cells : List CellNumber) (stated : Option ℕ) (n : ℕ) → n ≤ 30 → some_has q cells (members_below cells stated n) ≡ below_has q n cells
-members_have q cells stated zero le = below_none q cells
+members_have : (q : ℕ) (cells : List CellNumber) (stated : Option ℕ) (n : ℕ) → n ≤ 30 → any_member_contains q cells (members_below cells stated n) ≡ cell_below_contains q n cells
+members_have q cells stated zero le = no_cell_below_zero q cells
 members_have q cells stated (suc k) le =
     with_order_has q cells stated k (members_below cells stated k) (omega arith) (members_are cells stated k)
     ∙ ap (λ b. has q k cells || b) (members_have q cells stated k (omega arith)) ∙ next_order q k cells
 
-all_below : (q : ℕ) (cells : List CellNumber) → AllByRecursion IsCell cells → below_has q 30 cells ≡ in_cells q cells
+all_below : (q : ℕ) (cells : List CellNumber) → AllByRecursion IsCell cells → cell_below_contains q 30 cells ≡ in_cells q cells
 all_below q [] h = refl
 all_below q (c ∷ cells) h = rw (lt-ltb c.order 30 (omega (arith, (h.0).order_in_range))) (ap (λ b. set.contains (span c.order c.index) q || b) (all_below q cells h.1))
 
@@ -309,7 +309,7 @@ all_below q (c ∷ cells) h = rw (lt-ltb c.order 30 (omega (arith, (h.0).order_i
 
 with_order_deepest : (cells : List CellNumber) (stated : Option ℕ) (k : ℕ) (ds : List Data) (ms : Members) → k < 30 → AreMembers cells k ms → deepest_name (with_order k stated ds ms) ≡ cond (is_name k stated ds) (deeper (Some k) (deepest_name ms)) (deepest_name ms)
 with_order_deepest cells stated k ds ms lt h =
-    elim (is_name k stated ds) as (λ v. deepest_name (cond v (put (decimal k) (array (items_of ds)) ms) ms) ≡ cond v (deeper (Some k) (deepest_name ms)) (deepest_name ms)) [ true ↦ put_deepest cells k (array (items_of ds)) ms lt h | false ↦ refl ]
+    elim (is_name k stated ds) as (λ v. deepest_name (cond v (put (decimal k) (array (items_of ds)) ms) ms) ≡ cond v (deeper (Some k) (deepest_name ms)) (deepest_name ms)) [ true ↦ deepest_name_after_put cells k (array (items_of ds)) ms lt h | false ↦ refl ]
 
 abbrev Below : ℕ → Option ℕ → Type 0
 Below n None = Unit {0}
@@ -340,25 +340,25 @@ abbrev ParsesName : List CellNumber → Option ℕ → ℕ → Bool
 ParsesName cells stated k = is_name k stated (data_at k cells)
 
 -- if no order from m on is a name
-deepest_stays : (cells : List CellNumber) (stated : Option ℕ) (m n : ℕ) → m ≤ n → n ≤ 30 → ((k : ℕ) → m ≤ k → ParsesName cells stated k ≡ false) → deepest_name (members_below cells stated n) ≡ deepest_name (members_below cells stated m)
-deepest_stays cells stated m zero le lt none = let e : 0 ≡ m = omega arith in ap (λ n. deepest_name (members_below cells stated n)) e
-deepest_stays cells stated m (suc k) le lt none = elim (cases_lt m (suc k)) [
-  | inl l ↦ next_deepest cells stated k (omega arith) ∙ ap (λ b. cond b (Some k) (deepest_name (members_below cells stated k))) (none k (omega arith)) ∙ deepest_stays cells stated m k (omega arith) (omega arith) none
+deepest_name_unchanged : (cells : List CellNumber) (stated : Option ℕ) (m n : ℕ) → m ≤ n → n ≤ 30 → ((k : ℕ) → m ≤ k → ParsesName cells stated k ≡ false) → deepest_name (members_below cells stated n) ≡ deepest_name (members_below cells stated m)
+deepest_name_unchanged cells stated m zero le lt none = let e : 0 ≡ m = omega arith in ap (λ n. deepest_name (members_below cells stated n)) e
+deepest_name_unchanged cells stated m (suc k) le lt none = elim (cases_lt m (suc k)) [
+  | inl l ↦ next_deepest cells stated k (omega arith) ∙ ap (λ b. cond b (Some k) (deepest_name (members_below cells stated k))) (none k (omega arith)) ∙ deepest_name_unchanged cells stated m k (omega arith) (omega arith) none
   | inr ge ↦ let e : suc k ≡ m = omega arith in ap (λ n. deepest_name (members_below cells stated n)) e
 ]
 
 -- the deepest order that is a name
-deepest_found : (cells : List CellNumber) (stated : Option ℕ) (m : ℕ) → m < 30 → ParsesName cells stated m ≡ true → ((k : ℕ) → suc m ≤ k → ParsesName cells stated k ≡ false) → deepest_name (members_below cells stated 30) ≡ Some m
-deepest_found cells stated m lt here none =
-    deepest_stays cells stated (suc m) 30 (omega arith) (omega arith) none ∙ next_deepest cells stated m lt ∙ ap (λ b. cond b (Some m) (deepest_name (members_below cells stated m))) here
+deepest_name_of_members : (cells : List CellNumber) (stated : Option ℕ) (m : ℕ) → m < 30 → ParsesName cells stated m ≡ true → ((k : ℕ) → suc m ≤ k → ParsesName cells stated k ≡ false) → deepest_name (members_below cells stated 30) ≡ Some m
+deepest_name_of_members cells stated m lt here none =
+    deepest_name_unchanged cells stated (suc m) 30 (omega arith) (omega arith) none ∙ next_deepest cells stated m lt ∙ ap (λ b. cond b (Some m) (deepest_name (members_below cells stated m))) here
 
 no_cells : (k : ℕ) (cells : List CellNumber) → AllByRecursion (λ c. c.order < k) cells → data_at k cells ≡ []
 no_cells k [] h = refl
 no_cells k (c ∷ cells) h = rw (ne_eqb c.order k (λ e. omega (arith, h.0, e))) (no_cells k cells h.1)
 
-unnamed : (k : ℕ) (stated : Option ℕ) (ds : List Data) → ds ≡ [] → is_name k stated [] ≡ false → is_name k stated ds ≡ false
-unnamed k stated [] e s = s
-unnamed k stated (d ∷ ds) e s = absurd cc
+no_name_in_empty : (k : ℕ) (stated : Option ℕ) (ds : List Data) → ds ≡ [] → is_name k stated [] ≡ false → is_name k stated ds ≡ false
+no_name_in_empty k stated [] e s = s
+no_name_in_empty k stated (d ∷ ds) e s = absurd cc
 
 at_most : (k : ℕ) (cells : List CellNumber) → (HasDeeper cells (Some k) → ⊥) → AllByRecursion (λ c. c.order ≤ k) cells
 at_most k [] h = tt
@@ -374,8 +374,8 @@ stated_named k [] = eq-eqb k k refl
 
 deepest_stated : (cells : List CellNumber) (s : ℕ) → s < 30 → (HasDeeper cells (Some s) → ⊥) → deepest_name (members_below cells (Some s) 30) ≡ Some s
 deepest_stated cells s lt fine =
-    deepest_found cells (Some s) s lt (stated_named s (data_at s cells))
-    (λ k le. unnamed k (Some s) (data_at k cells) (no_cells k cells (below_all k s cells (omega arith) (at_most s cells fine))) (ne_eqb k s (λ e. omega (arith, le, e))))
+    deepest_name_of_members cells (Some s) s lt (stated_named s (data_at s cells))
+    (λ k le. no_name_in_empty k (Some s) (data_at k cells) (no_cells k cells (below_all k s cells (omega arith) (at_most s cells fine))) (ne_eqb k s (λ e. omega (arith, le, e))))
 
 -- the deepest order of cells: some cell has it, and no cell is deeper
 record IsDeepest (cells : List CellNumber) (m : ℕ) : Type 0 where
@@ -390,12 +390,12 @@ DeepestIs cells (Some m) = IsDeepest cells m
 named_more : (m : ℕ) (c : CellNumber) (cells : List CellNumber) → is_name m None (data_at m cells) ≡ true → is_name m None (data_at m (c ∷ cells)) ≡ true
 named_more m c cells h = elim (eqb c.order m) as (λ v. is_name m None (map datum (cond v (c ∷ of_order m cells) (of_order m cells))) ≡ true) [ true ↦ refl | false ↦ h ]
 
-named_here : (m : ℕ) (c : CellNumber) (cells : List CellNumber) → c.order ≡ m → is_name m None (data_at m (c ∷ cells)) ≡ true
-named_here m c cells e = rw (eq-eqb c.order m e) refl
+name_of_first_cell : (m : ℕ) (c : CellNumber) (cells : List CellNumber) → c.order ≡ m → is_name m None (data_at m (c ∷ cells)) ≡ true
+name_of_first_cell m c cells e = rw (eq-eqb c.order m e) refl
 
-weaker : (m k : ℕ) (cells : List CellNumber) → m ≤ k → AllByRecursion (λ c. c.order ≤ m) cells → AllByRecursion (λ c. c.order ≤ k) cells
-weaker m k [] le h = tt
-weaker m k (c ∷ cells) le h = (omega (arith, h.0), weaker m k cells le h.1)
+orders_below_larger : (m k : ℕ) (cells : List CellNumber) → m ≤ k → AllByRecursion (λ c. c.order ≤ m) cells → AllByRecursion (λ c. c.order ≤ k) cells
+orders_below_larger m k [] le h = tt
+orders_below_larger m k (c ∷ cells) le h = (omega (arith, h.0), orders_below_larger m k cells le h.1)
 
 deepest_of : (cells : List CellNumber) → AllByRecursion IsCell cells → DeepestIs cells (deepest_cell cells)
 deepest_of [] h = refl
@@ -404,7 +404,7 @@ deepest_of (c ∷ cells) h = with_cell (deepest_cell cells) (deepest_of cells h.
     with_cell : (x : Option ℕ) → DeepestIs cells x → DeepestIs (c ∷ cells) (deeper (Some c.order) x)
     with_cell None e = record {
       small = omega (arith, (h.0).order_in_range);
-      named = named_here c.order c cells refl;
+      named = name_of_first_cell c.order c cells refl;
       most = (omega arith, subst (AllByRecursion (λ d. d.order ≤ c.order)) (sym e) tt);
     }
     with_cell (Some m) d = elim (cases_lt m c.order) [
@@ -412,8 +412,8 @@ deepest_of (c ∷ cells) h = with_cell (deepest_cell cells) (deepest_of cells h.
           let is : c.order ≡ max c.order m = omega arith in
           subst (λ (n : ℕ). IsDeepest (c ∷ cells) n) is (record {
             small = omega (arith, (h.0).order_in_range);
-            named = named_here c.order c cells refl;
-            most = (omega arith, weaker m c.order cells (omega arith) d.most);
+            named = name_of_first_cell c.order c cells refl;
+            most = (omega arith, orders_below_larger m c.order cells (omega arith) d.most);
           })
       | inr ge ↦
           let is : m ≡ max c.order m = omega arith in
@@ -425,8 +425,8 @@ deepest_of (c ∷ cells) h = with_cell (deepest_cell cells) (deepest_of cells h.
     ]
 
 deepest_unstated : (cells : List CellNumber) (x : Option ℕ) → DeepestIs cells x → deepest_name (members_below cells None 30) ≡ x
-deepest_unstated cells None e = deepest_stays cells None 0 30 (omega arith) (omega arith) (λ k le. unnamed k None (data_at k cells) (ap (data_at k) e) refl)
-deepest_unstated cells (Some m) d = deepest_found cells None m d.small d.named (λ k le. unnamed k None (data_at k cells) (no_cells k cells (below_all k m cells (omega arith) d.most)) refl)
+deepest_unstated cells None e = deepest_name_unchanged cells None 0 30 (omega arith) (omega arith) (λ k le. no_name_in_empty k None (data_at k cells) (ap (data_at k) e) refl)
+deepest_unstated cells (Some m) d = deepest_name_of_members cells None m d.small d.named (λ k le. no_name_in_empty k None (data_at k cells) (no_cells k cells (below_all k m cells (omega arith) d.most)) refl)
 
 deepest_beyond : (cells : List CellNumber) (s : ℕ) (x : Option ℕ) → s < 30 → DeepestIs cells x → deeper x (Some s) ≡ Some s → (HasDeeper cells (Some s) → ⊥) → deepest_name (members_below cells (stated_if_deeper x (Some s)) 30) ≡ Some s
 deepest_beyond cells s None lt d le fine = deepest_stated cells s lt fine
@@ -461,28 +461,28 @@ mutual
   members_depth_same no_members = refl
   members_depth_same (member name d ms) = ap₂ max (depth_same d) (members_depth_same ms)
 
-abbrev bare_of : NumberSet → Option ℕ → Option ℕ
-bare_of a stated = stated_if_deeper (deepest_cell (cells_of a)) stated
+abbrev without_default_order : NumberSet → Option ℕ → Option ℕ
+without_default_order a stated = stated_if_deeper (deepest_cell (cells_of a)) stated
 
 -- the object as it is written
-written_value : (a : NumberSet) (stated : Option ℕ) → object (members_in_order (cells_of a) (bare_of a stated) orders_by_name) ≡ json_value a stated
+written_value : (a : NumberSet) (stated : Option ℕ) → object (members_in_order (cells_of a) (without_default_order a stated) orders_by_name) ≡ json_value a stated
 unfolding json_value
-written_value a stated = ap (λ (ms : Members). object ms) (sym (members_by_name (cells_of a) (bare_of a stated)))
+written_value a stated = ap (λ (ms : Members). object ms) (sym (members_by_name (cells_of a) (without_default_order a stated)))
 
 -- the text of the object
-pub written_text : (a : NumberSet) (stated : Option ℕ) → compact_text (object (members_in_order (cells_of a) (bare_of a stated) orders_by_name)) ≡ json_text a stated
+pub written_text : (a : NumberSet) (stated : Option ℕ) → compact_text (object (members_in_order (cells_of a) (without_default_order a stated) orders_by_name)) ≡ json_text a stated
 unfolding json_text
 written_text a stated = ap compact_text (written_value a stated)
 
 -- the value that is parsed from the text
 pub written_read : (a : NumberSet) (stated : Option ℕ) (text : List ℕ) → text ≡ json_text a stated → read text ≡ Some (json_value a stated)
 written_read a stated text is =
-    let value = object (members_in_order (cells_of a) (bare_of a stated) orders_by_name) in
+    let value = object (members_in_order (cells_of a) (without_default_order a stated) orders_by_name) in
     let printed : text ≡ print (json_tokens (outline value)) = is ∙ sym (written_text a stated) ∙ sym (print-outline value) in
     let same : tokens text ≡ json_tokens (outline value) =
-    ap tokens printed ∙ tokens-print (json_tokens (outline value)) (ArePrintable-json_tokens (outline value) (along_numbers (cells_of a) (bare_of a stated) orders_by_name (cells_are a))) in
-    let back : of_json (outline value) ≡ Some value = ap (option_map object) (members_back (cells_of a) (bare_of a stated) (cells_are a)) in
-    let flat : tree.depth (outline value) ≤ max_depth = omega (arith, depth_same value, ap depth (written_value a stated), shallow a stated) in
+    ap tokens printed ∙ tokens-print (json_tokens (outline value)) (ArePrintable-json_tokens (outline value) (along_numbers (cells_of a) (without_default_order a stated) orders_by_name (cells_are a))) in
+    let back : of_json (outline value) ≡ Some value = ap (option_map object) (members_back (cells_of a) (without_default_order a stated) (cells_are a)) in
+    let flat : tree.depth (outline value) ≤ max_depth = omega (arith, depth_same value, ap depth (written_value a stated), json_depth_bounded a stated) in
     ap (λ (o : Option (json.Json × List Token)). option_and_then of_json (option_and_then (λ p. json.if_last p.0 p.1) o)) (ap (json.value max_depth) (same ∙ sym (append-nil _)) ∙ value-json_tokens (outline value) max_depth [] flat) ∙ back ∙ ap (λ (d : Data). Some d) (written_value a stated)
 
 pub written_represents : (a : NumberSet) (stated : Option ℕ) (text : List ℕ) → IsUtf8 text → read text ≡ Some (json_value a stated) → IsWithin a pixels → ForSome stated (λ k. k ≤ 29) → (IsTooCoarse a stated → ⊥) → RepresentsJson text a (deepest_written a stated)
@@ -490,7 +490,7 @@ unfolding json_value
 written_represents a stated text utf8 is in_pixels small fine =
     let cells = cells_of a in
     let empty_order = stated_if_deeper (deepest_cell cells) stated in
-    let say = members_say cells 30 (members_below cells empty_order 30) 0 (omega arith) (cells_are a) (members_are cells empty_order 30) in
+    let say = members_represent_cells cells 30 (members_below cells empty_order 30) 0 (omega arith) (cells_are a) (members_are cells empty_order 30) in
     record {
       value = json_value a stated;
       json = record { utf8 = utf8; value = is };

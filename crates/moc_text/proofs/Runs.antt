@@ -25,12 +25,12 @@ orders_below first last [] all = tt
 orders_below first last (c ∷ cells) all = ((all.0).1, orders_below first last cells all.1)
 
 -- if no cell has the last order, all cells are coarser
-pub none_of_last : (k : ℕ) (cells : List CellNumber) → AreBelow (suc k) cells → of_order k cells ≡ [] → AreBelow k cells
-none_of_last k [] all none = tt
-none_of_last k (c ∷ cells) all none =
+pub no_cells_of_last_order : (k : ℕ) (cells : List CellNumber) → AreBelow (suc k) cells → of_order k cells ≡ [] → AreBelow k cells
+no_cells_of_last_order k [] all none = tt
+no_cells_of_last_order k (c ∷ cells) all none =
     elim (eqb c.order k) as (λ b. eqb c.order k ≡ b → cond b (c ∷ of_order k cells) (of_order k cells) ≡ [] → AreBelow k (c ∷ cells)) [
       | true ↦ λ e none. absurd cc
-      | false ↦ λ e none. (lower c.order all.0 e, none_of_last k cells all.1 none)
+      | false ↦ λ e none. (lower c.order all.0 e, no_cells_of_last_order k cells all.1 none)
     ] refl none
   where
     lower : (j : ℕ) → j < suc k → eqb j k ≡ false → j < k
@@ -66,15 +66,15 @@ none_at_all first last k (c ∷ cells) all below le = absurd (omega (arith, (all
 
 -- ---- order by order
 
-none_rising : (k j : ℕ) (cells : List CellNumber) → k < j → AreAscending j cells → of_order k cells ≡ []
-none_rising k j [] lt rise = refl
-none_rising k j (c ∷ cells) lt rise =
-    rw (ne_eqb c.order k (λ e. omega (arith, rise.0, e))) (none_rising k c.order cells (omega (arith, rise.0)) rise.1)
+no_cells_of_lower_order : (k j : ℕ) (cells : List CellNumber) → k < j → AreAscending j cells → of_order k cells ≡ []
+no_cells_of_lower_order k j [] lt rise = refl
+no_cells_of_lower_order k j (c ∷ cells) lt rise =
+    rw (ne_eqb c.order k (λ e. omega (arith, rise.0, e))) (no_cells_of_lower_order k c.order cells (omega (arith, rise.0)) rise.1)
 
-all_rising : (k j : ℕ) (cells : List CellNumber) → k ≤ j → AreAscending j cells → cells_from k cells ≡ cells
-all_rising k j [] le rise = refl
-all_rising k j (c ∷ cells) le rise =
-    rw (le-leb k c.order (omega (arith, rise.0))) (ap (λ (l : List CellNumber). c ∷ l) (all_rising k c.order cells (omega (arith, rise.0)) rise.1))
+all_ascending : (k j : ℕ) (cells : List CellNumber) → k ≤ j → AreAscending j cells → cells_from k cells ≡ cells
+all_ascending k j [] le rise = refl
+all_ascending k j (c ∷ cells) le rise =
+    rw (le-leb k c.order (omega (arith, rise.0))) (ap (λ (l : List CellNumber). c ∷ l) (all_ascending k c.order cells (omega (arith, rise.0)) rise.1))
 
 -- the cells from an order on are those of the order and those from the next order on
 pub order_first : (k j : ℕ) (cells : List CellNumber) → AreAscending j cells → cells_from k cells ≡ of_order k cells ++ cells_from (k + 1) cells
@@ -84,8 +84,8 @@ order_first k j (c ∷ cells) rise = elim (cases_lt c.order k) [
       rw (lt-leb k c.order lt, lt-leb (k + 1) c.order (omega arith), ne_eqb c.order k (λ e. omega (arith, e))) (order_first k c.order cells rise.1)
   | inr le ↦ elim (cases_lt k c.order) [
     | inl lt ↦
-        all_rising k c.order (c ∷ cells) le (omega arith, rise.1)
-        ∙ (λ i. sym (none_rising k c.order (c ∷ cells) lt (omega arith, rise.1)) i ++ sym (all_rising (k + 1) c.order (c ∷ cells) (omega arith) (omega arith, rise.1)) i)
+        all_ascending k c.order (c ∷ cells) le (omega arith, rise.1)
+        ∙ (λ i. sym (no_cells_of_lower_order k c.order (c ∷ cells) lt (omega arith, rise.1)) i ++ sym (all_ascending (k + 1) c.order (c ∷ cells) (omega arith) (omega arith, rise.1)) i)
     | inr ge ↦
         rw (le-leb k c.order le, lt-leb (k + 1) c.order (omega arith), eq-eqb c.order k (omega arith)) (ap (λ (l : List CellNumber). c ∷ l) (order_first k c.order cells rise.1))
   ]
@@ -114,24 +114,24 @@ abbrev Stops : ℕ → ℕ → List CellNumber → Type 0
 Stops k last [] = Unit {0}
 Stops k last (c ∷ cells) = (eqb c.order k && eqb (last + 1) c.index) ≡ false
 
-abbrev run : ℕ → ℕ → ℕ → CellRun
-run k first last = record { order = k; first = first; last = last }
+abbrev cell_run : ℕ → ℕ → ℕ → CellRun
+cell_run k first last = record { order = k; first = first; last = last }
 
 run_whole : (k first last n : ℕ) (cells : List CellNumber) → Stops k (last + n) cells
-    → runs_from (run k first last) (map (cell_number k) (range_with_len (last + 1) n) ++ cells) ≡ run k first (last + n) ∷ runs_of cells
-run_whole k first last zero [] stops = ap (λ n. run k first n ∷ []) (omega arith)
+    → runs_from (cell_run k first last) (map (cell_number k) (range_with_len (last + 1) n) ++ cells) ≡ cell_run k first (last + n) ∷ runs_of cells
+run_whole k first last zero [] stops = ap (λ n. cell_run k first n ∷ []) (omega arith)
 run_whole k first last zero (c ∷ cells) stops =
     let here : last ≡ last + 0 = omega arith in
-    let is : follows (run k first last) c ≡ false = ap (λ n. eqb c.order k && eqb (n + 1) c.index) here ∙ stops in
-    ap (λ b. cond b (runs_from (run k first c.index) cells) (run k first last ∷ runs_from (run_of_one c) cells)) is
-    ∙ ap (λ n. run k first n ∷ runs_of (c ∷ cells)) here
+    let is : follows (cell_run k first last) c ≡ false = ap (λ n. eqb c.order k && eqb (n + 1) c.index) here ∙ stops in
+    ap (λ b. cond b (runs_from (cell_run k first c.index) cells) (cell_run k first last ∷ runs_from (run_of_one c) cells)) is
+    ∙ ap (λ n. cell_run k first n ∷ runs_of (c ∷ cells)) here
 run_whole k first last (suc n) cells stops =
     let more : last + suc n ≡ last + 1 + n = omega arith in
     let rest = map (cell_number k) (range_with_len (last + 1 + 1) n) ++ cells in
-    let is : follows (run k first last) (cell_number k (last + 1)) ≡ true = (λ i. eq-eqb k k refl i && eq-eqb (last + 1) (last + 1) refl i) in
-    ap (λ b. cond b (runs_from (run k first (last + 1)) rest) (run k first last ∷ runs_from (run_of_one (cell_number k (last + 1))) rest)) is
+    let is : follows (cell_run k first last) (cell_number k (last + 1)) ≡ true = (λ i. eq-eqb k k refl i && eq-eqb (last + 1) (last + 1) refl i) in
+    ap (λ b. cond b (runs_from (cell_run k first (last + 1)) rest) (cell_run k first last ∷ runs_from (run_of_one (cell_number k (last + 1))) rest)) is
     ∙ run_whole k first (last + 1) n cells (subst (λ m. Stops k m cells) more stops)
-    ∙ ap (λ m. run k first m ∷ runs_of cells) (sym more)
+    ∙ ap (λ m. cell_run k first m ∷ runs_of cells) (sym more)
 
 stops_run : (k last b : ℕ) (ps : List (ℕ × ℕ)) (cells : List CellNumber) → last < b → IsNormal ps → BeginsAfter b ps → AllByRecursion (λ c. k < c.order) cells → Stops k last (cells_in k ps ++ cells)
 stops_run k last b [] [] lt normal after deeper = tt
@@ -150,9 +150,9 @@ runs_first k (p ∷ ps) cells normal deeper =
     let last : p.0 + m ≡ p.1 - 1 = omega (arith, normal.0) in
     let others = map (cell_number k) (range_with_len (p.0 + 1) m) in
     ap (λ n. runs_of ((map (cell_number k) (range_with_len p.0 n) ++ cells_in k ps) ++ cells)) many
-    ∙ ap (runs_from (run k p.0 p.0)) (append_assoc others (cells_in k ps) cells)
+    ∙ ap (runs_from (cell_run k p.0 p.0)) (append_assoc others (cells_in k ps) cells)
     ∙ run_whole k p.0 p.0 m (cells_in k ps ++ cells) (stops_run k (p.0 + m) p.1 ps cells (omega (arith, normal.0)) normal.3 normal.2 deeper)
-    ∙ (λ i. run k p.0 (last i) ∷ runs_first k ps cells normal.3 deeper i)
+    ∙ (λ i. cell_run k p.0 (last i) ∷ runs_first k ps cells normal.3 deeper i)
 
 -- the text of one order, followed by the text from the next order on
 pub order_step : (k : ℕ) (cells : List CellNumber) (ps : List (ℕ × ℕ)) → AreAscending 0 cells → IsNormal ps → cells_in k ps ≡ of_order k cells → runs_of (cells_from k cells) ≡ runs_in k ps ++ runs_of (cells_from (k + 1) cells)
@@ -178,5 +178,5 @@ next_some k cells s t (Some x) next is normal all below =
     has_cells k cells x t (subst (λ (rs : List (ℕ × ℕ)). IsNormal rs) next normal) (ap (cells_in k) (sym next) ∙ all) below
 
 pub next_none : (k : ℕ) (cells : List CellNumber) (s t : List (ℕ × ℕ)) (x : Option (ℕ × ℕ)) → Next s x t → is_some x ≡ false → cells_in k s ≡ of_order k cells → AreBelow (suc k) cells → AreBelow k cells
-next_none k cells s t None next is all below = none_of_last k cells below (sym all ∙ ap (cells_in k) next.0)
+next_none k cells s t None next is all below = no_cells_of_last_order k cells below (sym all ∙ ap (cells_in k) next.0)
 next_none k cells s t (Some x) next is all below = absurd cc

@@ -26,22 +26,22 @@ use Rattle.moc_text.specs.UniqList.{uniq_line_error, uniq_error, numbers_on, Rep
 use Rattle.moc_text.specs.Private.UniqReading.{after_line_feed, IsPart, IsLineRead, LinesSoFar}
 use Rattle.moc_text.specs.declared.uniq.UniqError.{UniqError}
 use Rattle.moc_text.specs.declared.uniq.UniqError.TheVariants.{BadByte, NotUniq}
-use Rattle.moc_text.proofs.Automaton.{both}
-use Rattle.moc_text.proofs.Held.{held_is}
+use Rattle.moc_text.proofs.Automaton.{both_true}
+use Rattle.moc_text.proofs.Held.{saturated_value_is_capped}
 use Rattle.moc_text.proofs.Scanning.{digits-split, front-digits, past-digits}
 use Rattle.moc_text.proofs.Written.{IsNumber-decimal, value-decimal}
 
 -- ---- NUNIQ numbers
 
-four : (k : ℕ) → 4 ^ suc k ≡ 4 * 4 ^ k
-four k = omega (arith, pow-suc 4 k)
+next_power_of_four : (k : ℕ) → 4 ^ suc k ≡ 4 * 4 ^ k
+next_power_of_four k = omega (arith, pow-suc 4 k)
 
 uniq_bounds : (c : CellNumber) → IsCell c → (4 ^ (c.order + 1) ≤ uniq_of c) × (uniq_of c < 4 ^ (c.order + 2))
 uniq_bounds c h =
     let one : c.order + 1 ≡ suc c.order = omega arith in
     let two : c.order + 2 ≡ suc (suc c.order) = omega arith in
     let i = h.index_in_range in
-    (omega arith, rw (one, two) (omega (arith, four c.order, four (suc c.order))))
+    (omega arith, rw (one, two) (omega (arith, next_power_of_four c.order, next_power_of_four (suc c.order))))
 
 pub uniq_some : (c : CellNumber) → 0 < uniq_of c
 uniq_some c =
@@ -71,8 +71,8 @@ same_order j k u a b c d =
     clash m n l a b = omega arith
 
 -- a number is that of at most one cell
-one_cell : (c d : CellNumber) → IsCell c → IsCell d → uniq_of c ≡ uniq_of d → c ≡ d
-one_cell c d h k e =
+cell_of_uniq_is_unique : (c d : CellNumber) → IsCell c → IsCell d → uniq_of c ≡ uniq_of d → c ≡ d
+cell_of_uniq_is_unique c d h k e =
     let a = uniq_bounds c h in
     let b = uniq_bounds d k in
     let order : c.order ≡ d.order = same_order c.order d.order (uniq_of d) (omega (arith, a.0, e)) (omega (arith, a.1, e)) b.0 b.1 in
@@ -87,7 +87,7 @@ same_cells (c ∷ cs) [] h k e = absurd cc
 same_cells (c ∷ cs) (d ∷ ds) h k e =
     let first : uniq_of c ≡ uniq_of d = cc in
     let others : map uniq_of cs ≡ map uniq_of ds = cc in
-    ap (λ (x : CellNumber). x ∷ cs) (one_cell c d h.0 k.0 first) ∙ ap (λ (xs : List CellNumber). d ∷ xs) (same_cells cs ds h.1 k.1 others)
+    ap (λ (x : CellNumber). x ∷ cs) (cell_of_uniq_is_unique c d h.0 k.0 first) ∙ ap (λ (xs : List CellNumber). d ∷ xs) (same_cells cs ds h.1 k.1 others)
 
 -- ---- the first line
 
@@ -95,20 +95,20 @@ digit_no_end : (d : ℕ) → is_ascii_digit d ≡ true → eqb d 10 ≡ false
 digit_no_end d h = grind (arith, nat_tests)
 
 -- digits that end with LF
-lines_cut : (ds rest : List ℕ) → all_ascii_digits ds ≡ true → lines_of (ds ++ 10 ∷ rest) ≡ ds ∷ lines_of rest
-lines_cut [] rest h = refl
-lines_cut (d ∷ ds) rest h =
-    let p = both (is_ascii_digit d) (all_ascii_digits ds) h in
-    rw (digit_no_end d p.0) (ap (onto_first d) (lines_cut ds rest p.1))
+lines_after_digits : (ds rest : List ℕ) → all_ascii_digits ds ≡ true → lines_of (ds ++ 10 ∷ rest) ≡ ds ∷ lines_of rest
+lines_after_digits [] rest h = refl
+lines_after_digits (d ∷ ds) rest h =
+    let p = both_true (is_ascii_digit d) (all_ascii_digits ds) h in
+    rw (digit_no_end d p.0) (ap (onto_first d) (lines_after_digits ds rest p.1))
 
 -- digits that end with the text
 lines_last : (ds : List ℕ) → 0 < length ds → all_ascii_digits ds ≡ true → lines_of ds ≡ ds ∷ []
 lines_last [] some h = absurd (omega arith)
 lines_last (d ∷ []) some h =
-    let p = both (is_ascii_digit d) true h in
+    let p = both_true (is_ascii_digit d) true h in
     rw (digit_no_end d p.0) refl
 lines_last (d ∷ e ∷ ds) some h =
-    let p = both (is_ascii_digit d) (all_ascii_digits (e ∷ ds)) h in
+    let p = both_true (is_ascii_digit d) (all_ascii_digits (e ∷ ds)) h in
     rw (digit_no_end d p.0) (ap (onto_first d) (lines_last (e ∷ ds) (omega arith) p.1))
 
 -- the end of a line
@@ -129,7 +129,7 @@ front_line ds [] rest some h e =
     (ap lines_of whole ∙ lines_last ds (omega (arith, some, ap length whole)) h ∙ ap (λ (r : List ℕ). ds ∷ lines_of r) none, omega (arith, ap length none))
 front_line ds (b ∷ more) rest some h e =
     let k = line_end b more rest e in
-    (ap (λ (n : ℕ). lines_of (ds ++ n ∷ more)) k.0 ∙ lines_cut ds more h ∙ ap (λ (r : List ℕ). ds ∷ lines_of r) k.1, omega (arith, ap length k.1))
+    (ap (λ (n : ℕ). lines_of (ds ++ n ∷ more)) k.0 ∙ lines_after_digits ds more h ∙ ap (λ (r : List ℕ). ds ∷ lines_of r) k.1, omega (arith, ap length k.1))
 
 front_lines : (bytes rest : List ℕ) → 0 < length bytes → after_line_feed (after_digits bytes) ≡ Some rest → lines_of bytes ≡ leading_digits bytes ∷ lines_of rest
 front_lines bytes rest some e =
@@ -138,16 +138,16 @@ front_lines bytes rest some e =
 
 -- ---- a line with a byte that is not a digit
 
-onto_first_is : (b : ℕ) (lines : List (List ℕ)) → (l : List ℕ) × (ls : List (List ℕ)) × (onto_first b lines ≡ (b ∷ l) ∷ ls)
-onto_first_is b [] = ([], [], refl)
-onto_first_is b (l ∷ ls) = (l, ls, refl)
+prepend_to_first_line : (b : ℕ) (lines : List (List ℕ)) → (l : List ℕ) × (ls : List (List ℕ)) × (onto_first b lines ≡ (b ∷ l) ∷ ls)
+prepend_to_first_line b [] = ([], [], refl)
+prepend_to_first_line b (l ∷ ls) = (l, ls, refl)
 
 lines_bad : (ds : List ℕ) (b : ℕ) (more : List ℕ) → all_ascii_digits ds ≡ true → eqb b 10 ≡ false → (l : List ℕ) × (ls : List (List ℕ)) × (lines_of (ds ++ b ∷ more) ≡ (ds ++ b ∷ l) ∷ ls)
 lines_bad [] b more h e =
-    let f = onto_first_is b (lines_of more) in
+    let f = prepend_to_first_line b (lines_of more) in
     (f.0, f.1, rw e f.2)
 lines_bad (d ∷ ds) b more h e =
-    let p = both (is_ascii_digit d) (all_ascii_digits ds) h in
+    let p = both_true (is_ascii_digit d) (all_ascii_digits ds) h in
     let f = lines_bad ds b more p.1 e in
     (f.0, f.1, rw (digit_no_end d p.0) (ap (onto_first d) f.2))
 
@@ -182,12 +182,12 @@ numbers_cons (b ∷ l) ls some = refl
 abbrev line_test : ℕ → Bool → ℕ → Option UniqError
 line_test n digits v = cond (not digits) (Some (BadByte n)) (cond (is_uniq v) None (Some (NotUniq n)))
 
-fault_cons : (n : ℕ) (l : List ℕ) → 0 < length l → uniq_line_error n l ≡ line_test n (all_ascii_digits l) (digits_value 10 l)
-fault_cons n [] some = absurd (omega arith)
-fault_cons n (b ∷ l) some = refl
+uniq_line_error_of_digits : (n : ℕ) (l : List ℕ) → 0 < length l → uniq_line_error n l ≡ line_test n (all_ascii_digits l) (digits_value 10 l)
+uniq_line_error_of_digits n [] some = absurd (omega arith)
+uniq_line_error_of_digits n (b ∷ l) some = refl
 
-line_fine : (n : ℕ) (l : List ℕ) → IsNumber l → 4 ≤ digits_value 10 l → digits_value 10 l < 2 ^ 62 → uniq_line_error n l ≡ None
-line_fine n l h low high = fault_cons n l h.0 ∙ rw (h.1, le-leb 4 (digits_value 10 l) low, lt-ltb (digits_value 10 l) (2 ^ 62) high) refl
+uniq_line_without_error : (n : ℕ) (l : List ℕ) → IsNumber l → 4 ≤ digits_value 10 l → digits_value 10 l < 2 ^ 62 → uniq_line_error n l ≡ None
+uniq_line_without_error n l h low high = uniq_line_error_of_digits n l h.0 ∙ rw (h.1, le-leb 4 (digits_value 10 l) low, lt-ltb (digits_value 10 l) (2 ^ 62) high) refl
 
 shorter : (bytes rest : List ℕ) → 0 < length bytes → after_line_feed (after_digits bytes) ≡ Some rest → length rest < length bytes
 shorter bytes rest some e = shorter_parts (leading_digits bytes) (after_digits bytes) rest (omega (arith, some, ap length split)) e (ap length split)
@@ -228,7 +228,7 @@ line_cell n bytes rest old new c some e digits is number added =
     let ds = leading_digits bytes in
     let h : IsNumber ds = (some_digits bytes digits, front-digits bytes) in
     let range = uniq_range c is in
-    let value : digits_value 10 ds ≡ uniq_of c = below_top (digits_value 10 ds) (2 ^ 64 - 1) (uniq_of c) (omega (arith, range.1)) (sym (held_is ds h.1) ∙ sym number) in
+    let value : digits_value 10 ds ≡ uniq_of c = below_top (digits_value 10 ds) (2 ^ 64 - 1) (uniq_of c) (omega (arith, range.1)) (sym (saturated_value_is_capped ds h.1) ∙ sym number) in
     let lines = front_lines bytes rest some e in
     record {
       shorter = shorter bytes rest some e;
@@ -238,7 +238,7 @@ line_cell n bytes rest old new c some e digits is number added =
         numbers = ap numbers_on lines ∙ numbers_cons ds (lines_of rest) h.0 ∙ ap (λ v. v ∷ numbers_on (lines_of rest)) value;
         set_is = added ∙ ap (set.union old) (sym (union-empty (span c.order c.index)));
       };
-      fault = ap (first_error_of uniq_line_error n) lines ∙ ap (λ x. option_or x (first_error_of uniq_line_error (n + 1) (lines_of rest))) (line_fine n ds h (omega (arith, value, range.0)) (omega (arith, value, range.1)));
+      fault = ap (first_error_of uniq_line_error n) lines ∙ ap (λ x. option_or x (first_error_of uniq_line_error (n + 1) (lines_of rest))) (uniq_line_without_error n ds h (omega (arith, value, range.0)) (omega (arith, value, range.1)));
     }
 
 wrong_number : (v top : ℕ) → 2 ^ 62 ≤ top → ((4 ≤ min v top) × (min v top < 2 ^ 62) → ⊥) → is_uniq v ≡ false
@@ -256,9 +256,9 @@ pub line_wrong : (n : ℕ) (bytes rest : List ℕ) → 0 < length bytes → afte
 line_wrong n bytes rest some e digits wrong =
     let ds = leading_digits bytes in
     let h : IsNumber ds = (some_digits bytes digits, front-digits bytes) in
-    let held : saturated_value 0 ds ≡ min (digits_value 10 ds) (2 ^ 64 - 1) = held_is ds h.1 in
-    let w : is_uniq (digits_value 10 ds) ≡ false = wrong_number (digits_value 10 ds) (2 ^ 64 - 1) (omega arith) (λ r. wrong (omega (arith, held, r.0), omega (arith, held, r.1))) in
-    let f : uniq_line_error n ds ≡ Some (NotUniq n) = fault_cons n ds h.0 ∙ rw (h.1, w) refl in
+    let saturated : saturated_value 0 ds ≡ min (digits_value 10 ds) (2 ^ 64 - 1) = saturated_value_is_capped ds h.1 in
+    let w : is_uniq (digits_value 10 ds) ≡ false = wrong_number (digits_value 10 ds) (2 ^ 64 - 1) (omega arith) (λ r. wrong (omega (arith, saturated, r.0), omega (arith, saturated, r.1))) in
+    let f : uniq_line_error n ds ≡ Some (NotUniq n) = uniq_line_error_of_digits n ds h.0 ∙ rw (h.1, w) refl in
     ap (first_error_of uniq_line_error n) (front_lines bytes rest some e) ∙ ap (λ x. option_or x (first_error_of uniq_line_error (n + 1) (lines_of rest))) f
 
 -- ---- all lines
@@ -279,12 +279,12 @@ part_more text bytes rest old new p q = record {
   set_is = q.set_is ∙ ap (λ (r : NumberSet). set.union r (pixels_of q.cells)) p.set_is ∙ union-assoc set.empty (pixels_of p.cells) (pixels_of q.cells) ∙ ap (set.union set.empty) (sym (pixels_of-append p.cells q.cells));
 }
 
-pub so_far_none : (text : List ℕ) → LinesSoFar text text 1 set.empty
+pub lines_so_far_start : (text : List ℕ) → LinesSoFar text text 1 set.empty
 unfolding uniq_error
-so_far_none text = record { part = part_none text; fault = refl; within = omega arith }
+lines_so_far_start text = record { part = part_none text; fault = refl; within = omega arith }
 
-pub so_far_more : (text bytes rest : List ℕ) (line : ℕ) (old new : NumberSet) → LinesSoFar text bytes line old → IsLineRead line bytes old rest new → LinesSoFar text rest (line + 1) new
-so_far_more text bytes rest line old new p q = record {
+pub lines_so_far_next : (text bytes rest : List ℕ) (line : ℕ) (old new : NumberSet) → LinesSoFar text bytes line old → IsLineRead line bytes old rest new → LinesSoFar text rest (line + 1) new
+lines_so_far_next text bytes rest line old new p q = record {
   part = part_more text bytes rest old new p.part q.part;
   fault = p.fault ∙ q.fault;
   within = omega (arith, p.within, q.shorter);
@@ -292,9 +292,9 @@ so_far_more text bytes rest line old new p q = record {
 
 -- ---- the text
 
-pub lines_say : (text rest : List ℕ) (line : ℕ) (a : NumberSet) → length rest ≡ 0 → LinesSoFar text rest line a → RepresentsUniq text a
-lines_say text (b ∷ rest) line a none r = absurd (omega arith)
-lines_say text [] line a none r = record {
+pub lines_represent_uniq : (text rest : List ℕ) (line : ℕ) (a : NumberSet) → length rest ≡ 0 → LinesSoFar text rest line a → RepresentsUniq text a
+lines_represent_uniq text (b ∷ rest) line a none r = absurd (omega arith)
+lines_represent_uniq text [] line a none r = record {
   without_error = r.fault;
   cells = r.part.cells;
   are_cells = r.part.are_cells;
@@ -303,8 +303,8 @@ lines_say text [] line a none r = record {
 }
 
 -- a text represents at most one set
-pub one_set : (text : List ℕ) (a b : NumberSet) → RepresentsUniq text a → RepresentsUniq text b → a ≡ b
-one_set text a b x y =
+pub set_is_unique : (text : List ℕ) (a b : NumberSet) → RepresentsUniq text a → RepresentsUniq text b → a ≡ b
+set_is_unique text a b x y =
     let cells : x.cells ≡ y.cells = same_cells x.cells y.cells x.are_cells y.are_cells (x.numbers ∙ sym y.numbers) in
     x.pixels_are ∙ ap pixels_of cells ∙ sym y.pixels_are
 
@@ -318,7 +318,7 @@ lines_numbers : (ns : List ℕ) → AllByRecursion (λ n. n < 2 ^ 62) ns → lin
 lines_numbers [] h = refl
 lines_numbers (n ∷ ns) h =
     ap lines_of (append_assoc (decimal n) (10 ∷ []) (number_lines ns))
-    ∙ lines_cut (decimal n) (number_lines ns) (IsNumber-decimal n (omega (arith, h.0))).1 ∙ ap (λ (ls : List (List ℕ)). decimal n ∷ ls) (lines_numbers ns h.1)
+    ∙ lines_after_digits (decimal n) (number_lines ns) (IsNumber-decimal n (omega (arith, h.0))).1 ∙ ap (λ (ls : List (List ℕ)). decimal n ∷ ls) (lines_numbers ns h.1)
 
 numbers_decimal : (ns : List ℕ) → AllByRecursion (λ n. n < 2 ^ 62) ns → numbers_on (map decimal ns) ≡ ns
 numbers_decimal [] h = refl
@@ -331,14 +331,14 @@ small_numbers : (cells : List CellNumber) → AllByRecursion IsCell cells → Al
 small_numbers [] h = tt
 small_numbers (c ∷ cells) h = ((uniq_range c h.0).1, small_numbers cells h.1)
 
-decimals_fine : (at : ℕ) (cells : List CellNumber) → AllByRecursion IsCell cells → first_error_of uniq_line_error at (map decimal (map uniq_of cells)) ≡ None
-decimals_fine at [] h = refl
-decimals_fine at (c ∷ cells) h =
+decimals_are_numbers : (at : ℕ) (cells : List CellNumber) → AllByRecursion IsCell cells → first_error_of uniq_line_error at (map decimal (map uniq_of cells)) ≡ None
+decimals_are_numbers at [] h = refl
+decimals_are_numbers at (c ∷ cells) h =
     let range = uniq_range c h.0 in
     let n : IsNumber (decimal (uniq_of c)) = IsNumber-decimal (uniq_of c) (omega (arith, range.1)) in
     let value = value-decimal (uniq_of c) (omega (arith, range.1)) in
-    ap (λ x. option_or x (first_error_of uniq_line_error (at + 1) (map decimal (map uniq_of cells)))) (line_fine at (decimal (uniq_of c)) n (omega (arith, value, range.0)) (omega (arith, value, range.1)))
-    ∙ decimals_fine (at + 1) cells h.1
+    ap (λ x. option_or x (first_error_of uniq_line_error (at + 1) (map decimal (map uniq_of cells)))) (uniq_line_without_error at (decimal (uniq_of c)) n (omega (arith, value, range.0)) (omega (arith, value, range.1)))
+    ∙ decimals_are_numbers (at + 1) cells h.1
 
 pub written_uniq_is_read : (a : NumberSet) → IsWithin a pixels → RepresentsUniq (uniq_text a) a
 unfolding uniq_text uniq_error
@@ -348,7 +348,7 @@ written_uniq_is_read a in_pixels =
     let lines : lines_of (flat_map (λ c. decimal (uniq_of c) ++ 10 ∷ []) cells) ≡ map decimal (map uniq_of cells) =
     ap lines_of (sym (flat_map-map (λ n. decimal n ++ 10 ∷ []) uniq_of cells)) ∙ lines_numbers (map uniq_of cells) (small_numbers cells are) in
     record {
-      without_error = ap (first_error_of uniq_line_error 1) lines ∙ decimals_fine 1 cells are;
+      without_error = ap (first_error_of uniq_line_error 1) lines ∙ decimals_are_numbers 1 cells are;
       cells = cells;
       are_cells = are;
       numbers = sym (ap numbers_on lines ∙ numbers_decimal (map uniq_of cells) (small_numbers cells are));

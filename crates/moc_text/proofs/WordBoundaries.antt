@@ -6,7 +6,7 @@ use Rattle.std.proofs.lemmas.List.Sums.{take_while-cons}
 use Rattle.std.proofs.lemmas.Bool.{eq-eqb, ne_eqb}
 use Rattle.moc_text.specs.Ascii.{is_separator, Word, prepend_to_words, words_from}
 use Rattle.moc_text.specs.Private.Scan.{is_end}
-use Rattle.moc_text.proofs.Automaton.{State, Dead, step, run, run-Dead, both, step-separator}
+use Rattle.moc_text.proofs.Automaton.{State, Dead, step, run, run-Dead, both_true, step-separator}
 
 abbrev pub is_word_byte : ℕ → Bool
 is_word_byte b = not (is_separator b)
@@ -27,7 +27,7 @@ no_separator st (b ∷ p) alive =
 pub take_while-part : (p rest : List ℕ) → IsWordPart p → take_while is_word_byte (p ++ rest) ≡ p ++ take_while is_word_byte rest
 take_while-part [] rest h = refl
 take_while-part (b ∷ p) rest h =
-    let k = both (is_word_byte b) (list_all is_word_byte p) h in
+    let k = both_true (is_word_byte b) (list_all is_word_byte p) h in
     take_while-cons is_word_byte b (p ++ rest) ∙ ap (λ v. cond v (b ∷ take_while is_word_byte (p ++ rest)) []) k.0 ∙ ap (λ (r : List ℕ). b ∷ r) (take_while-part p rest k.1)
 
 pub take_while-end : (rest : List ℕ) → is_end rest ≡ true → take_while is_word_byte rest ≡ []
@@ -47,22 +47,22 @@ word_bytes p rest h ends = take_while-part p rest h ∙ ap (λ (r : List ℕ). p
 
 -- ---- the first word, and the bytes after it
 
-abbrev pub past_word : List ℕ → List ℕ
-past_word [] = []
-past_word (b ∷ bytes) = cond (is_separator b) (b ∷ bytes) (past_word bytes)
+abbrev pub after_word_bytes : List ℕ → List ℕ
+after_word_bytes [] = []
+after_word_bytes (b ∷ bytes) = cond (is_separator b) (b ∷ bytes) (after_word_bytes bytes)
 
-front_split : (bytes : List ℕ) → take_while is_word_byte bytes ++ past_word bytes ≡ bytes
+front_split : (bytes : List ℕ) → take_while is_word_byte bytes ++ after_word_bytes bytes ≡ bytes
 front_split [] = refl
 front_split (b ∷ bytes) =
-    ap (λ (r : List ℕ). r ++ past_word (b ∷ bytes)) (take_while-cons is_word_byte b bytes)
-    ∙ elim (is_separator b) as (λ v. cond (not v) (b ∷ take_while is_word_byte bytes) [] ++ cond v (b ∷ bytes) (past_word bytes) ≡ b ∷ bytes) [
+    ap (λ (r : List ℕ). r ++ after_word_bytes (b ∷ bytes)) (take_while-cons is_word_byte b bytes)
+    ∙ elim (is_separator b) as (λ v. cond (not v) (b ∷ take_while is_word_byte bytes) [] ++ cond v (b ∷ bytes) (after_word_bytes bytes) ≡ b ∷ bytes) [
       | true ↦ refl
       | false ↦ ap (λ (r : List ℕ). b ∷ r) (front_split bytes)
     ]
 
-past_end : (bytes : List ℕ) → is_end (past_word bytes) ≡ true
+past_end : (bytes : List ℕ) → is_end (after_word_bytes bytes) ≡ true
 past_end [] = refl
-past_end (b ∷ bytes) = elim (is_separator b) as (λ v. is_separator b ≡ v → is_end (cond v (b ∷ bytes) (past_word bytes)) ≡ true) [
+past_end (b ∷ bytes) = elim (is_separator b) as (λ v. is_separator b ≡ v → is_end (cond v (b ∷ bytes) (after_word_bytes bytes)) ≡ true) [
   | true ↦ λ e. e
   | false ↦ λ e. past_end bytes
 ] refl
@@ -101,43 +101,43 @@ words_start (b ∷ bytes) at = elim (is_separator b) as (λ v. StartFrom at (con
 ]
 
 -- a byte before words that do not begin directly after it
-onto_apart : (at b : ℕ) (ws : List Word) → StartFrom (at + 2) ws → prepend_to_words at b ws ≡ record { at = at; bytes = b ∷ [] } ∷ ws
-onto_apart at b [] h = refl
-onto_apart at b (w ∷ ws) h = rw (ne_eqb w.at (at + 1) (λ e. omega (arith, h, e))) refl
+prepend_new_word : (at b : ℕ) (ws : List Word) → StartFrom (at + 2) ws → prepend_to_words at b ws ≡ record { at = at; bytes = b ∷ [] } ∷ ws
+prepend_new_word at b [] h = refl
+prepend_new_word at b (w ∷ ws) h = rw (ne_eqb w.at (at + 1) (λ e. omega (arith, h, e))) refl
 
 pub words_skip : (b : ℕ) (rest : List ℕ) (at : ℕ) → is_separator b ≡ true → words_from at (b ∷ rest) ≡ words_from (at + 1) rest
 words_skip b rest at h = rw h refl
 
-words_apart : (rest : List ℕ) (at : ℕ) → is_end rest ≡ true → StartFrom (at + 1) (words_from at rest)
-words_apart [] at h = tt
-words_apart (b ∷ rest) at h = subst (StartFrom (at + 1)) (sym (words_skip b rest at h)) (words_start rest (at + 1))
+words_after_separator : (rest : List ℕ) (at : ℕ) → is_end rest ≡ true → StartFrom (at + 1) (words_from at rest)
+words_after_separator [] at h = tt
+words_after_separator (b ∷ rest) at h = subst (StartFrom (at + 1)) (sym (words_skip b rest at h)) (words_start rest (at + 1))
 
-joined : (at b : ℕ) (bytes : List ℕ) (ws : List Word) → prepend_to_words at b (record { at = at + 1; bytes = bytes } ∷ ws) ≡ record { at = at; bytes = b ∷ bytes } ∷ ws
-joined at b bytes ws = rw (eq-eqb (at + 1) (at + 1) refl) refl
+prepend_to_first_word : (at b : ℕ) (bytes : List ℕ) (ws : List Word) → prepend_to_words at b (record { at = at + 1; bytes = bytes } ∷ ws) ≡ record { at = at; bytes = b ∷ bytes } ∷ ws
+prepend_to_first_word at b bytes ws = rw (eq-eqb (at + 1) (at + 1) refl) refl
 
-onto_front : (b : ℕ) (rest : List ℕ) (at : ℕ) → is_separator b ≡ false → words_from at (b ∷ rest) ≡ prepend_to_words at b (words_from (at + 1) rest)
-onto_front b rest at h = rw h refl
+words_after_prepend : (b : ℕ) (rest : List ℕ) (at : ℕ) → is_separator b ≡ false → words_from at (b ∷ rest) ≡ prepend_to_words at b (words_from (at + 1) rest)
+words_after_prepend b rest at h = rw h refl
 
 -- a complete first word
 pub words_front : (p rest : List ℕ) (at : ℕ) → 0 < length p → IsWordPart p → is_end rest ≡ true → words_from at (p ++ rest) ≡ record { at = at; bytes = p } ∷ words_from (at + length p) rest
 words_front [] rest at some h ends = absurd (omega arith)
 words_front (b ∷ []) rest at some h ends =
-    let k = both (is_word_byte b) true h in
-    let apart : StartFrom (at + 2) (words_from (at + 1) rest) = let two : at + 1 + 1 ≡ at + 2 = omega arith in subst (λ n. StartFrom n (words_from (at + 1) rest)) two (words_apart rest (at + 1) ends) in
-    onto_front b rest at (not_true (is_separator b) k.0) ∙ onto_apart at b (words_from (at + 1) rest) apart
+    let k = both_true (is_word_byte b) true h in
+    let apart : StartFrom (at + 2) (words_from (at + 1) rest) = let two : at + 1 + 1 ≡ at + 2 = omega arith in subst (λ n. StartFrom n (words_from (at + 1) rest)) two (words_after_separator rest (at + 1) ends) in
+    words_after_prepend b rest at (not_true (is_separator b) k.0) ∙ prepend_new_word at b (words_from (at + 1) rest) apart
 words_front (b ∷ c ∷ p) rest at some h ends =
-    let k = both (is_word_byte b) (list_all is_word_byte (c ∷ p)) h in
+    let k = both_true (is_word_byte b) (list_all is_word_byte (c ∷ p)) h in
     let place : at + 1 + length (c ∷ p) ≡ at + length (b ∷ c ∷ p) = omega arith in
-    onto_front b ((c ∷ p) ++ rest) at (not_true (is_separator b) k.0)
+    words_after_prepend b ((c ∷ p) ++ rest) at (not_true (is_separator b) k.0)
     ∙ ap (prepend_to_words at b) (words_front (c ∷ p) rest (at + 1) (omega arith) k.1 ends)
-    ∙ joined at b (c ∷ p) (words_from (at + 1 + length (c ∷ p)) rest)
+    ∙ prepend_to_first_word at b (c ∷ p) (words_from (at + 1 + length (c ∷ p)) rest)
     ∙ ap (λ n. record { at = at; bytes = b ∷ c ∷ p } ∷ words_from n rest) place
 
 -- a word begins at a byte that is not a separator
-pub words_begin : (b : ℕ) (rest : List ℕ) (at : ℕ) → is_separator b ≡ false → words_from at (b ∷ rest) ≡ record { at = at; bytes = take_while is_word_byte (b ∷ rest) } ∷ words_from (at + length (take_while is_word_byte (b ∷ rest))) (past_word (b ∷ rest))
+pub words_begin : (b : ℕ) (rest : List ℕ) (at : ℕ) → is_separator b ≡ false → words_from at (b ∷ rest) ≡ record { at = at; bytes = take_while is_word_byte (b ∷ rest) } ∷ words_from (at + length (take_while is_word_byte (b ∷ rest))) (after_word_bytes (b ∷ rest))
 words_begin b rest at h =
     ap (words_from at) (sym (front_split (b ∷ rest)))
-    ∙ words_front (take_while is_word_byte (b ∷ rest)) (past_word (b ∷ rest)) at (omega (arith, ap length (take_while-more b rest h))) (front_is_word_part (b ∷ rest)) (past_end (b ∷ rest))
+    ∙ words_front (take_while is_word_byte (b ∷ rest)) (after_word_bytes (b ∷ rest)) at (omega (arith, ap length (take_while-more b rest h))) (front_is_word_part (b ∷ rest)) (past_end (b ∷ rest))
 
 -- ---- properties of words
 

@@ -20,7 +20,7 @@ use Rattle.moc_text.specs.declared.ascii.number.Item.{Item}
 use Rattle.moc_text.specs.declared.ascii.number.WordNumbers.{WordNumbers}
 use Rattle.moc_text.specs.declared.ascii.writing.Run.{Run as CellRun}
 use Rattle.moc_text.specs.declared.ascii.error.TextError.TheVariants.{OrderTooLarge}
-use Rattle.moc_text.proofs.Automaton.{both}
+use Rattle.moc_text.proofs.Automaton.{both_true}
 use Rattle.moc_text.proofs.WordBoundaries.{words_front, words_skip}
 use Rattle.moc_text.proofs.ReadWords.{shape_part, shape_some, deeper_assoc, deeper-None}
 use Rattle.moc_text.proofs.Powers.{cells_fit}
@@ -55,15 +55,15 @@ value-decimal n h = (decimal_is_IsNumeral n h).1
 -- ---- the words of words separated by spaces
 
 -- words with these shapes, from an offset on
-abbrev placed : ℕ → List Shape → List Word
-placed at [] = []
-placed at (s ∷ ss) = record { at = at; bytes = shape_text s } ∷ placed (at + length (shape_text s) + 1) ss
+abbrev words_of_shapes : ℕ → List Shape → List Word
+words_of_shapes at [] = []
+words_of_shapes at (s ∷ ss) = record { at = at; bytes = shape_text s } ∷ words_of_shapes (at + length (shape_text s) + 1) ss
 
 abbrev numbers : ℕ → List Shape → List WordNumbers
 numbers at [] = []
 numbers at (s ∷ ss) = numbers_at at s ∷ numbers (at + length (shape_text s) + 1) ss
 
-words-join : (at : ℕ) (ss : List Shape) → AllByRecursion IsShape ss → words_from at (join_with_byte 32 (map shape_text ss)) ≡ placed at ss
+words-join : (at : ℕ) (ss : List Shape) → AllByRecursion IsShape ss → words_from at (join_with_byte 32 (map shape_text ss)) ≡ words_of_shapes at ss
 words-join at [] h = refl
 words-join at (s ∷ []) h =
     ap (words_from at) (sym (append-nil (shape_text s))) ∙ words_front (shape_text s) [] at (shape_some s h.0) (shape_part s h.0) refl
@@ -83,12 +83,12 @@ abbrev run_shape : Option ℕ → CellRun → Shape
 run_shape None r = MarkItem (order_mark r.order) (run_cells r)
 run_shape (Some j) r = cond (eqb j r.order) (JustItem (run_cells r)) (MarkItem (order_mark r.order) (run_cells r))
 
-abbrev bare_shapes : Option ℕ → List Shape
-bare_shapes None = []
-bare_shapes (Some k) = JustMark (order_mark k) ∷ []
+abbrev empty_order_shapes : Option ℕ → List Shape
+empty_order_shapes None = []
+empty_order_shapes (Some k) = JustMark (order_mark k) ∷ []
 
 abbrev shapes_of : Option ℕ → Option ℕ → List CellRun → List Shape
-shapes_of stated before [] = bare_shapes (stated_if_deeper before stated)
+shapes_of stated before [] = empty_order_shapes (stated_if_deeper before stated)
 shapes_of stated before (r ∷ rs) = run_shape before r ∷ shapes_of stated (Some r.order) rs
 
 run_cells-text : (r : CellRun) → item_text (run_cells r) ≡ run_text r
@@ -102,12 +102,12 @@ run_shape-text (Some j) r =
       | false ↦ ap (λ (t : List ℕ). order_text r.order ++ t) (run_cells-text r)
     ]
 
-bare_shapes-text : (empty_order : Option ℕ) → map shape_text (bare_shapes empty_order) ≡ option_to_list (option_map order_text empty_order)
-bare_shapes-text None = refl
-bare_shapes-text (Some k) = refl
+empty_order_shapes-text : (empty_order : Option ℕ) → map shape_text (empty_order_shapes empty_order) ≡ option_to_list (option_map order_text empty_order)
+empty_order_shapes-text None = refl
+empty_order_shapes-text (Some k) = refl
 
 shapes_of-text : (stated before : Option ℕ) (rs : List CellRun) → map shape_text (shapes_of stated before rs) ≡ words_of stated before rs
-shapes_of-text stated before [] = bare_shapes-text (stated_if_deeper before stated)
+shapes_of-text stated before [] = empty_order_shapes-text (stated_if_deeper before stated)
 shapes_of-text stated before (r ∷ rs) =
     ap (λ (w : List ℕ). w ∷ map shape_text (shapes_of stated (Some r.order) rs)) (run_shape-text before r)
     ∙ ap (λ (ws : List (List ℕ)). (mark_text_of before r.order ++ run_text r) ∷ ws) (shapes_of-text stated (Some r.order) rs)
@@ -125,7 +125,7 @@ runs_from-all r (c ∷ cs) h all =
     let k : IsCell c = all.0 in
     elim (follows r c) as (λ v. follows r c ≡ v → AllByRecursion IsRun (cond v (runs_from (record r { last = c.index }) cs) (r ∷ runs_from (run_of_one c) cs))) [
       | true ↦ λ e.
-          let p = both (eqb c.order r.order) (eqb (r.last + 1) c.index) e in
+          let p = both_true (eqb c.order r.order) (eqb (r.last + 1) c.index) e in
           let o : c.order ≡ r.order = eqb-true c.order r.order p.0 in
           let n : r.last + 1 ≡ c.index = eqb-true (r.last + 1) c.index p.1 in
           runs_from-all (record r { last = c.index }) cs (record { order = h.order; forwards = omega (arith, h.forwards); last = subst (λ j. c.index < cell_count j) o k.index_in_range }) all.1
@@ -155,9 +155,9 @@ run_shape_is None r h = (order_number r.order h.order, run_cells_are r h)
 run_shape_is (Some j) r h =
     elim (eqb j r.order) as (λ v. IsShape (cond v (JustItem (run_cells r)) (MarkItem (order_mark r.order) (run_cells r)))) [ true ↦ run_cells_are r h | false ↦ (order_number r.order h.order, run_cells_are r h) ]
 
-bare_shapes_are : (empty_order : Option ℕ) → IsSmall empty_order → AllByRecursion IsShape (bare_shapes empty_order)
-bare_shapes_are None h = tt
-bare_shapes_are (Some k) h = (order_number k (h k refl), tt)
+empty_order_shapes_valid : (empty_order : Option ℕ) → IsSmall empty_order → AllByRecursion IsShape (empty_order_shapes empty_order)
+empty_order_shapes_valid None h = tt
+empty_order_shapes_valid (Some k) h = (order_number k (h k refl), tt)
 
 small_beyond : (before stated : Option ℕ) → IsSmall stated → IsSmall (stated_if_deeper before stated)
 small_beyond before None h = h
@@ -165,7 +165,7 @@ small_beyond None (Some k) h = h
 small_beyond (Some j) (Some k) h = elim (ltb j k) as (λ v. IsSmall (cond v (Some k) None)) [ true ↦ h | false ↦ λ n e. absurd cc ]
 
 shapes_are : (stated before : Option ℕ) (rs : List CellRun) → IsSmall stated → AllByRecursion IsRun rs → AllByRecursion IsShape (shapes_of stated before rs)
-shapes_are stated before [] small h = bare_shapes_are (stated_if_deeper before stated) (small_beyond before stated small)
+shapes_are stated before [] small h = empty_order_shapes_valid (stated_if_deeper before stated) (small_beyond before stated small)
 shapes_are stated before (r ∷ rs) small h = (run_shape_is before r h.0, shapes_are stated (Some r.order) rs small h.1)
 
 -- ---- their numbers
@@ -236,23 +236,23 @@ item_ok k at i r v le lt =
     let c : ltb (last_cell i).value i.first.value ≡ false = le-ltb _ _ (omega (arith, v.first, v.last)) in
     rw (a, b, c) refl
 
-run_fault : (before : Option ℕ) (at : ℕ) (r : CellRun) (n : WordNumbers) → IsRun r → RunParts before r n → error_of before at n ≡ None
-run_fault before at r n h p =
+run_has_no_error : (before : Option ℕ) (at : ℕ) (r : CellRun) (n : WordNumbers) → IsRun r → RunParts before r n → error_of before at n ≡ None
+run_has_no_error before at r n h p =
     let i : item_error (current_order before n.mark) at n.item ≡ None = ap (λ k. item_error k at n.item) p.order ∙ ap (item_error (Some r.order) at) p.item_is ∙ item_ok r.order at p.item r p.values h.forwards h.last in
     rw (p.mark, i) refl
 
-bare_read : (before empty_order : Option ℕ) (at : ℕ) → IsSmall empty_order → AreNumbersOf before (placed at (bare_shapes empty_order)) (numbers at (bare_shapes empty_order))
-bare_read before None at h = tt
-bare_read before (Some k) at h = ((JustMark (order_mark k), order_number k (h k refl), refl, refl), ap (λ f. option_or f None) (order_mark-fault at k (h k refl)), tt)
+empty_order_read : (before empty_order : Option ℕ) (at : ℕ) → IsSmall empty_order → AreNumbersOf before (words_of_shapes at (empty_order_shapes empty_order)) (numbers at (empty_order_shapes empty_order))
+empty_order_read before None at h = tt
+empty_order_read before (Some k) at h = ((JustMark (order_mark k), order_number k (h k refl), refl, refl), ap (λ f. option_or f None) (order_mark-fault at k (h k refl)), tt)
 
-runs_read : (stated before : Option ℕ) (rs : List CellRun) (at : ℕ) → IsSmall stated → AllByRecursion IsRun rs → AreNumbersOf before (placed at (shapes_of stated before rs)) (numbers at (shapes_of stated before rs))
-runs_read stated before [] at small h = bare_read before (stated_if_deeper before stated) at (small_beyond before stated small)
+runs_read : (stated before : Option ℕ) (rs : List CellRun) (at : ℕ) → IsSmall stated → AllByRecursion IsRun rs → AreNumbersOf before (words_of_shapes at (shapes_of stated before rs)) (numbers at (shapes_of stated before rs))
+runs_read stated before [] at small h = empty_order_read before (stated_if_deeper before stated) at (small_beyond before stated small)
 runs_read stated before (r ∷ rs) at small h =
     let p = run_parts before at r h.0 in
     let next = at + length (shape_text (run_shape before r)) + 1 in (
       (run_shape before r, run_shape_is before r h.0, refl, refl),
-      run_fault before at r (numbers_at at (run_shape before r)) h.0 p,
-      subst (λ k. AreNumbersOf k (placed next (shapes_of stated (Some r.order) rs)) (numbers next (shapes_of stated (Some r.order) rs))) (sym p.order) (runs_read stated (Some r.order) rs next small h.1),
+      run_has_no_error before at r (numbers_at at (run_shape before r)) h.0 p,
+      subst (λ k. AreNumbersOf k (words_of_shapes next (shapes_of stated (Some r.order) rs)) (numbers next (shapes_of stated (Some r.order) rs))) (sym p.order) (runs_read stated (Some r.order) rs next small h.1),
     )
 
 -- ---- their pixels and their deepest order
@@ -264,25 +264,25 @@ abbrev all_pixels : List CellRun → NumberSet
 all_pixels [] = set.empty
 all_pixels (r ∷ rs) = set.union (run_pixels r) (all_pixels rs)
 
-bare_said : (before empty_order : Option ℕ) (at : ℕ) → pixels_of_words before (numbers at (bare_shapes empty_order)) ≡ set.empty
-bare_said before None at = refl
-bare_said before (Some k) at = empty-union set.empty
+empty_order_has_no_pixels : (before empty_order : Option ℕ) (at : ℕ) → pixels_of_words before (numbers at (empty_order_shapes empty_order)) ≡ set.empty
+empty_order_has_no_pixels before None at = refl
+empty_order_has_no_pixels before (Some k) at = empty-union set.empty
 
-run_said : (before : Option ℕ) (r : CellRun) (n : WordNumbers) → RunParts before r n → item_pixels (current_order before n.mark) n.item ≡ run_pixels r
-run_said before r n p =
+run_pixels_of_numbers : (before : Option ℕ) (r : CellRun) (n : WordNumbers) → RunParts before r n → item_pixels (current_order before n.mark) n.item ≡ run_pixels r
+run_pixels_of_numbers before r n p =
     ap (λ k. item_pixels k n.item) p.order ∙ ap (item_pixels (Some r.order)) p.item_is
     ∙ ap (λ (f : ℕ). spans r.order f (last_cell p.item).value) p.values.first
     ∙ ap (spans r.order r.first) p.values.last
 
-runs_said : (stated before : Option ℕ) (rs : List CellRun) (at : ℕ) → AllByRecursion IsRun rs → pixels_of_words before (numbers at (shapes_of stated before rs)) ≡ all_pixels rs
-runs_said stated before [] at h = bare_said before (stated_if_deeper before stated) at
-runs_said stated before (r ∷ rs) at h =
+all_pixels_of_numbers : (stated before : Option ℕ) (rs : List CellRun) (at : ℕ) → AllByRecursion IsRun rs → pixels_of_words before (numbers at (shapes_of stated before rs)) ≡ all_pixels rs
+all_pixels_of_numbers stated before [] at h = empty_order_has_no_pixels before (stated_if_deeper before stated) at
+all_pixels_of_numbers stated before (r ∷ rs) at h =
     let n = numbers_at at (run_shape before r) in
     let p = run_parts before at r h.0 in
     let others = numbers (at + length (shape_text (run_shape before r)) + 1) (shapes_of stated (Some r.order) rs) in
-    ap (λ (x : NumberSet). set.union x (pixels_of_words (current_order before n.mark) others)) (run_said before r n p)
+    ap (λ (x : NumberSet). set.union x (pixels_of_words (current_order before n.mark) others)) (run_pixels_of_numbers before r n p)
     ∙ ap (λ (k : Option ℕ). set.union (run_pixels r) (pixels_of_words k others)) p.order
-    ∙ ap (set.union (run_pixels r)) (runs_said stated (Some r.order) rs (at + length (shape_text (run_shape before r)) + 1) h.1)
+    ∙ ap (set.union (run_pixels r)) (all_pixels_of_numbers stated (Some r.order) rs (at + length (shape_text (run_shape before r)) + 1) h.1)
 
 abbrev deepest_run : List CellRun → Option ℕ
 deepest_run [] = None
@@ -291,11 +291,11 @@ deepest_run (r ∷ rs) = deeper (Some r.order) (deepest_run rs)
 max_left : (j k : ℕ) → k ≤ j → j ≡ max j k
 max_left j k h = omega arith
 
-stated_deepest : (before stated : Option ℕ) (at : ℕ) → IsSmall stated → deeper before (deepest_of (numbers at (bare_shapes (stated_if_deeper before stated)))) ≡ deeper before stated
+stated_deepest : (before stated : Option ℕ) (at : ℕ) → IsSmall stated → deeper before (deepest_of (numbers at (empty_order_shapes (stated_if_deeper before stated)))) ≡ deeper before stated
 stated_deepest before None at h = refl
 stated_deepest None (Some k) at h = order_mark-value at k (h k refl)
 stated_deepest (Some j) (Some k) at h =
-    elim (ltb j k) as (λ v. ltb j k ≡ v → deeper (Some j) (deepest_of (numbers at (bare_shapes (cond v (Some k) None)))) ≡ deeper (Some j) (Some k)) [
+    elim (ltb j k) as (λ v. ltb j k ≡ v → deeper (Some j) (deepest_of (numbers at (empty_order_shapes (cond v (Some k) None)))) ≡ deeper (Some j) (Some k)) [
       | true ↦ λ e. ap (deeper (Some j)) (order_mark-value at k (h k refl))
       | false ↦ λ e. ap (λ (n : ℕ). Some n) (max_left j k (ltb-false j k e))
     ] refl
@@ -338,7 +338,7 @@ runs_from-pixels r [] h = refl
 runs_from-pixels r (c ∷ cs) h =
     elim (follows r c) as (λ v. follows r c ≡ v → all_pixels (cond v (runs_from (record r { last = c.index }) cs) (r ∷ runs_from (run_of_one c) cs)) ≡ set.union (run_pixels r) (set.union (span c.order c.index) (pixels_of cs))) [
       | true ↦ λ e.
-          let p = both (eqb c.order r.order) (eqb (r.last + 1) c.index) e in
+          let p = both_true (eqb c.order r.order) (eqb (r.last + 1) c.index) e in
           let o : c.order ≡ r.order = eqb-true c.order r.order p.0 in
           let n : r.last + 1 ≡ c.index = eqb-true (r.last + 1) c.index p.1 in
           runs_from-pixels (record r { last = c.index }) cs (omega arith)
@@ -358,7 +358,7 @@ runs_from-deepest r [] = refl
 runs_from-deepest r (c ∷ cs) =
     elim (follows r c) as (λ v. follows r c ≡ v → deepest_run (cond v (runs_from (record r { last = c.index }) cs) (r ∷ runs_from (run_of_one c) cs)) ≡ deeper (Some r.order) (deeper (Some c.order) (deepest_cell cs))) [
       | true ↦ λ e.
-          let p = both (eqb c.order r.order) (eqb (r.last + 1) c.index) e in
+          let p = both_true (eqb c.order r.order) (eqb (r.last + 1) c.index) e in
           let o : c.order ≡ r.order = eqb-true c.order r.order p.0 in
           runs_from-deepest (record r { last = c.index }) cs ∙ sym (deeper_same r.order (deepest_cell cs)) ∙ ap (λ n. deeper (Some r.order) (deeper (Some n) (deepest_cell cs))) (sym o)
       | false ↦ λ e. ap (deeper (Some r.order)) (runs_from-deepest (run_of_one c) cs)
@@ -395,10 +395,10 @@ written_is_read a stated in_pixels small fine =
     let runs : AllByRecursion IsRun rs = runs_of-all cells all in
     let shapes = shapes_of stated None rs in
     let text : join_with_byte 32 (map shape_text shapes) ≡ join_with_byte 32 (words_of stated None rs) = ap (join_with_byte 32) (shapes_of-text stated None rs) in
-    let ws : placed 0 shapes ≡ words (join_with_byte 32 (words_of stated None rs)) = sym (words-join 0 shapes (shapes_are stated None rs small runs)) ∙ ap words text in
+    let ws : words_of_shapes 0 shapes ≡ words (join_with_byte 32 (words_of stated None rs)) = sym (words-join 0 shapes (shapes_are stated None rs small runs)) ∙ ap words text in
     record {
       numbers = numbers 0 shapes;
       read = subst (λ (w : List Word). AreNumbersOf None w (numbers 0 shapes)) ws (runs_read stated None rs 0 small runs);
-      set_is = sym (runs_said stated None rs 0 runs ∙ runs_pixels cells ∙ cells_fill a in_pixels);
+      set_is = sym (all_pixels_of_numbers stated None rs 0 runs ∙ runs_pixels cells ∙ cells_fill a in_pixels);
       moc_order_is = sym (runs_deepest stated None rs 0 small runs ∙ ap (λ k. deeper k stated) (runs_of-deepest cells) ∙ deepest_is_written a stated fine);
     }

@@ -4,9 +4,12 @@ mod error;
 mod number;
 mod reading;
 mod scan;
+mod single;
 mod writing;
 
 pub use error::TextError;
 pub use reading::{read_ascii, readings_are_unique};
 pub use scan::{digits, is_separator};
-pub use writing::{RANGE_CAPACITY, deepest_of, depth_of, if_deeper, is_too_coarse, write_ascii};
+pub use writing::{
+    capacity_for, deepest_of, depth_of, if_deeper, is_too_coarse, push_ascii, write_ascii,
+};

@@ -1,10 +1,11 @@
 //! A buffered writer for texts.
-ghost use Rattle.std.specs.Prelude.{◌≡◌, ◌+◌, ◌<◌, ◌≤◌, ◌++◌, [], ◌∷◌, decimal, IfOk, length, OnOk, take};
+ghost use Rattle.std.specs.Prelude.{◌≡◌, ◌+◌, ◌<◌, ◌≤◌, ◌++◌, [], ◌∷◌, List, decimal, IfOk, length, OnErr, OnOk};
+ghost use Rattle.std.specs.Prelude.{take, ℕ};
 ghost use Rattle.std.specs.Str.{IsAscii};
 ghost use Rattle.std.specs.String.{string_bytes};
 
 use itoa::write_digits;
-use std::alloc::{AllocError, Global};
+use std::alloc::AllocError;
 use std::marker::Model;
 use std::str::from_utf8_unchecked;
 
@@ -14,23 +15,50 @@ const BUFFER_SIZE: usize = 1024;
 /// The maximum length of a number and the byte before it.
 const MAX_NUMBER_LENGTH: usize = 21;
 
+/// A text that grows at its end: a string, or a list of bytes.
+pub trait GrowingText: Drop {
+    /// The bytes of the text.
+    ghost bytes: { Self → List ℕ };
+
+    /// Appends ASCII bytes. Fails if an allocation fails; the text is then unchanged.
+    fn push_ascii(&mut self, part: &[u8]) -> Result<(), AllocError>
+        requires { IsAscii part.now }
+        ensures pushed { OnOk result (bytes self.new ≡ bytes self.old ++ part.now) }
+        ensures unchanged { OnErr result (bytes self.new ≡ bytes self.old) };
+}
+
+impl GrowingText for String {
+    ghost bytes = { λ text. string_bytes text };
+
+    fn push_ascii(&mut self, part: &[u8]) -> Result<(), AllocError> {
+        self.push_str(unsafe { from_utf8_unchecked(part) })
+    }
+}
+
+impl GrowingText for Vec<u8> {
+    ghost bytes = { λ text. text.items };
+
+    fn push_ascii(&mut self, part: &[u8]) -> Result<(), AllocError> {
+        self.extend_from_slice(part)
+    }
+}
+
 /// A text under construction. Numbers are collected in a buffer and appended to the text when the buffer is full.
 #[derive(Drop)]
-pub struct TextWriter {
-    text: String,
+pub struct TextWriter<T: GrowingText> {
+    text: T,
     pending: [u8; BUFFER_SIZE],
     /// The number of bytes in the buffer.
     len: usize,
 }
 
-impl Model for TextWriter {
+impl<T: GrowingText> Model for TextWriter<T> {
     ghost use Rattle.std.specs.Prelude.{List, ℕ, ◌≡◌, ◌++◌, ◌≤◌, length, take};
     ghost use Rattle.std.specs.Str.{IsAscii};
-    ghost use Rattle.std.specs.String.{string_bytes};
 
     ghost Value = { List ℕ };
 
-    ghost view = { λ w. string_bytes w.text ++ take w.len w.pending };
+    ghost view = { λ w. T.bytes w.text ++ take w.len w.pending };
 
     ghost invariant = { λ w. (length w.pending ≡ 1024) × (w.len ≤ 1024) × IsAscii (take w.len w.pending) };
 }
@@ -59,57 +87,48 @@ fn write_number(buffer: &mut [u8; BUFFER_SIZE], at: usize, before: u8, number: u
     end
 }
 
-/// Appends ASCII bytes to a text. Fails if an allocation fails.
-fn push_ascii(text: &mut String, part: &[u8]) -> Result<(), AllocError>
-    requires { IsAscii part.now }
-    ensures { OnOk result (string_bytes text.new ≡ string_bytes text.old ++ part.now) }
-{
-    text.push_str(unsafe { from_utf8_unchecked(part) })?;
-    Ok(())
-}
-
 /// Flushes the buffer to the text if it has no capacity left for a number, and returns the number of bytes that remain
 /// in the buffer.
 #[inline(always)]
-fn flush_if_full(
-    text: &mut String,
+fn flush_if_full<T: GrowingText>(
+    text: &mut T,
     pending: &[u8; BUFFER_SIZE],
     len: usize,
 ) -> Result<usize, AllocError>
     requires within { len ≤ 1024 }
     requires ascii { IsAscii (take len pending.now) }
-    ensures same { IfOk result (λ left. string_bytes text.new ++ take left pending.now
-        ≡ string_bytes text.old ++ take len pending.now) }
+    ensures same { IfOk result (λ left. T.bytes text.new ++ take left pending.now
+        ≡ T.bytes text.old ++ take len pending.now) }
     ensures ascii { IfOk result (λ left. IsAscii (take left pending.now)) }
     ensures capacity { IfOk result (λ left. left + 21 ≤ 1024) }
 {
     if len + MAX_NUMBER_LENGTH <= BUFFER_SIZE {
         return Ok(len);
     }
-    push_ascii(text, &pending[..len])?;
+    text.push_ascii(&pending[..len])?;
     Ok(0)
 }
 
-impl TextWriter {
-    /// Creates an empty text with the given capacity in bytes. Fails if an allocation fails.
-    pub fn with_capacity(alloc: Global, capacity: usize) -> Result<Self, AllocError>
-        ensures { IfOk result (λ w. w ≡ []) }
+impl<T: GrowingText> TextWriter<T> {
+    /// Creates a writer that continues a text.
+    pub fn after(text: T) -> TextWriter<T>
+        ensures { result ≡ T.bytes text }
     {
-        Ok(TextWriter {
-            text: String::with_capacity(alloc, capacity)?,
+        TextWriter {
+            text,
             pending: [0; BUFFER_SIZE],
             len: 0,
-        })
+        }
     }
 
-    /// Appends a string. Fails if an allocation fails.
+    /// Appends an ASCII string. Fails if an allocation fails.
     pub fn push_str(&mut self, part: &str) -> Result<(), AllocError>
+        requires { IsAscii part.now }
         ensures { OnOk result (self.new ≡ self.old ++ part.now) }
     {
-        push_ascii(&mut self.text, &self.pending[..self.len])?;
+        self.text.push_ascii(&self.pending[..self.len])?;
         self.len = 0;
-        self.text.push_str(part)?;
-        Ok(())
+        self.text.push_ascii(part.as_bytes())
     }
 
     /// Appends a byte and a decimal number. Fails if an allocation fails.
@@ -124,15 +143,15 @@ impl TextWriter {
     }
 
     /// Returns the text. Fails if an allocation fails.
-    pub fn finish(self) -> Result<String, AllocError>
-        ensures { IfOk result (λ t. string_bytes t ≡ self) }
+    pub fn finish(self) -> Result<T, AllocError>
+        ensures { IfOk result (λ t. T.bytes t ≡ self) }
     {
         let TextWriter {
             mut text,
             pending,
             len,
         } = self;
-        push_ascii(&mut text, &pending[..len])?;
+        text.push_ascii(&pending[..len])?;
         Ok(text)
     }
 }

@@ -90,7 +90,7 @@ fn read_set(rt: &impl Abort, alloc: Global, base_pixels: u64) -> Coverage {
 
 #[test]
 fn batches(rt: HostRuntime) {
-    for (line, told) in [
+    for (line, expected_text) in [
         (
             "add 0/2 ; count 0/0-3",
             "changed 288230376151711744 ; total 864691128455135232\n",
@@ -101,7 +101,7 @@ fn batches(rt: HostRuntime) {
         ("near 0 10", "near no\n"),
         ("read 0/1-7", "cover 0/1\n"),
     ] {
-        has_text(&rt, &answer(&rt, rt.alloc(), line), told);
+        has_text(&rt, &answer(&rt, rt.alloc(), line), expected_text);
     }
     for (line, several) in [("invert", false), ("invert;invert", true)] {
         let commands = read_commands(rt.alloc(), line.as_bytes()).expect(&rt, "commands");

@@ -99,7 +99,7 @@ fn ends_of_orders(rt: HostRuntime) {
 #[test]
 fn invalid_fields(rt: HostRuntime) {
     let fields = b"1 2\nx 2\n2 x\nx\n-1\n+1\n1x\n1;2\n0x1\n1.0\n";
-    let told = b"\
+    let expected_text = b"\
 fault WrongCount
 fault WrongCount
 fault WrongCount
@@ -117,7 +117,7 @@ fault BadNumber
             rt.alloc(),
             numbers(from, "ring", 3).expect(&rt, "numberings"),
             fields,
-            told,
+            expected_text,
         );
     }
 }
@@ -219,7 +219,7 @@ fn expect_over_zeros(
 #[test]
 fn one_number(rt: HostRuntime) {
     let (nest, ring, uniq) = (Numbering::Nest, Numbering::Ring, Numbering::Uniq);
-    for (from, to, number, told) in [
+    for (from, to, number, expected_text) in [
         (nest, ring, 18, Ok(27)),
         (ring, nest, 27, Ok(18)),
         (uniq, ring, 34, Ok(27)),
@@ -229,7 +229,10 @@ fn one_number(rt: HostRuntime) {
         (uniq, nest, 15, Err(NumberError::OtherOrder)),
     ] {
         let order = Order::of(1);
-        assert_eq!(rt; Renumbering { from, to, order }.apply(number), told);
+        assert_eq!(rt;
+            Renumbering { from, to, order }.apply(number),
+            expected_text
+        );
     }
     let faults = [NumberError::WrongCount, NumberError::BadNumber];
     assert_eq!(rt; faults.map(NumberError::name), ["WrongCount", "BadNumber"]);

@@ -369,8 +369,8 @@ fn failing_writes(rt: HostRuntime) {
     expect_end(&rt, &ended, Err(RunError::Write), ANSWERS, 1);
 }
 
-// With enough memory every line is answered. If one allocation fails, exactly the lines before the reported one are
-// answered, and the last two lines are not.
+// With enough memory every line has its answer. If one allocation fails, exactly the lines before the reported one
+// have their answers, and the last two lines do not.
 #[test]
 fn failing_allocations(rt: HostRuntime) {
     let mut room = [0u8; 256];

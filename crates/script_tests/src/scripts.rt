@@ -574,8 +574,8 @@ fn lines_before(text: &[u8], number: u64) -> &[u8] {
     text
 }
 
-// With enough memory every line is answered. If one allocation fails (`rt try --test --fail-alloc N`, for each N),
-// exactly the lines before are answered.
+// With enough memory every line has its answer. If one allocation fails (`rt try --test --fail-alloc N`, for each N),
+// exactly the lines before it have their answers.
 #[test]
 fn failing_allocations(rt: HostRuntime) {
     let mut room = [0u8; 128];

@@ -76,7 +76,7 @@ fn lines_in(text: &[u8]) -> usize {
     text.iter().filter(|byte| **byte == b'\n').count()
 }
 
-/// Answers the lines of a client that may be read only after all replies.
+/// Processes the lines of a client that may be read only after all replies.
 fn answer_client(
     alloc: Global,
     map: &mut Map,

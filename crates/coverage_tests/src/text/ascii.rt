@@ -1,6 +1,6 @@
-use super::{Q0, Q1, Q2, every_second, repeated, says};
+use super::{Q0, Q1, Q2, assert_set, every_second, repeated};
 use moc_sphere::Order;
-use moc_text::{TextError, WriteError, is_separator, read_ascii, write_ascii};
+use moc_text::{TextError, WriteError, is_separator, push_ascii, read_ascii, write_ascii};
 use std::alloc::Global;
 use std::process::Abort;
 
@@ -12,8 +12,8 @@ fn is_read(
     ranges: &[(u64, u64)],
     deepest: Option<u8>,
 ) {
-    let said = read_ascii(alloc, text).expect(rt, "a set");
-    says(rt, alloc, &said, ranges, deepest);
+    let parsed_set = read_ascii(alloc, text).expect(rt, "a set");
+    assert_set(rt, alloc, &parsed_set, ranges, deepest);
 }
 
 /// Returns the error of a text, if it has one.
@@ -172,6 +172,47 @@ fn a_deepest_order_that_is_too_coarse(rt: HostRuntime) {
     let (set, _) = read_ascii(alloc, b"1/1 2 4\n2/12-14 21 23 25 \n8/").expect(&rt, "a set");
     let coarse = write_ascii(alloc, &set, Order::new(1));
     assert!(rt; matches!(coarse, Err(WriteError::TooCoarse)));
+}
+
+// The set is written after the text that is already there, also without capacity for it.
+#[test]
+fn a_set_is_appended_to_a_text(rt: HostRuntime) {
+    let alloc = rt.alloc();
+    let (set, _) = read_ascii(alloc, b"1/1 2 4\n2/12-14 21 23 25 \n8/").expect(&rt, "a set");
+    let mut text = b"cover ".to_vec(alloc).expect(&rt, "memory");
+    push_ascii(alloc, &set, &mut text).expect(&rt, "memory");
+    assert_eq!(rt;
+        text.as_slice(),
+        b"cover 1/1-2 4 2/12-14 21 23 25".as_slice()
+    );
+    let cells = every_second(&rt, alloc, "29/", 0, " ", "");
+    let (set, _) = read_ascii(alloc, cells.as_bytes()).expect(&rt, "a set");
+    let mut text = Vec::new(alloc);
+    push_ascii(alloc, &set, &mut text).expect(&rt, "memory");
+    assert_eq!(rt; text.as_slice(), cells.as_bytes());
+}
+
+// A text of one cell is parsed without a builder. These texts differ from one by a byte or a word.
+#[test]
+fn texts_of_one_cell(rt: HostRuntime) {
+    let alloc = rt.alloc();
+    for text in [
+        "1/2",
+        "s1/2",
+        " ,1/2\r\n",
+        "1/2 1/",
+        "1/ 2",
+        "1/2,2",
+        "1/2-2",
+        "01/002",
+    ] {
+        is_read(&rt, alloc, text.as_bytes(), &[(2 * Q1, 3 * Q1)], Some(1));
+    }
+    fails_at(&rt, alloc, "1/2;", TextError::BadByte { at: 3 }, 3);
+    fails_at(&rt, alloc, "1/48", TextError::CellTooLarge { at: 2 }, 2);
+    fails_at(&rt, alloc, "30/2", TextError::OrderTooLarge { at: 0 }, 0);
+    fails_at(&rt, alloc, "1/2-", TextError::Unfinished { at: 4 }, 4);
+    fails_at(&rt, alloc, "1/2 x", TextError::BadByte { at: 4 }, 4);
 }
 
 // No two of these cells touch, so each is an item, and the set has as many pixels.

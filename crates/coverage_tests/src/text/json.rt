@@ -1,4 +1,4 @@
-use super::{Q1, Q2, every_second, repeated, says};
+use super::{Q1, Q2, assert_set, every_second, repeated};
 use moc_sphere::Order;
 use moc_text::{
     JsonError, JsonPlace, WriteError, json_content_at, json_syntax_error, read_json, write_json,
@@ -14,8 +14,8 @@ fn is_read(
     ranges: &[(u64, u64)],
     deepest: Option<u8>,
 ) {
-    let said = read_json(alloc, text).expect(rt, "a set");
-    says(rt, alloc, &said, ranges, deepest);
+    let parsed_set = read_json(alloc, text).expect(rt, "a set");
+    assert_set(rt, alloc, &parsed_set, ranges, deepest);
 }
 
 /// Returns the error of a text, if it has one.

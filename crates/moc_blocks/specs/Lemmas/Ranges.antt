@@ -24,9 +24,9 @@ one_more : (from n q : ℕ) (b : Bool)
     ≡ (eq_by_cmp nat_cmp q from || ((nat_le (from + 1) q && nat_lt q (from + 1 + n)) || b))
 one_more from n q b = grind (arith, nat_tests)
 
-len_nothing : set.len (set_of []) ≡ 0
+len_of_empty : set.len (set_of []) ≡ 0
 unfolding set_of
-len_nothing = set.len-empty nat_cmp
+len_of_empty = set.len-empty nat_cmp
 
 -- adding n numbers that are not members makes a set larger by n
 pub len-more : (from n : ℕ) (a : NumberSet) → ((q : ℕ) → from ≤ q → q < from + n → set.contains a q ≡ false)
@@ -72,20 +72,20 @@ len-set_of_cons range ranges normal =
 -- the size of a normal list's set is the sum of the widths
 pub len-set_of : (ranges : List (ℕ × ℕ)) → IsNormal ranges
     → set.len (set_of ranges) ≡ sum_by (λ range. range.1 - range.0) ranges
-len-set_of [] normal = len_nothing
+len-set_of [] normal = len_of_empty
 len-set_of (range ∷ ranges) normal =
     len-set_of_cons range ranges normal
     ∙ ap (λ n. (range.1 - range.0) + n) (len-set_of ranges normal.3)
     ∙ sym (sum_by-cons (λ range. range.1 - range.0) range ranges)
 
-capacity : (low : ℕ) (ranges : List (ℕ × ℕ)) → low ≤ pixel_count → IsNormal ranges → BeginsAfter low ranges
+set_size_bounded : (low : ℕ) (ranges : List (ℕ × ℕ)) → low ≤ pixel_count → IsNormal ranges → BeginsAfter low ranges
     → low + set.len (set_of ranges) ≤ pixel_count
-capacity low [] le normal after = omega (arith, len_nothing)
-capacity low (range ∷ ranges) le normal after =
-    omega (arith, len-set_of_cons range ranges normal, capacity range.1 ranges normal.1 normal.3 normal.2)
+set_size_bounded low [] le normal after = omega (arith, len_of_empty)
+set_size_bounded low (range ∷ ranges) le normal after =
+    omega (arith, len-set_of_cons range ranges normal, set_size_bounded range.1 ranges normal.1 normal.3 normal.2)
 
 -- the size of a normal list's set is at most the number of pixels
 pub len_bounded : (ranges : List (ℕ × ℕ)) → IsNormal ranges → set.len (set_of ranges) ≤ pixel_count
-len_bounded [] normal = omega (arith, len_nothing)
+len_bounded [] normal = omega (arith, len_of_empty)
 len_bounded (range ∷ ranges) normal =
-    omega (arith, len-set_of_cons range ranges normal, capacity range.1 ranges normal.1 normal.3 normal.2)
+    omega (arith, len-set_of_cons range ranges normal, set_size_bounded range.1 ranges normal.1 normal.3 normal.2)

@@ -15,14 +15,14 @@ insert_step true s pq false same = same refl ∙ sym (ap (λ b. s && b) (same re
 insert_step false s pq true same = refl
 insert_step false s pq false same = refl
 
-apart : (q k : ℕ) → (q ≡ k → ⊥) → eq_by_cmp nat_cmp q k ≡ false
-apart q k not = grind (arith, nat_tests)
+different_numbers_unequal : (q k : ℕ) → (q ≡ k → ⊥) → eq_by_cmp nat_cmp q k ≡ false
+different_numbers_unequal q k not = grind (arith, nat_tests)
 
 same_number : (q k : ℕ) → eq_by_cmp nat_cmp q k ≡ true → q ≡ k
 same_number q k e =
     elim (cases_eq q k) [
       | inl is ↦ is
-      | inr not ↦ absurd (let no : eq_by_cmp nat_cmp q k ≡ false = apart q k not in cc)
+      | inr not ↦ absurd (let no : eq_by_cmp nat_cmp q k ≡ false = different_numbers_unequal q k not in cc)
     ]
 
 tie_same : (p : ℕ → Bool) (q k : ℕ) → eq_by_cmp nat_cmp q k ≡ true → p q ≡ p k

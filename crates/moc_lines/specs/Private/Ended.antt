@@ -1,4 +1,4 @@
--- The state after the last line is answered or an error occurs, before the pending answers are written.
+-- The state after the last line is processed or an error occurs, before the pending answers are written.
 use Rattle.std.specs.Prelude.{◌≡◌, ℕ, ◌⊎◌, List, [], ◌++◌, Result, Ok, Err}
 use Rattle.moc_devices.specs.Devices.{SourceState, Delivers, IsEnded, SinkState, Accepts}
 use Rattle.moc_text.specs.Lines.{lines_of}
@@ -8,7 +8,7 @@ use Rattle.moc_lines.specs.declared.run_error.RunError.{RunError}
 use Rattle.moc_lines.specs.declared.run_error.RunError.TheVariants.{Read, Write, LineTooLong, Memory, Spawn}
 
 module _ {S : Type 0} (limit : ℕ) (rules : Rules S) (s : S) where
-  -- the lines that were answered before a run ended with this result, given the bytes that were read; unspecified after
+  -- the lines that have answers when a run ends with this result, given the bytes that were read; unspecified after
   -- a failed write
   abbrev pub EndsAt : List (List ℕ) → List ℕ → SourceState → Result (Unit {0}) RunError → Type 0
   EndsAt lines given source (Ok _) = IsEnded source × (lines ≡ lines_of given)
@@ -22,7 +22,7 @@ module _ {S : Type 0} (limit : ℕ) (rules : Rules S) (s : S) where
       × (lines ≡ lines_before number given)
   EndsAt lines given source (Err Spawn) = ⊥
 
--- the output of a run that ends so: the answers to the lines, then the closing text if all lines are answered
+-- the output of a run that ends so: the answers to the lines, then the closing text if all lines have answers
 abbrev pub text_at : {S : Type 0} → Rules S → S → List (List ℕ) → Result (Unit {0}) RunError → List ℕ
 text_at rules s lines (Ok _) = answers_to rules s lines ++ closing_after rules s lines
 text_at rules s lines (Err _) = answers_to rules s lines
@@ -33,7 +33,7 @@ IsSent text sent pending (Err Write) = (rest : List ℕ) × (text ≡ sent ++ re
 IsSent text sent pending _ = text ≡ sent ++ pending
 
 module _ {S : Type 0} (limit : ℕ) (rules : Rules S) (s : S) where
-  -- the state after the last line is answered or an error occurs
+  -- the state after the last line is processed or an error occurs
   pub record Ended (source source' : SourceState) (sink sink' : SinkState) (pending : List ℕ)
       (result : Result (Unit {0}) RunError) : Type 0 where
     pub lines : List (List ℕ)

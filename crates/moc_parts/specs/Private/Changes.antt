@@ -7,6 +7,8 @@ use Rattle.moc_ranges.specs.Cells.{degrade}
 use Rattle.moc_parts.specs.declared.change.PartUpdate.{PartUpdate}
 use Rattle.moc_parts.specs.declared.change.Change.{Change}
 use Rattle.moc_parts.specs.declared.change.Change.TheVariants.{Union, Subtract, Intersect, Invert, Degrade}
+use Rattle.moc_sphere.specs.CellNumber.{max_order}
+use Rattle.moc_parts.specs.Parts.{part_count}
 
 -- the set after a change
 abbrev pub set_after_change : Change → NumberSet → NumberSet
@@ -30,12 +32,12 @@ IsChange (Union s) = IsWithin s.now pixels
 IsChange (Subtract s) = IsWithin s.now pixels
 IsChange (Intersect s) = IsWithin s.now pixels
 IsChange Invert = Unit {0}
-IsChange (Degrade order) = order ≤ 29
+IsChange (Degrade order) = order ≤ max_order
 
 -- a change leaves every part outside these parts unchanged
 abbrev pub LeavesOthers : Change → NumberSet → Type 0
 LeavesOthers change parts =
-    (b : ℕ) → b < 12 → set.contains parts b ≡ false
+    (b : ℕ) → b < part_count → set.contains parts b ≡ false
     → (part : NumberSet) → part_of part b ≡ part → changed_part change part b ≡ part
 
 -- the new list and the number of pixels that were added or removed; none if the list is unchanged

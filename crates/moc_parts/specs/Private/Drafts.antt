@@ -8,7 +8,7 @@ use Rattle.std.specs.Borrow.{Bor}
 use Rattle.std.specs.Option.{unwrap_or}
 use Rattle.moc_lists.specs.RangeList.{NumberSet}
 use Rattle.moc_ranges.specs.Operations.{base_pixel_size}
-use Rattle.moc_parts.specs.Parts.{parts_below, union_of}
+use Rattle.moc_parts.specs.Parts.{parts_below, union_of, part_count}
 
 -- the sets of borrowed lists
 abbrev pub sets_of : List (Bor NumberSet) → List NumberSet
@@ -16,7 +16,7 @@ sets_of lists = map (λ list. list.now) lists
 
 -- the sets are the twelve parts of their union
 abbrev pub AreParts : List NumberSet → Type 0
-AreParts sets = sets ≡ parts_below (union_of sets) 12
+AreParts sets = sets ≡ parts_below (union_of sets) part_count
 
 -- the current list of each part: the replacement if there is one, otherwise the original
 abbrev pub current_lists : List NumberSet → List (Option NumberSet) → List NumberSet
@@ -46,7 +46,7 @@ list_of_part (entry ∷ lists) b = if nat_eq entry.0 b then entry.1 else list_of
 
 -- the optional lists of all twelve parts
 unfoldable pub twelve_lists : List (ℕ × Option NumberSet) → List (Option NumberSet)
-twelve_lists lists = map (list_of_part lists) (range_with_len 0 12)
+twelve_lists lists = map (list_of_part lists) (range_with_len 0 part_count)
 
 -- the index of the first entry for part b, counted from n
 abbrev pub index_of_part_from : ℕ → List (ℕ × Option NumberSet) → ℕ → Option ℕ

@@ -10,6 +10,7 @@ ghost use Rattle.moc_parts.specs.Parts.{union_of};
 ghost use Rattle.moc_parts.specs.Prepared.{given_sets};
 ghost use Rattle.moc_parts.specs.Private.Drafts.{AreParts};
 ghost use Rattle.moc_parts.specs.declared.reply.Reply.TheVariants as reply;
+ghost use Rattle.moc_sphere.specs.CellNumber.{max_order};
 
 use crate::change::Change;
 use crate::command::{Command, Operand};
@@ -94,7 +95,7 @@ impl<'a> Draft<'a> {
 
     /// Degrades the set to an order.
     fn degrade(&mut self, alloc: Global, order: Order) -> Result<Reply, Memory>
-        requires { order ≤ 29 }
+        requires { order ≤ max_order }
         ensures set { OnOk result (self.new.set ≡ degrade self.old.set order) }
         ensures reply { IfOk result (λ r.
             r ≡ reply.Changed (set.len (set.difference (degrade self.old.set order) self.old.set))) }

@@ -162,16 +162,16 @@ div_one q = ap (λ w. q / w) one_pixel ∙ omega arith
 
 -- a number is its own cell of order 29
 pixel_inside : (a : NumberSet) (q : ℕ) → set.contains a q ≡ true → set.is_subset (span 29 (q / cell_size 29)) a ≡ true
-pixel_inside a q has = set.contains-is_subset nat_cmp_total (span 29 (q / cell_size 29)) a (λ p in_it.
-    let both = and_parts _ _ (sym (contains-span 29 (q / cell_size 29) p) ∙ in_it) in
+pixel_inside a q has = set.contains-is_subset nat_cmp_total (span 29 (q / cell_size 29)) a (λ p in_span_of_cells.
+    let both = and_parts _ _ (sym (contains-span 29 (q / cell_size 29) p) ∙ in_span_of_cells) in
     let same : p ≡ q = sym (div_one p) ∙ eqb-true _ _ both.1 ∙ div_one q in
     ap (set.contains a) same ∙ has)
 
-kept_range : (p : CellNumber → Bool) (k i from n q : ℕ) → from ≤ i → i < from + n → p (cell_number k i) ≡ true
+true_in_range : (p : CellNumber → Bool) (k i from n q : ℕ) → from ≤ i → i < from + n → p (cell_number k i) ≡ true
     → in_range (cell_range (cell_number k i)) q ≡ true
     → in_ranges (map cell_range (filter p (map (cell_number k) (range_with_len from n)))) q ≡ true
-kept_range p k i from zero q low high is has = absurd (omega arith)
-kept_range p k i from (suc n) q low high is has =
+true_in_range p k i from zero q low high is has = absurd (omega arith)
+true_in_range p k i from (suc n) q low high is has =
     let rest = filter p (map (cell_number k) (range_with_len (from + 1) n)) in
     elim (cases_eq from i) [
       | inl same ↦
@@ -181,7 +181,7 @@ kept_range p k i from (suc n) q low high is has =
           ap (λ (b : Bool). in_ranges (map cell_range (cond b (cell_number k from ∷ rest) rest)) q) kept
           ∙ or_left _ _ here
       | inr other ↦
-          let later = kept_range p k i (from + 1) n q (omega arith) (omega arith) is has in
+          let later = true_in_range p k i (from + 1) n q (omega arith) (omega arith) is has in
           elim (p (cell_number k from)) as (λ b.
           in_ranges (map cell_range (cond b (cell_number k from ∷ rest) rest)) q ≡ true) [
             | true ↦ or_right _ _ later
@@ -189,12 +189,12 @@ kept_range p k i from (suc n) q low high is has =
           ]
     ]
 
-kept_below : (p : CellNumber → Bool) (k i orders q : ℕ) → k < orders → i < cell_count k → p (cell_number k i) ≡ true
+true_below : (p : CellNumber → Bool) (k i orders q : ℕ) → k < orders → i < cell_count k → p (cell_number k i) ≡ true
     → in_range (cell_range (cell_number k i)) q ≡ true
     → in_ranges (map cell_range (filter p (cells_below orders))) q ≡ true
 unfolding cells_below
-kept_below p k i zero q lt fits is has = absurd (omega arith)
-kept_below p k i (suc orders) q lt fits is has =
+true_below p k i zero q lt fits is has = absurd (omega arith)
+true_below p k i (suc orders) q lt fits is has =
     let here = map (cell_number orders) (range_with_len 0 (cell_count orders)) in
     ap (λ cells. in_ranges (map cell_range cells) q) (filter-append p (cells_below orders) here)
     ∙ ap (λ rs. in_ranges rs q) (map-append cell_range (filter p (cells_below orders)) (filter p here))
@@ -203,8 +203,8 @@ kept_below p k i (suc orders) q lt fits is has =
       | inl same ↦
           or_right _ _ (subst (λ (o : ℕ).
           in_ranges (map cell_range (filter p (map (cell_number o) (range_with_len 0 (cell_count o))))) q ≡ true)
-          same (kept_range p k i 0 (cell_count k) q (omega arith) (omega arith) is has))
-      | inr other ↦ or_left _ _ (kept_below p k i orders q (omega arith) fits is has)
+          same (true_in_range p k i 0 (cell_count k) q (omega arith) (omega arith) is has))
+      | inr other ↦ or_left _ _ (true_below p k i orders q (omega arith) fits is has)
     ]
 
 index_fits : (k q : ℕ) → k ≤ 29 → q < pixel_count → q / cell_size k < cell_count k
@@ -216,7 +216,7 @@ has_cell : (a : NumberSet) (q : ℕ) → q < pixel_count → set.contains a q �
 unfolding cells_of
 has_cell a q lt has =
     let c = largest_cell a q 29 (omega arith) (pixel_inside a q has) in
-    kept_below (is_cell_of a) c.order (q / cell_size c.order) 30 q (omega (arith, c.order_in_range))
+    true_below (is_cell_of a) c.order (q / cell_size c.order) 30 q (omega (arith, c.order_in_range))
     (index_fits c.order q c.order_in_range lt) c.is
     (in_cell_range (q / cell_size c.order) (cell_size c.order) q (cell_size-positive c.order) refl)
 

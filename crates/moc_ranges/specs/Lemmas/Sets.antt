@@ -14,8 +14,8 @@ double_not false true say = say refl
 double_not false false say = refl
 
 -- the complement of the complement of a set of pixels is the set
-pub complement_twice : (a : NumberSet) → IsWithin a pixels → complement (complement a) ≡ a
-complement_twice a within = same_members _ _ (λ q.
+pub complement_involutive : (a : NumberSet) → IsWithin a pixels → complement (complement a) ≡ a
+complement_involutive a within = same_members _ _ (λ q.
     contains-complement (complement a) q
     ∙ ap (λ b. nat_lt q pixel_count && not b) (contains-complement a q)
     ∙ double_not (nat_lt q pixel_count) (set.contains a q) (λ has. sym (contains-pixels q) ∙ within.each q has))

@@ -2,7 +2,7 @@
 use Rattle.std.specs.Prelude.{◌≡◌, ℕ, ◌+◌, ◌-◌, ◌*◌, ◌/◌, ◌<◌, ◌≤◌, ◌↔◌, true, ◌&&◌, if◌then◌else◌, nat_lt, List, []}
 use Rattle.std.specs.Prelude.{◌∷◌, ◌++◌, drop, map, take}
 use Rattle.std.specs.List.{filter, range_with_len}
-use Rattle.moc_sphere.specs.CellNumber.{CellNumber, cell_number, cell_count, cell_size}
+use Rattle.moc_sphere.specs.CellNumber.{CellNumber, cell_number, cell_count, cell_size, max_order, order_count}
 use Rattle.moc_blocks.specs.RangeList.{NumberSet}
 use Rattle.moc_ranges.specs.Cells.{is_cell_of}
 use Rattle.moc_operations.specs.Private.Meeting.{list_if}
@@ -18,9 +18,10 @@ pub record AreInnerCells (k from to first last : ℕ) : Type 0 where
 
 -- the cells of a set have orders from `first` up to, but not including, `last`
 pub record HasOrders (a : NumberSet) (first last : ℕ) : Type 0 where
-  pub each : (k i : ℕ) → k ≤ 29 → i < cell_count k → is_cell_of a (cell_number k i) ≡ true → (first ≤ k) × (k < last)
-  pub first_in_range : first ≤ 30
-  pub last_in_range : last ≤ 30
+  pub each : (k i : ℕ) → k ≤ max_order → i < cell_count k → is_cell_of a (cell_number k i) ≡ true
+      → (first ≤ k) × (k < last)
+  pub first_in_range : first ≤ order_count
+  pub last_in_range : last ≤ order_count
 
 -- the cells of order k that are inside a range, as a half-open range of indices
 abbrev pub inner_cells_of : ℕ → ℕ × ℕ → ℕ × ℕ

@@ -2,6 +2,7 @@
 ghost use Rattle.std.specs.Prelude.{◌≡◌, ℕ, true, ◌<◌, ◌≤◌, nat_lt, IfOk, IfSome, MatchOption};
 ghost use Rattle.std.specs.FinSet as set;
 ghost use Rattle.moc_ranges.specs.Operations.{part_of, IsWithin, pixels};
+ghost use Rattle.moc_sphere.specs.CellNumber.{base_pixel_count};
 
 use crate::coverage::Coverage;
 use crate::errors::Memory;
@@ -63,7 +64,7 @@ impl Coverage {
     /// allocate.
     pub fn next_base_pixel(&self, from: u8) -> Option<u8>
         ensures found { IfSome result (λ b.
-            (from ≤ b) × (b < 12) × (nat_lt 0 (set.len (part_of self.now b)) ≡ true)) }
+            (from ≤ b) × (b < base_pixel_count) × (nat_lt 0 (set.len (part_of self.now b)) ≡ true)) }
         ensures first { (b : ℕ) → from ≤ b → nat_lt 0 (set.len (part_of self.now b)) ≡ true
             → MatchOption result ⊥ (λ c. c ≤ b) }
     {

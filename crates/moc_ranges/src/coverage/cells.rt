@@ -6,6 +6,7 @@ ghost use Rattle.moc_blocks.specs.RangeList.{IsNormal};
 ghost use Rattle.moc_ranges.specs.Operations.{meets, IsWithin, pixels};
 ghost use Rattle.moc_ranges.specs.CellCounts.{counts_by_order, uniq_end};
 ghost use Rattle.moc_ranges.specs.Cells.{HaveOrders, cells_in, cells_of, degrade, span};
+ghost use Rattle.moc_sphere.specs.CellNumber.{order_count};
 
 use crate::cell_counts::{ORDER_COUNT, add_cells};
 use crate::cell_ranges::CellRanges;
@@ -107,7 +108,7 @@ impl Coverage {
     /// order. One pass, O(n); does not allocate.
     pub fn cell_orders(&self) -> (u8, u8)
         ensures each { HaveOrders result.0 result.1 (cells_of self.now) }
-        ensures in_range { result.1 ≤ 30 }
+        ensures in_range { result.1 ≤ order_count }
         ensures within { IsWithin self.now pixels }
     {
         orders_with_cells(self.ranges())

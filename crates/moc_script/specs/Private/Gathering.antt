@@ -26,7 +26,7 @@ IsFirstFailure ends (Some first) =
     Contains ends (Err first) × ((e : LaneFailure) → Contains ends (Err e) → Precedes first e)
 
 -- The error of lanes with these results names the least line at which an allocation of a lane failed; if none did, the
--- least at which one stopped; or, if all lanes have answered their lines, the line after the last.
+-- least at which one stopped; or, if all lanes have processed their lines, the line after the last.
 abbrev pub NamesFirst : List ℕ → List (Result LaneOutput LaneFailure) → RunError → Type 0
 NamesFirst input ends (Memory line) =
     ((first : LaneFailure) × IsFirstFailure ends (Some first) × (line ≡ failure_line first))
@@ -39,7 +39,7 @@ IsLanesError input (Memory line) = IsFailedLine line (lines_of input)
 IsLanesError input Spawn = Unit {0}
 IsLanesError input _ = ⊥
 
--- each of the lanes has answered its lines of a script
+-- each of the lanes has processed its lines of a script
 abbrev pub AreLaneOutputs : SharedMap → ℕ → List ℕ → List LaneOutput → Type 0
 AreLaneOutputs map lanes input done =
     (length done ≡ lanes)

@@ -53,7 +53,7 @@ EndsMerging input all following sink sink' (Err (Memory line)) =
     AcceptsNone sink sink' × (line ≡ length (lines_of input) + 1)
 EndsMerging input all following sink sink' (Err _) = ⊥
 
--- these answers of the lanes, in turn and with the text after them, may answer the lines
+-- these answers of the lanes, in turn and with the text after them, are a text that may be written for the lines
 pub record AreCrewAnswers (lanes : ℕ) (nonblank : List (List ℕ)) (answers : List (List (List ℕ)))
     (following : List ℕ) : Type 0 where
   pub wide : length answers ≡ lanes

@@ -44,7 +44,7 @@ Precedes (OutOfMemory line) (Stopped other) = Unit {0}
 Precedes (Stopped line) (OutOfMemory other) = ⊥
 Precedes (Stopped line) (Stopped other) = line ≤ other
 
--- The lane with this number has answered its lines of a script, by calls of its client, and has their answers; or an
+-- The lane with this number has processed its lines of a script, by calls of its client, and has their answers; or an
 -- allocation failed, or the lane stopped, at a line that is not blank.
 abbrev pub IsLaneEnd : SharedMap → ℕ → List ℕ → ℕ → Result LaneOutput LaneFailure → Type 0
 IsLaneEnd map lanes input lane (Ok end) =
@@ -53,7 +53,7 @@ IsLaneEnd map lanes input lane (Ok end) =
     × Performs object script_rules (lane_lines lanes input lane) made end.answers)
 IsLaneEnd map lanes input lane (Err e) = IsNonblankLine (failure_line e) (lines_of input)
 
--- each of the lanes has answered its lines of a script, or failed or stopped at one
+-- each of the lanes has processed its lines of a script, or failed or stopped at one
 abbrev pub AreLaneEnds : SharedMap → ℕ → List ℕ → List (Result LaneOutput LaneFailure) → Type 0
 AreLaneEnds map lanes input ends =
     (length ends ≡ lanes)

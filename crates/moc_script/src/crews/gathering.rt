@@ -100,9 +100,7 @@ pub(crate) fn take_in_all(
             answers: texts,
         } = end;
         all = Some(both(job.map, all, client));
-        let Ok(()) = answers.push(texts) else {
-            return Err(Memory);
-        };
+        answers.push(texts)?;
     }
     match all {
         Some(client) => Ok((client, answers)),

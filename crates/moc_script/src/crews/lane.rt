@@ -30,10 +30,10 @@ pub(crate) struct LaneOutput {
     pub(crate) answers: Texts,
 }
 
-/// Why a lane has not answered all of its lines.
+/// Why a lane has not processed all of its lines.
 #[derive(Clone, Copy)]
 pub(crate) enum LaneFailure {
-    /// An allocation failed while this line was answered.
+    /// An allocation failed while this line was processed.
     OutOfMemory { line: u64 },
     /// The lane stopped before this line, because another lane failed.
     Stopped { line: u64 },
@@ -98,7 +98,7 @@ fn fail_lane(stop: &AtomicBool, line: u64) -> LaneFailure
     LaneFailure::OutOfMemory { line }
 }
 
-/// Answers the lines of the client's lane in order. Before each line the lane checks whether it has to stop.
+/// Processes the lines of the client's lane in order. Before each line the lane checks whether it has to stop.
 pub(crate) fn answer_lines<R: Wait, G: Gate>(
     rt: &R,
     alloc: Global,

@@ -33,7 +33,7 @@ impl<'a> AnswerMerger<'a> {
         })
     }
 
-    /// Writes one answer of each lane in turn, until the next lane has none, and then the text after them.
+    /// Writes one answer of each lane in turn, until no answer of the next lane is left, and then the text after them.
     fn write<W: Sink>(mut self, following: &[u8], writer: &mut W) -> Result<(), DeviceFault>
         requires some { 0 < length self.walks.items }
         requires none { self.pending.items ≡ [] }
@@ -46,7 +46,7 @@ impl<'a> AnswerMerger<'a> {
         write_all(&self.pending, writer)
     }
 
-    /// Writes one answer of each lane in turn, until the next lane has none. A rest may stay pending.
+    /// Writes one answer of each lane in turn, until no answer of the next lane is left. A rest may stay pending.
     fn write_turns<W: Sink>(&mut self, writer: &mut W) -> Result<(), DeviceFault>
         requires some { 0 < length self.old.walks.items }
         requires none { self.old.pending.items ≡ [] }

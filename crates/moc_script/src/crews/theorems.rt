@@ -1,4 +1,4 @@
-//! A theorem on every text with which a crew may answer.
+//! A theorem on every text that a crew may write.
 ghost use Rattle.moc_script.specs.Crews.{CrewsAnswerEachLine};
 
 /// States that a crew's text has one answer for each line that is not blank, in whatever order the lines were applied.

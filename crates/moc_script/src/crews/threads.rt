@@ -63,7 +63,7 @@ fn start<'s, E, R: Wait + Sync, G: Gate + Sync>(
     Ok(handles)
 }
 
-/// Answers the lines of a single lane on this thread.
+/// Processes the lines of a single lane on this thread.
 fn run_single_lane<R: Wait, G: Gate>(
     rt: &R,
     alloc: Global,

@@ -10,9 +10,9 @@ use Rattle.moc_shared.specs.Seats.{table_index, note}
 use Rattle.moc_shared.specs.Private.Invariant.{records}
 
 -- the list without its first element
-abbrev pub tail : {A : Type 0} → List A → List A
-tail [] = []
-tail (x ∷ xs) = xs
+abbrev pub rest_of_list : {A : Type 0} → List A → List A
+rest_of_list [] = []
+rest_of_list (x ∷ xs) = xs
 
 module _ {O R : Type 0} where
   -- the record with a mark of its client on part b
@@ -103,7 +103,7 @@ module _ {X O R Y : Type 0} where
 module _ {S X O R Y : Type 0} where
   -- the slot that was taken last is filled again
   abbrev pub GivesPart : Step S → Me S (View X O R Y) → ℕ → Me S (View X O R Y) → Type 0
-  GivesPart st m previous m' = m' ≡ (with_holds m.0 (tail m.0.holds), rest m.1)
+  GivesPart st m previous m' = m' ≡ (with_holds m.0 (rest_of_list m.0.holds), rest m.1)
 
   -- The slot that was taken last is filled again. The call e is at the end of a legal history of the map's clients that
   -- extends what was seen. The notes are those of the parts that are still held.

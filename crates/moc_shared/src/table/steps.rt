@@ -9,7 +9,7 @@ ghost use Rattle.moc_shared.specs.Private.Seats.{IsCarried, content, shared, IsI
 ghost use Rattle.moc_shared.specs.Private.Seats.{PartNote, notes_below};
 ghost use Rattle.moc_shared.specs.Private.Seats as seats;
 ghost use Rattle.moc_shared.specs.Private.OperationEffects.{HasEffect};
-ghost use Rattle.moc_shared.specs.Private.StepEffects.{TakesOrMisses, with_part, with_miss, with_holds, tail};
+ghost use Rattle.moc_shared.specs.Private.StepEffects.{TakesOrMisses, with_part, with_miss, with_holds, rest_of_list};
 ghost use Rattle.moc_shared.specs.Private.Slots.{BatchTakesEffect, replies_to};
 ghost use Rattle.moc_shared.specs.Batches.{batch_answer};
 
@@ -73,7 +73,7 @@ pub(crate) fn give_part(table: &LockTable, seat: &mut SeatToken, part: Part, new
         × ((y : Option NumberSet) → ¬ Contains notes (note part y)) }
     ensures same { (seat.new.table_id ≡ seat.old.table_id) × (seat.new.id ≡ seat.old.id) }
     ensures carried { IsCarried seat.new.me }
-    ensures given_back { seat.new.me.0 ≡ with_holds seat.old.me.0 (tail seat.old.me.0.holds) }
+    ensures given_back { seat.new.me.0 ≡ with_holds seat.old.me.0 (rest_of_list seat.old.me.0.holds) }
 {
     let index = index(part);
     drop(table.exchange(seat, index, Some(new)));

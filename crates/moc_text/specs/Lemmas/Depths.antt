@@ -69,8 +69,8 @@ coarser_than : (j k p q : ℕ) → k ≤ j → p / cell_size j ≡ q / cell_size
 coarser_than j k p q le same = coarser (j - k) j k p q (omega arith) same
 
 -- a union of cells is a union of deeper cells
-pub deeper_made : (j k : ℕ) (a : NumberSet) → j ≤ k → IsUnionOfCells j a → IsUnionOfCells k a
-deeper_made j k a le made = record {
+pub union_of_deeper : (j k : ℕ) (a : NumberSet) → j ≤ k → IsUnionOfCells j a → IsUnionOfCells k a
+union_of_deeper j k a le made = record {
   each = λ p q p_in q_in same. made.each p q p_in q_in (coarser_than k j p q le same);
 }
 
@@ -95,8 +95,8 @@ shallow a k c made is of_a = elim (cases_lt k c.order) [
       sym (parent_of_pixel (c.order - 1) q (omega (arith, is.order_in_range)))
       ∙ ap (λ n. q / cell_size n / 4) order ∙ ap (λ n. n / 4) (eqb-true _ _ at.1) in
       let parent : set.is_subset (span (c.order - 1) (c.index / 4)) a ≡ true =
-      set.contains-is_subset nat_cmp_total (span (c.order - 1) (c.index / 4)) a (λ p in_it.
-      let there = and_parts _ _ (sym (contains-span (c.order - 1) (c.index / 4) p) ∙ in_it) in
+      set.contains-is_subset nat_cmp_total (span (c.order - 1) (c.index / 4)) a (λ p in_span_of_cells.
+      let there = and_parts _ _ (sym (contains-span (c.order - 1) (c.index / 4) p) ∙ in_span_of_cells) in
       let same : p / cell_size (c.order - 1) ≡ q / cell_size (c.order - 1) = eqb-true _ _ there.1 ∙ sym up in
       made.each p q (ltb-true _ _ there.0) q_in (coarser_than (c.order - 1) k p q (omega arith) same) ∙ has) in
       absurd (refuted c.order _ (omega arith) parent both.1)
@@ -152,55 +152,55 @@ not_too_coarse a (Some k) has coarse =
 both_ways : (p q : ℕ) → p < pixel_count → q < pixel_count → nat_lt p pixel_count ≡ nat_lt q pixel_count
 both_ways p q p_in q_in = lt-ltb p pixel_count p_in ∙ sym (lt-ltb q pixel_count q_in)
 
-empty_made : (k : ℕ) → IsUnionOfCells k set.empty
-empty_made k = record {
+empty_is_union : (k : ℕ) → IsUnionOfCells k set.empty
+empty_is_union k = record {
   each = λ p q p_in q_in same. set.contains-empty nat_cmp p ∙ sym (set.contains-empty nat_cmp q);
 }
 
-union_made : (k : ℕ) (a b : NumberSet) → IsUnionOfCells k a → IsUnionOfCells k b → IsUnionOfCells k (set.union a b)
-union_made k a b of_a of_b = record {
+union_of_two : (k : ℕ) (a b : NumberSet) → IsUnionOfCells k a → IsUnionOfCells k b → IsUnionOfCells k (set.union a b)
+union_of_two k a b of_a of_b = record {
   each = λ p q p_in q_in same.
       set.contains-union nat_cmp_total a b p
       ∙ ap₂ (λ x y. x || y) (of_a.each p q p_in q_in same) (of_b.each p q p_in q_in same)
       ∙ sym (set.contains-union nat_cmp_total a b q);
 }
 
-intersection_made : (k : ℕ) (a b : NumberSet) → IsUnionOfCells k a → IsUnionOfCells k b
+intersection_is_union : (k : ℕ) (a b : NumberSet) → IsUnionOfCells k a → IsUnionOfCells k b
     → IsUnionOfCells k (set.intersection a b)
-intersection_made k a b of_a of_b = record {
+intersection_is_union k a b of_a of_b = record {
   each = λ p q p_in q_in same.
       set.contains-intersection nat_cmp_total a b p
       ∙ ap₂ (λ x y. x && y) (of_a.each p q p_in q_in same) (of_b.each p q p_in q_in same)
       ∙ sym (set.contains-intersection nat_cmp_total a b q);
 }
 
-difference_made : (k : ℕ) (a b : NumberSet) → IsUnionOfCells k a → IsUnionOfCells k b
+difference_is_union : (k : ℕ) (a b : NumberSet) → IsUnionOfCells k a → IsUnionOfCells k b
     → IsUnionOfCells k (set.difference a b)
-difference_made k a b of_a of_b = record {
+difference_is_union k a b of_a of_b = record {
   each = λ p q p_in q_in same.
       set.contains-difference nat_cmp_total a b p
       ∙ ap₂ (λ x y. x && not y) (of_a.each p q p_in q_in same) (of_b.each p q p_in q_in same)
       ∙ sym (set.contains-difference nat_cmp_total a b q);
 }
 
-symmetric_made : (k : ℕ) (a b : NumberSet) → IsUnionOfCells k a → IsUnionOfCells k b → IsUnionOfCells k (symmetric a b)
-symmetric_made k a b of_a of_b = record {
+symmetric_union : (k : ℕ) (a b : NumberSet) → IsUnionOfCells k a → IsUnionOfCells k b → IsUnionOfCells k (symmetric a b)
+symmetric_union k a b of_a of_b = record {
   each = λ p q p_in q_in same.
       contains-symmetric a b p
       ∙ ap₂ (λ x y. (x && not y) || (y && not x)) (of_a.each p q p_in q_in same) (of_b.each p q p_in q_in same)
       ∙ sym (contains-symmetric a b q);
 }
 
-complement_made : (k : ℕ) (a : NumberSet) → IsUnionOfCells k a → IsUnionOfCells k (complement a)
-complement_made k a of_a = record {
+complement_is_union : (k : ℕ) (a : NumberSet) → IsUnionOfCells k a → IsUnionOfCells k (complement a)
+complement_is_union k a of_a = record {
   each = λ p q p_in q_in same.
       contains-complement a p
       ∙ ap₂ (λ x y. x && not y) (both_ways p q p_in q_in) (of_a.each p q p_in q_in same)
       ∙ sym (contains-complement a q);
 }
 
-degrade_made : (k : ℕ) (a : NumberSet) → IsUnionOfCells k (degrade a k)
-degrade_made k a = record {
+degrade_is_union : (k : ℕ) (a : NumberSet) → IsUnionOfCells k (degrade a k)
+degrade_is_union k a = record {
   each = λ p q p_in q_in same.
       contains-degrade a k p
       ∙ ap₂ (λ x i. x && meets a (span k i)) (both_ways p q p_in q_in) same
@@ -216,9 +216,9 @@ and_false false = refl
 none_beside : (o : ℕ) (a : NumberSet) (p : ℕ) → IsUnionOfCells o a → p < pixel_count → set.contains a p ≡ false
     → (q : ℕ) → (set.contains a q && set.contains (span o (p / cell_size o)) q) ≡ false
 none_beside o a p made p_in out q = elim (cases_Bool (set.contains (span o (p / cell_size o)) q)) [
-  | inl in_it ↦
-      let at = and_parts _ _ (sym (contains-span o (p / cell_size o) q) ∙ in_it) in
-      ap₂ (λ x y. x && y) (made.each q p (ltb-true _ _ at.0) p_in (eqb-true _ _ at.1) ∙ out) in_it
+  | inl in_span_of_cells ↦
+      let at = and_parts _ _ (sym (contains-span o (p / cell_size o) q) ∙ in_span_of_cells) in
+      ap₂ (λ x y. x && y) (made.each q p (ltb-true _ _ at.0) p_in (eqb-true _ _ at.1) ∙ out) in_span_of_cells
   | inr other ↦ ap (λ y. set.contains a q && y) other ∙ and_false (set.contains a q)
 ]
 
@@ -237,11 +237,11 @@ degrade_same o a p made p_in = elim (cases_Bool (set.contains a p)) [
 ]
 
 -- a union of cells of an order remains one after degrading to a deeper order
-degrade_kept : (n o : ℕ) (a : NumberSet) → n ≤ o → IsUnionOfCells n a → IsUnionOfCells n (degrade a o)
-degrade_kept n o a le made = record {
+degrade_of_union : (n o : ℕ) (a : NumberSet) → n ≤ o → IsUnionOfCells n a → IsUnionOfCells n (degrade a o)
+degrade_of_union n o a le made = record {
   each = λ p q p_in q_in same.
-      degrade_same o a p (deeper_made n o a le made) p_in ∙ made.each p q p_in q_in same
-      ∙ sym (degrade_same o a q (deeper_made n o a le made) q_in);
+      degrade_same o a p (union_of_deeper n o a le made) p_in ∙ made.each p q p_in q_in same
+      ∙ sym (degrade_same o a q (union_of_deeper n o a le made) q_in);
 }
 
 -- ---- depths
@@ -259,25 +259,25 @@ at_most_second (Some j) (Some m) k le = omega arith
 pub union_depth : (a b : NumberSet) (x y : Option ℕ) → HasMaxOrder a x → HasMaxOrder b y
     → HasMaxOrder (set.union a b) (deeper x y)
 union_depth a b x y of_a of_b k le =
-    union_made k a b (of_a k (at_most_first x y k le)) (of_b k (at_most_second x y k le))
+    union_of_two k a b (of_a k (at_most_first x y k le)) (of_b k (at_most_second x y k le))
 
 pub intersection_depth : (a b : NumberSet) (x y : Option ℕ) → HasMaxOrder a x → HasMaxOrder b y
     → HasMaxOrder (set.intersection a b) (deeper x y)
 intersection_depth a b x y of_a of_b k le =
-    intersection_made k a b (of_a k (at_most_first x y k le)) (of_b k (at_most_second x y k le))
+    intersection_is_union k a b (of_a k (at_most_first x y k le)) (of_b k (at_most_second x y k le))
 
 pub difference_depth : (a b : NumberSet) (x y : Option ℕ) → HasMaxOrder a x → HasMaxOrder b y
     → HasMaxOrder (set.difference a b) (deeper x y)
 difference_depth a b x y of_a of_b k le =
-    difference_made k a b (of_a k (at_most_first x y k le)) (of_b k (at_most_second x y k le))
+    difference_is_union k a b (of_a k (at_most_first x y k le)) (of_b k (at_most_second x y k le))
 
 pub symmetric_depth : (a b : NumberSet) (x y : Option ℕ) → HasMaxOrder a x → HasMaxOrder b y
     → HasMaxOrder (symmetric a b) (deeper x y)
 symmetric_depth a b x y of_a of_b k le =
-    symmetric_made k a b (of_a k (at_most_first x y k le)) (of_b k (at_most_second x y k le))
+    symmetric_union k a b (of_a k (at_most_first x y k le)) (of_b k (at_most_second x y k le))
 
 pub complement_depth : (a : NumberSet) (x : Option ℕ) → HasMaxOrder a x → HasMaxOrder (complement a) x
-complement_depth a x of_a k le = complement_made k a (of_a k le)
+complement_depth a x of_a k le = complement_is_union k a (of_a k le)
 
 coarser_of : (x : Option ℕ) (o k : ℕ) → k < o → IsAtMost (option_map (λ j. min j o) x) k → IsAtMost x k
 coarser_of None o k lt le = tt
@@ -286,75 +286,75 @@ coarser_of (Some j) o k lt le = omega arith
 pub degrade_depth : (a : NumberSet) (x : Option ℕ) (o : ℕ) → HasMaxOrder a x
     → HasMaxOrder (degrade a o) (option_map (λ j. min j o) x)
 degrade_depth a x o of_a k le = elim (cases_lt k o) [
-  | inl lt ↦ degrade_kept k o a (omega arith) (of_a k (coarser_of x o k lt le))
-  | inr deep ↦ deeper_made o k (degrade a o) (omega arith) (degrade_made o a)
+  | inl lt ↦ degrade_of_union k o a (omega arith) (of_a k (coarser_of x o k lt le))
+  | inr deep ↦ union_of_deeper o k (degrade a o) (omega arith) (degrade_is_union o a)
 ]
 
 -- ---- sets that texts represent
 
-span_made : (j i : ℕ) → IsUnionOfCells j (span j i)
-span_made j i = record {
+span_is_union : (j i : ℕ) → IsUnionOfCells j (span j i)
+span_is_union j i = record {
   each = λ p q p_in q_in same.
       contains-span j i p ∙ ap₂ (λ x n. x && nat_eq n i) (both_ways p q p_in q_in) same ∙ sym (contains-span j i q);
 }
 
-spans_made : (j first last : ℕ) → IsUnionOfCells j (spans j first last)
-spans_made j first last = record {
+spans_are_union : (j first last : ℕ) → IsUnionOfCells j (spans j first last)
+spans_are_union j first last = record {
   each = λ p q p_in q_in same.
       contains-spans j first last p
       ∙ ap₂ (λ x n. x && (nat_le first n && nat_le n last)) (both_ways p q p_in q_in) same
       ∙ sym (contains-spans j first last q);
 }
 
-item_made : (k : ℕ) (j : Option ℕ) (i : Option Item) → IsAtMost j k → IsUnionOfCells k (item_pixels j i)
-item_made k j None le = empty_made k
-item_made k None (Some i) le = empty_made k
-item_made k (Some j) (Some i) le = deeper_made j k _ le (spans_made j i.first.value (last_cell i).value)
+item_is_union : (k : ℕ) (j : Option ℕ) (i : Option Item) → IsAtMost j k → IsUnionOfCells k (item_pixels j i)
+item_is_union k j None le = empty_is_union k
+item_is_union k None (Some i) le = empty_is_union k
+item_is_union k (Some j) (Some i) le = union_of_deeper j k _ le (spans_are_union j i.first.value (last_cell i).value)
 
 in_force : (before : Option ℕ) (mark : Option Numeral) (k : ℕ) → IsAtMost before k
     → IsAtMost (current_order None mark) k → IsAtMost (current_order before mark) k
 in_force before None k le own = le
 in_force before (Some n) k le own = own
 
-words_made : (k : ℕ) (before : Option ℕ) (ns : List WordNumbers) → IsAtMost before k → IsAtMost (deepest_of ns) k
+words_are_union : (k : ℕ) (before : Option ℕ) (ns : List WordNumbers) → IsAtMost before k → IsAtMost (deepest_of ns) k
     → IsUnionOfCells k (pixels_of_words before ns)
-words_made k before [] le most = empty_made k
-words_made k before (n ∷ ns) le most =
+words_are_union k before [] le most = empty_is_union k
+words_are_union k before (n ∷ ns) le most =
     let here = in_force before n.mark k le (at_most_first (current_order None n.mark) (deepest_of ns) k most) in
     let rest = at_most_second (current_order None n.mark) (deepest_of ns) k most in
-    union_made k _ _ (item_made k (current_order before n.mark) n.item here)
-    (words_made k (current_order before n.mark) ns here rest)
+    union_of_two k _ _ (item_is_union k (current_order before n.mark) n.item here)
+    (words_are_union k (current_order before n.mark) ns here rest)
 
 -- a text in the ASCII format
 pub ascii_depth : (text : List ℕ) (a : NumberSet) (moc_order : Option ℕ) → Represents text a moc_order
     → HasMaxOrder a moc_order
 ascii_depth text a moc_order represents k le =
     subst (λ (b : NumberSet). IsUnionOfCells k b) (sym represents.set_is)
-    (words_made k None represents.numbers tt (subst (λ (x : Option ℕ). IsAtMost x k) represents.moc_order_is le))
+    (words_are_union k None represents.numbers tt (subst (λ (x : Option ℕ). IsAtMost x k) represents.moc_order_is le))
 
-cell_made : (k j : ℕ) (i : Option ℕ) → j ≤ k → IsUnionOfCells k (cell_pixels j i)
-cell_made k j None le = empty_made k
-cell_made k j (Some i) le = deeper_made j k (span j i) le (span_made j i)
+cell_is_union : (k j : ℕ) (i : Option ℕ) → j ≤ k → IsUnionOfCells k (cell_pixels j i)
+cell_is_union k j None le = empty_is_union k
+cell_is_union k j (Some i) le = union_of_deeper j k (span j i) le (span_is_union j i)
 
-items_made : (k j : ℕ) (ds : Items) → j ≤ k → IsUnionOfCells k (items_pixels j ds)
-items_made k j no_items le = empty_made k
-items_made k j (item d ds) le = union_made k _ _ (cell_made k j (whole_number d) le) (items_made k j ds le)
+items_union : (k j : ℕ) (ds : Items) → j ≤ k → IsUnionOfCells k (items_pixels j ds)
+items_union k j no_items le = empty_is_union k
+items_union k j (item d ds) le = union_of_two k _ _ (cell_is_union k j (whole_number d) le) (items_union k j ds le)
 
-array_made : (k : ℕ) (j : Option ℕ) (ds : Option Items) → IsAtMost j k → IsUnionOfCells k (array_pixels j ds)
-array_made k (Some j) (Some ds) le = items_made k j ds le
-array_made k None ds le = empty_made k
-array_made k (Some j) None le = empty_made k
+array_is_union : (k : ℕ) (j : Option ℕ) (ds : Option Items) → IsAtMost j k → IsUnionOfCells k (array_pixels j ds)
+array_is_union k (Some j) (Some ds) le = items_union k j ds le
+array_is_union k None ds le = empty_is_union k
+array_is_union k (Some j) None le = empty_is_union k
 
-members_made : (k : ℕ) (ms : Members) → IsAtMost (deepest_name ms) k → IsUnionOfCells k (members_pixels ms)
-members_made k no_members most = empty_made k
-members_made k (member name d ms) most =
-    union_made k _ _
-    (array_made k (order_of_name name) (as_array d) (at_most_first (order_of_name name) (deepest_name ms) k most))
-    (members_made k ms (at_most_second (order_of_name name) (deepest_name ms) k most))
+members_are_union : (k : ℕ) (ms : Members) → IsAtMost (deepest_name ms) k → IsUnionOfCells k (members_pixels ms)
+members_are_union k no_members most = empty_is_union k
+members_are_union k (member name d ms) most =
+    union_of_two k _ _
+    (array_is_union k (order_of_name name) (as_array d) (at_most_first (order_of_name name) (deepest_name ms) k most))
+    (members_are_union k ms (at_most_second (order_of_name name) (deepest_name ms) k most))
 
 -- a text in the JSON format
 pub json_depth : (text : List ℕ) (a : NumberSet) (moc_order : Option ℕ) → RepresentsJson text a moc_order
     → HasMaxOrder a moc_order
 json_depth text a moc_order represents k le =
     subst (λ (b : NumberSet). IsUnionOfCells k b) (sym represents.set_is)
-    (members_made k represents.members (subst (λ (x : Option ℕ). IsAtMost x k) represents.moc_order_is le))
+    (members_are_union k represents.members (subst (λ (x : Option ℕ). IsAtMost x k) represents.moc_order_is le))

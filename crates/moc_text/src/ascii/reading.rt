@@ -11,6 +11,7 @@ ghost use Rattle.moc_text.specs.Reading.{IsReadingOf, ReadingsAreUnique};
 use crate::ascii::error::TextError;
 use crate::ascii::number::{Item, Numeral};
 use crate::ascii::scan::{is_separator, place, word};
+use crate::ascii::single::only_cell;
 use crate::depth::deeper;
 use moc_ranges::{Coverage, CoverageBuilder};
 use moc_sphere::Order;
@@ -103,6 +104,21 @@ fn read_words(alloc: Global, text: &[u8]) -> Result<Reading, TextError>
     Ok(reading)
 }
 
+/// Parses a text of any number of words, as [`read_ascii`] does. This is a function of its own, because a call pays for
+/// all variables of a function: a text of a single cell needs fewer.
+#[inline(never)]
+fn read_any(alloc: Global, text: &[u8]) -> Result<(Coverage, Option<Order>), TextError>
+    ensures set { IfOk result (λ r. Represents text.now r.0 r.1) }
+    ensures error { IfErr result (λ e. (e ≡ TextError.Memory) ⊎ IsFirstError text.now e) }
+    ensures reading { (a : NumberSet) (k : Option ℕ) → Represents text.now a k
+        → MatchResult result (λ r. (r.0 ≡ a) × (r.1 ≡ k)) (λ e. e ≡ TextError.Memory) }
+    ensures reported { IsReadingOf text.now result }
+{
+    let reading = read_words(alloc, text)?;
+    let set = reading.cells.build()?;
+    Ok((set, reading.moc_order))
+}
+
 /// Parses the ASCII format, and returns the set and the MOC order of the text.
 ///
 /// # Errors
@@ -112,7 +128,8 @@ fn read_words(alloc: Global, text: &[u8]) -> Result<Reading, TextError>
 /// and with `Backwards` if a range ends before it begins. Fails with `Memory` if an allocation fails.
 ///
 /// # Complexity
-/// One pass over the text. The cells are added to a `CoverageBuilder`, in O(n log n), or in O(n) if they are sorted.
+/// One pass over the text; its first word is parsed twice if other words follow. Several cells are added to a
+/// `CoverageBuilder`, in O(n log n), or in O(n) if they are sorted.
 ///
 /// # Memory
 /// Proportional to the set, not to the text.
@@ -133,9 +150,11 @@ pub fn read_ascii(alloc: Global, text: &[u8]) -> Result<(Coverage, Option<Order>
     // The result as a function of the text, unless an allocation failed.
     ensures reported { IsReadingOf text.now result }
 {
-    let reading = read_words(alloc, text)?;
-    let set = reading.cells.build()?;
-    Ok((set, reading.moc_order))
+    if let Some(cell) = only_cell(text) {
+        let set = Coverage::from_cell(alloc, cell)?;
+        return Ok((set, Some(cell.order())));
+    }
+    read_any(alloc, text)
 }
 
 /// Theorem: every text has exactly one reading, namely the set and the MOC order that it represents, or its first

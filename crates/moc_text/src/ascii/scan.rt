@@ -20,7 +20,7 @@ pub fn is_separator(byte: u8) -> bool
 }
 
 /// Returns whether a word ends before these bytes.
-fn is_end(bytes: &[u8]) -> bool
+pub fn is_end(bytes: &[u8]) -> bool
     ensures { result ≡ is_end_of bytes.now }
 {
     match bytes {
@@ -30,7 +30,7 @@ fn is_end(bytes: &[u8]) -> bool
 }
 
 /// Returns the bytes after the given byte, if they begin with it.
-fn after(byte: u8, bytes: &[u8]) -> Option<&[u8]>
+pub fn after(byte: u8, bytes: &[u8]) -> Option<&[u8]>
     ensures { option_copied result ≡ after_byte byte bytes.now }
 {
     match bytes {
@@ -77,7 +77,7 @@ pub fn digits(bytes: &[u8]) -> (u64, &[u8])
 
 /// Scans a number, and returns the bytes after it.
 #[tactic(auto, unfolding(crate::specs::Private::Scan::scan_number))]
-fn number(len: usize, bytes: &[u8]) -> Result<(Numeral, &[u8]), TextError>
+pub fn number(len: usize, bytes: &[u8]) -> Result<(Numeral, &[u8]), TextError>
     ensures { IsScanned (λ x. (x.0, x.1.now)) result (scan_number len bytes.now) }
 {
     match bytes {

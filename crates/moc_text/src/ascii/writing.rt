@@ -12,15 +12,15 @@ ghost use Rattle.moc_text.specs.AsciiText.{runs_of, stated_if_deeper, words_of};
 ghost use Rattle.moc_text.specs.Private.AsciiWriting.{leading_space, remaining_text, run_part, runs_in, stated_part};
 ghost use Rattle.moc_text.specs.declared.ascii.writing.Run.{Run as CellRun};
 
-use crate::text_writer::TextWriter;
+use crate::text_writer::{GrowingText, TextWriter};
 use crate::write_error::WriteError;
 use itoa::Buffer;
-use moc_ranges::{CellRanges, Coverage};
+use moc_ranges::{CellRanges, Coverage, Memory as OutOfMemory};
 use moc_sphere::Order;
 use std::alloc::{AllocError, Global};
 
 /// The initial capacity of a text in bytes for each range of the set: an estimate of the length of its cells.
-pub const RANGE_CAPACITY: usize = 20;
+const RANGE_CAPACITY: usize = 20;
 
 /// A run of consecutive cells of one order, from the first to the last, inclusive.
 #[derive(Clone, Copy)]
@@ -31,7 +31,11 @@ struct Run {
 }
 
 /// Writes an order, after a space if the text is not empty.
-fn push_order(text: &mut TextWriter, before: Option<u8>, order: u8) -> Result<(), AllocError>
+fn push_order<T: GrowingText>(
+    text: &mut TextWriter<T>,
+    before: Option<u8>,
+    order: u8,
+) -> Result<(), AllocError>
     ensures { OnOk result (text.new ≡ text.old ++ leading_space before ++ decimal order) }
 {
     if before.is_some() {
@@ -42,7 +46,11 @@ fn push_order(text: &mut TextWriter, before: Option<u8>, order: u8) -> Result<()
 
 /// Writes the cells of a run after an ASCII byte.
 #[inline]
-fn push_cells(text: &mut TextWriter, before: u8, run: Run) -> Result<(), AllocError>
+fn push_cells<T: GrowingText>(
+    text: &mut TextWriter<T>,
+    before: u8,
+    run: Run,
+) -> Result<(), AllocError>
     requires { before < 128 }
     ensures { OnOk result (text.new ≡ text.old ++ before ∷ run_text run) }
 {
@@ -55,7 +63,11 @@ fn push_cells(text: &mut TextWriter, before: u8, run: Run) -> Result<(), AllocEr
 
 /// Writes a run, with its order unless this order was written last.
 #[inline]
-fn push_run(text: &mut TextWriter, before: Option<u8>, run: Run) -> Result<(), AllocError>
+fn push_run<T: GrowingText>(
+    text: &mut TextWriter<T>,
+    before: Option<u8>,
+    run: Run,
+) -> Result<(), AllocError>
     ensures { OnOk result (text.new ≡ text.old ++ run_part before run) }
 {
     if let Some(last) = before
@@ -78,8 +90,8 @@ pub fn if_deeper(before: Option<u8>, stated: Option<u8>) -> Option<u8>
 }
 
 /// Writes the stated order if it is deeper than the order that was written last, or if no order was written.
-fn push_stated(
-    text: &mut TextWriter,
+fn push_stated<T: GrowingText>(
+    text: &mut TextWriter<T>,
     before: Option<u8>,
     stated: Option<u8>,
 ) -> Result<(), AllocError>
@@ -127,8 +139,8 @@ pub fn is_too_coarse(deepest: Option<u8>, stated: Option<u8>) -> bool
 }
 
 /// Writes the runs of one order, and returns the order that was written last.
-fn push_runs(
-    text: &mut TextWriter,
+fn push_runs<T: GrowingText>(
+    text: &mut TextWriter<T>,
     before: Option<u8>,
     order: u8,
     ranges: CellRanges<'_>,
@@ -149,8 +161,8 @@ fn push_runs(
 
 /// Writes the cells of the set as runs, order by order, and the stated order. The cells must have orders in the given
 /// range.
-fn push_all(
-    text: &mut TextWriter,
+fn push_all<T: GrowingText>(
+    text: &mut TextWriter<T>,
     set: &Coverage,
     orders: (u8, u8),
     stated: Option<u8>,
@@ -199,8 +211,33 @@ pub fn write_ascii(
     if is_too_coarse(deepest_of(set, orders), stated) {
         return Err(WriteError::TooCoarse);
     }
-    let capacity = set.range_count().saturating_mul(RANGE_CAPACITY);
-    let mut text = TextWriter::with_capacity(alloc, capacity)?;
+    let mut text = TextWriter::after(String::with_capacity(alloc, capacity_for(set))?);
     push_all(&mut text, set, orders, stated)?;
     Ok(text.finish()?)
+}
+
+/// Returns an initial capacity in bytes for the text of a set.
+pub fn capacity_for(set: &Coverage) -> usize {
+    set.range_count().saturating_mul(RANGE_CAPACITY)
+}
+
+/// Appends a set to a text, in the ASCII format as [`write_ascii`] writes it without a stated order.
+///
+/// # Errors
+/// Fails with `Memory` if an allocation fails. The text is then unspecified, and may be empty.
+///
+/// # Complexity
+/// As `write_ascii`.
+///
+/// # Source
+/// MOC 2.0, ASCII serialization.
+#[tactic(auto, unfolding(crate::specs::AsciiText::ascii_text))]
+pub fn push_ascii(alloc: Global, set: &Coverage, text: &mut Vec<u8>) -> Result<(), OutOfMemory>
+    ensures { OnOk result (text.new.items ≡ text.old.items ++ ascii_text set.now None) }
+{
+    text.reserve(capacity_for(set))?;
+    let mut writer = TextWriter::after(std::mem::replace(text, Vec::new(alloc)));
+    push_all(&mut writer, set, set.cell_orders(), None)?;
+    *text = writer.finish()?;
+    Ok(())
 }

@@ -11,7 +11,7 @@ ghost use Rattle.moc_text.specs.JsonFormat.{RepresentsJson};
 ghost use Rattle.moc_text.specs.JsonText.{data_at, json_text};
 ghost use Rattle.moc_text.specs.Private.JsonWriting.{array_rest, prepend_member, members_in_order, orders_by_name};
 
-use crate::ascii::{RANGE_CAPACITY, deepest_of, depth_of, if_deeper, is_too_coarse};
+use crate::ascii::{capacity_for, deepest_of, depth_of, if_deeper, is_too_coarse};
 use crate::text_writer::TextWriter;
 use crate::write_error::WriteError;
 use moc_ranges::{CellRanges, Coverage};
@@ -35,7 +35,7 @@ const ORDERS_BY_NAME: &[u8] = &[
 
 /// Writes the indices of cells in the half-open range from `first` to `end`, each after a comma.
 #[inline(always)]
-fn write_run(text: &mut TextWriter, first: u64, end: u64) -> Result<(), AllocError>
+fn write_run(text: &mut TextWriter<String>, first: u64, end: u64) -> Result<(), AllocError>
     ensures { OnOk result ((k : ℕ) (rest : List CellNumber) →
         text.new ++ array_rest rest ≡ text.old ++ array_rest (cells_of_range k (first, end) ++ rest)) }
 {
@@ -46,7 +46,7 @@ fn write_run(text: &mut TextWriter, first: u64, end: u64) -> Result<(), AllocErr
 }
 
 /// Writes the indices of cells in ranges, each after a comma, and closes the array.
-fn write_runs(text: &mut TextWriter, ranges: CellRanges<'_>) -> Result<(), AllocError>
+fn write_runs(text: &mut TextWriter<String>, ranges: CellRanges<'_>) -> Result<(), AllocError>
     ensures { OnOk result ((k : ℕ) → text.new ≡ text.old ++ array_rest (cells_in k ranges.entry)) }
 {
     for (first, end) in ranges {
@@ -56,7 +56,7 @@ fn write_runs(text: &mut TextWriter, ranges: CellRanges<'_>) -> Result<(), Alloc
 }
 
 /// Writes a comma if a member precedes.
-fn push_comma(text: &mut TextWriter, has_previous: bool) -> Result<(), AllocError>
+fn push_comma(text: &mut TextWriter<String>, has_previous: bool) -> Result<(), AllocError>
     ensures { OnOk result (text.new ≡ text.old ++ comma_if has_previous) }
 {
     if has_previous {
@@ -66,7 +66,11 @@ fn push_comma(text: &mut TextWriter, has_previous: bool) -> Result<(), AllocErro
 }
 
 /// Writes the name of an order and a colon, after a comma if a member precedes.
-fn write_name(text: &mut TextWriter, depth: u8, has_previous: bool) -> Result<(), AllocError>
+fn write_name(
+    text: &mut TextWriter<String>,
+    depth: u8,
+    has_previous: bool,
+) -> Result<(), AllocError>
     ensures { OnOk result (text.new ≡ text.old ++ comma_if has_previous ++ quoted (decimal depth) ++ 58 ∷ []) }
 {
     push_comma(text, has_previous)?;
@@ -77,7 +81,7 @@ fn write_name(text: &mut TextWriter, depth: u8, has_previous: bool) -> Result<()
 /// Writes an order with an empty array if it is the order without cells. Returns whether a member has been written so
 /// far.
 fn write_bare(
-    text: &mut TextWriter,
+    text: &mut TextWriter<String>,
     depth: u8,
     empty_order: Option<u8>,
     has_previous: bool,
@@ -96,7 +100,7 @@ fn write_bare(
 /// Writes an order and its array if it has cells or is the order without cells. Returns whether a member has been
 /// written so far.
 fn write_order(
-    text: &mut TextWriter,
+    text: &mut TextWriter<String>,
     depth: u8,
     output: Output<'_>,
     has_previous: bool,
@@ -122,7 +126,7 @@ fn write_order(
 }
 
 /// Writes all orders, and closes the object.
-fn write_orders(text: &mut TextWriter, output: Output<'_>) -> Result<(), AllocError>
+fn write_orders(text: &mut TextWriter<String>, output: Output<'_>) -> Result<(), AllocError>
     requires each { HaveOrders output.orders.0 output.orders.1 (cells_of output.set.now) }
     requires in_range { output.orders.1 ≤ 30 }
     ensures { OnOk result (text.new ≡ text.old
@@ -144,8 +148,8 @@ fn object_text(alloc: Global, output: Output<'_>) -> Result<String, AllocError>
         ≡ compact_text (object
         (members_in_order (cells_of output.entry.set.now) output.entry.empty_order orders_by_name))) }
 {
-    let capacity = output.set.range_count().saturating_mul(RANGE_CAPACITY);
-    let mut text = TextWriter::with_capacity(alloc, capacity)?;
+    let capacity = capacity_for(output.set);
+    let mut text = TextWriter::after(String::with_capacity(alloc, capacity)?);
     text.push_str("{")?;
     write_orders(&mut text, output)?;
     text.finish()

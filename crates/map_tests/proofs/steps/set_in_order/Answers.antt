@@ -9,9 +9,9 @@ use Rattle.moc_steps.specs.Machine.{whole}
 use Rattle.map_tests.specs.Worlds.{IsMadeInOrder}
 use Rattle.map_tests.proofs.steps.set_in_order.Goals as goal
 
-where_ok : {A E P : Type 0} (Q R : A → Type 0) (r : Result A E) → IfOk r Q → OnOk r P → ((a : A) → Q a → P → R a) → IfOk r R
-where_ok Q R (Ok a) q p f = f a q p
-where_ok Q R (Err e) q p f = tt
+ok_and_implied : {A E P : Type 0} (Q R : A → Type 0) (r : Result A E) → IfOk r Q → OnOk r P → ((a : A) → Q a → P → R a) → IfOk r R
+ok_and_implied Q R (Ok a) q p f = f a q p
+ok_and_implied Q R (Err e) q p f = tt
 
 pub returns : goal.returns
 returns c =
@@ -20,7 +20,7 @@ returns c =
     let one = c.steps_have_one_order.ensures r.start r.steps r.played in
     let counted = subst (λ (v : BatchWorld). map.len v.locks.clients ≡ midway r.steps) r.leads one.counted in
     let together = subst (λ (v : BatchWorld). midway r.steps ≡ 0 → whole batches v ≡ set_by_order batches v.order r.steps r.start) r.leads one.together in
-    where_ok (λ (a : NumberSet). a ≡ whole batches w) (IsMadeInOrder w) c.coverage.result c.coverage.ensures.covered c.coverage.ensures.idle (λ a is idle. record {
+    ok_and_implied (λ (a : NumberSet). a ≡ whole batches w) (IsMadeInOrder w) c.coverage.result c.coverage.ensures.covered c.coverage.ensures.idle (λ a is idle. record {
       start = r.start;
       steps = r.steps;
       leads = r.leads;

@@ -1,5 +1,5 @@
 use Rattle.std.proofs.Common.{arith, ◌∙◌, ap, length}
-use Rattle.moc_blocks.proofs.Blocking.{length_step, length_done}
+use Rattle.moc_blocks.proofs.Blocking.{length_step, length_complete}
 use Rattle.moc_blocks.proofs.node.count_in_blocks.Goals as goal
 
 pub overflow_add-total : goal.overflow_add-total
@@ -13,4 +13,4 @@ loop-block-preserved c =
     omega (arith, step.0, ap length c.ranges-in-loop-block.ensures.value, c.loop-block.invariant)
 
 pub returns : goal.returns
-returns c = c.loop-block.invariant ∙ length_done c.args.blocks.now c.loop-block.block-index c.loop-block-test.false
+returns c = c.loop-block.invariant ∙ length_complete c.args.blocks.now c.loop-block.block-index c.loop-block-test.false

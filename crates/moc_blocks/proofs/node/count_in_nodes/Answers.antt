@@ -1,5 +1,5 @@
 use Rattle.std.proofs.Common.{arith, ◌∙◌}
-use Rattle.moc_blocks.proofs.Blocking.{length_node_step, length_nodes_done}
+use Rattle.moc_blocks.proofs.Blocking.{length_node_step, node_lengths_complete}
 use Rattle.moc_blocks.proofs.node.count_in_nodes.Goals as goal
 
 pub overflow_add-total : goal.overflow_add-total
@@ -13,4 +13,4 @@ loop-node-preserved c =
     omega (arith, step.0, c.count-total.ensures.value, c.loop-node.invariant)
 
 pub returns : goal.returns
-returns c = c.loop-node.invariant ∙ length_nodes_done c.args.nodes.now c.loop-node.node-index c.loop-node-test.false
+returns c = c.loop-node.invariant ∙ node_lengths_complete c.args.nodes.now c.loop-node.node-index c.loop-node-test.false

@@ -1,5 +1,5 @@
 use Rattle.std.proofs.Common.{arith, ◌∙◌}
-use Rattle.moc_blocks.proofs.Blocking.{count_step, count_done}
+use Rattle.moc_blocks.proofs.Blocking.{count_step, width_complete}
 use Rattle.moc_blocks.proofs.node.width_of_blocks.Goals as goal
 
 pub overflow_add-total : goal.overflow_add-total
@@ -13,4 +13,4 @@ loop-block-preserved c =
     omega (arith, step.0, c.size-total.ensures.value, c.loop-block.invariant)
 
 pub returns : goal.returns
-returns c = c.loop-block.invariant ∙ count_done c.args.blocks.now c.loop-block.block-index c.loop-block-test.false
+returns c = c.loop-block.invariant ∙ width_complete c.args.blocks.now c.loop-block.block-index c.loop-block-test.false

@@ -1,6 +1,6 @@
 use Rattle.std.proofs.Common.{◌≡◌, take, arith, subst}
 use Rattle.moc_blocks.specs.Private.Walks.{all_ranges, EndsBy, EndsAfterAt}
-use Rattle.moc_blocks.proofs.Passing.{skip_before, skip_from, skip_between, ended_before, past_here}
+use Rattle.moc_blocks.proofs.Passing.{skip_before, skip_from, skip_between, ended_before, ends_after_at_index}
 use Rattle.moc_blocks.proofs.runs.count_ended_near.Goals as goal
 use Rattle.moc_blocks.proofs.runs.count_ended_near.Goals.{else-low-gt0-via-then-low-gt0+else-limit-end}
 use Rattle.moc_blocks.proofs.runs.count_ended_near.Goals.{else-low-gt0-via-else-low-gt0}
@@ -34,7 +34,7 @@ count_ended_from-requires-2-clause-there g c =
     ] in
     let past : EndsAfterAt g.T.Run.ranges c.args.runs.now c.args.limit high = elim c.else-high-len.branch [
       | else-high-len-via-then-high-len+else-end-limit w ↦
-          past_here g.T.Run.ranges c.args.runs.now c.args.limit high w.index-runs-high.result w.index-runs-high.is
+          ends_after_at_index g.T.Run.ranges c.args.runs.now c.args.limit high w.index-runs-high.result w.index-runs-high.is
           (omega (arith, w.end-then-high-len.ensures.value, w.if-end-limit.false))
       | else-high-len-via-else-high-len w ↦ λ run inside. absurd (omega (arith, inside, w.if-high-len.false))
     ] in

@@ -1,4 +1,4 @@
-use Rattle.moc_conversion.proofs.Checks.{passed_on, no_memory_together}
+use Rattle.moc_conversion.proofs.Checks.{error_passed_to_result, no_memory_together}
 use Rattle.moc_conversion.proofs.Depths.{together_written}
 use Rattle.moc_conversion.proofs.combination.combine_input.Goals as goal
 
@@ -18,7 +18,7 @@ returns-clause-combines g c = (
 
 pub returns-in_err-parsed-clause-error : goal.returns-in_err-parsed-clause-error
 returns-in_err-parsed-clause-error g c =
-    passed_on c.from_residual.result c.in_err-parsed.field-0.0 _ c.from_residual.ensures.1 c.in_err-parsed.ensures.error
+    error_passed_to_result c.from_residual.result c.in_err-parsed.field-0.0 _ c.from_residual.ensures.1 c.in_err-parsed.ensures.error
 
 pub returns-in_err-text_of-clause-error : goal.returns-in_err-text_of-clause-error
 returns-in_err-text_of-clause-error g c =

@@ -2,7 +2,7 @@ use Rattle.std.proofs.Common.{arith, rules, ◌≡◌, ◌<◌, ◌⊎◌, ◌�
 use Rattle.std.proofs.lemmas.Grind.{common_steps}
 use Rattle.std.proofs.lemmas.Result.{IfErr-weaker, IfOk-weaker}
 use Rattle.moc_conversion.specs.Private.Running.{AreRejected, FailsWithin, Processes}
-use Rattle.moc_conversion.proofs.Checks.{passed_on}
+use Rattle.moc_conversion.proofs.Checks.{error_passed_to_result}
 use Rattle.moc_conversion.proofs.Combinations.{all_fails, all_combined, piece_fails, piece_is, piece_processed}
 use Rattle.moc_conversion.proofs.combination.read_texts.Goals as goal
 
@@ -45,7 +45,7 @@ returns-then-not-branch-clause-error g c =
 pub returns-in_err-push_bytes-clause-error : goal.returns-in_err-push_bytes-clause-error
 returns-in_err-push_bytes-clause-error g c =
     let reported = c.in_err-push_bytes.field-0.0 in
-    passed_on c.from_residual-in_err-push_bytes.result reported _ c.from_residual-in_err-push_bytes.ensures.1
+    error_passed_to_result c.from_residual-in_err-push_bytes.result reported _ c.from_residual-in_err-push_bytes.ensures.1
     (piece_fails c.args.operation c.args.choice _ _ _ _ _ _ c.new-texts.ensures.begins c.loop-piece.invariant.processed.0
     (piece_is _ _ _ _ _ c.clear.ensures.items c.in_ok-read_chunk.ensures.reads_more) reported
     (subst (λ (bytes : List ℕ). AreRejected c.loop-piece.texts bytes reported ⊎ FailsWithin c.loop-piece.texts bytes reported) c.deref.ensures.value c.in_err-push_bytes.ensures.error))

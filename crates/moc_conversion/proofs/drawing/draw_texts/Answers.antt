@@ -10,7 +10,7 @@ use Rattle.moc_forms.specs.declared.finding.FormatChoice.{FormatChoice}
 use Rattle.moc_conversion.specs.Conversion.{IsPictureOf, ReportsError, ReportsFirstOfTexts, second_text}
 use Rattle.moc_conversion.specs.declared.error.InputError.{InputError}
 use Rattle.moc_conversion.specs.declared.error.InputError.TheVariants.{Memory}
-use Rattle.moc_conversion.proofs.Checks.{passed_on}
+use Rattle.moc_conversion.proofs.Checks.{error_passed_to_result}
 use Rattle.moc_conversion.proofs.drawing.draw_texts.Goals as goal
 
 abbrev bytes_of : Option (Bor (List ℕ)) → Option (List ℕ)
@@ -42,7 +42,7 @@ second_fails choice first second c represents (inr diagnoses) = inr (inr (repres
 pub returns-in_err-parsed-clause-error : goal.returns-in_err-parsed-clause-error
 returns-in_err-parsed-clause-error c =
     let reported = c.in_err-parsed.field-0.0 in
-    passed_on c.from_residual.result reported _ c.from_residual.ensures.1
+    error_passed_to_result c.from_residual.result reported _ c.from_residual.ensures.1
     (invalid c.args.choice c.args.text.now c.picture_texts.result.0.now None c.picture_texts.result.1 reported c.picture_texts.ensures.first c.picture_texts.ensures.second
     (ap bytes_of c.in_default.is) c.in_err-parsed.ensures.reported)
 
@@ -55,7 +55,7 @@ returns-in_default-clause-picture c =
 pub returns-in_err-one-clause-error : goal.returns-in_err-one-clause-error
 returns-in_err-one-clause-error c =
     let reported = c.in_err-one.field-0.0 in
-    passed_on c.from_residual-in_err-one.result reported _ c.from_residual-in_err-one.ensures.1
+    error_passed_to_result c.from_residual-in_err-one.result reported _ c.from_residual-in_err-one.ensures.1
     (invalid c.args.choice c.args.text.now c.picture_texts.result.0.now (Some c.in-Some.second.now) c.picture_texts.result.1 reported
     c.picture_texts.ensures.first c.picture_texts.ensures.second (ap bytes_of c.in-Some.is)
     (first_fails c.args.choice c.picture_texts.result.0.now c.in-Some.second.now reported c.in_err-one.ensures.reported))
@@ -63,7 +63,7 @@ returns-in_err-one-clause-error c =
 pub returns-in_err-other-clause-error : goal.returns-in_err-other-clause-error
 returns-in_err-other-clause-error c =
     let reported = c.in_err-other.field-0.0 in
-    passed_on c.from_residual-in_err-other.result reported _ c.from_residual-in_err-other.ensures.1
+    error_passed_to_result c.from_residual-in_err-other.result reported _ c.from_residual-in_err-other.ensures.1
     (invalid c.args.choice c.args.text.now c.picture_texts.result.0.now (Some c.in-Some.second.now) c.picture_texts.result.1 reported
     c.picture_texts.ensures.first c.picture_texts.ensures.second (ap bytes_of c.in-Some.is)
     (second_fails c.args.choice c.picture_texts.result.0.now c.in-Some.second.now reported

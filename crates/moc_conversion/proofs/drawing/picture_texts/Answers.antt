@@ -1,12 +1,12 @@
 use Rattle.std.proofs.Common.{◌∙◌, sym}
-use Rattle.moc_conversion.proofs.Pictures.{alone_first, alone_second, split_first, split_none, split_second}
+use Rattle.moc_conversion.proofs.Pictures.{first_text_without_semicolon, second_text_without_semicolon, split_first, split_none, split_second}
 use Rattle.moc_conversion.proofs.drawing.picture_texts.Goals as goal
 
 pub returns-in_default-clause-first : goal.returns-in_default-clause-first
-returns-in_default-clause-first c = alone_first c.args.text.now c.in_default.ensures
+returns-in_default-clause-first c = first_text_without_semicolon c.args.text.now c.in_default.ensures
 
 pub returns-in_default-clause-second : goal.returns-in_default-clause-second
-returns-in_default-clause-second c = alone_second c.args.text.now c.in_default.ensures
+returns-in_default-clause-second c = second_text_without_semicolon c.args.text.now c.in_default.ensures
 
 pub returns-then-is_blank-clause-first : goal.returns-then-is_blank-clause-first
 returns-then-is_blank-clause-first c =

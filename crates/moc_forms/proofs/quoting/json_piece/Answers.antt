@@ -1,12 +1,12 @@
 use Rattle.std.proofs.Common.{◌∙◌, ap, sym}
 use Rattle.std.specs.Prelude.{option_map}
 use Rattle.moc_text.specs.declared.json_format.error.JsonPlace.{JsonPlace}
-use Rattle.moc_forms.proofs.Pieces.{text_at_error, stands_nowhere}
+use Rattle.moc_forms.proofs.Pieces.{text_at_error, no_json_error}
 use Rattle.moc_forms.proofs.quoting.json_piece.Goals as goal
 
 pub returns-in_default : goal.returns-in_default
 returns-in_default c =
-    stands_nowhere c.args.text.now c.args.error
+    no_json_error c.args.text.now c.args.error
     (sym (ap (option_map (λ (p : JsonPlace). (p.name, p.item))) c.in_default.is) ∙ c.place.ensures)
 
 pub returns-in-Ok : goal.returns-in-Ok

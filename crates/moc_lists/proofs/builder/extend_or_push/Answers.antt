@@ -1,5 +1,5 @@
 use Rattle.std.proofs.Common.{arith}
-use Rattle.moc_blocks.proofs.Building.{open_longer, open_longer-same, open_filled, open_within, open_after, open_next}
+use Rattle.moc_blocks.proofs.Building.{open_longer, open_longer-same, last_open_nonempty, open_within, open_after, open_next}
 use Rattle.moc_blocks.proofs.Building.{open_next-same}
 use Rattle.moc_lists.proofs.builder.extend_or_push.Goals as goal
 
@@ -10,7 +10,7 @@ pub returns-then-range-last-clause-same : goal.returns-then-range-last-clause-sa
 returns-then-range-last-clause-same c = λ q. open_longer-same _ c.args.last c.args.range _ q c.requires.opened c.max.ensures c.requires.later (omega arith) c.requires.filled
 
 pub push-requires-clause-filled : goal.push-requires-clause-filled
-push-requires-clause-filled c = open_filled _ c.args.last c.requires.opened
+push-requires-clause-filled c = last_open_nonempty _ c.args.last c.requires.opened
 
 pub push-requires-clause-within : goal.push-requires-clause-within
 push-requires-clause-within c = open_within _ c.args.last c.requires.opened

@@ -1,4 +1,4 @@
-use Rattle.moc_blocks.proofs.Adding.{set_split}
+use Rattle.moc_blocks.proofs.Editing.{set_split}
 use Rattle.moc_lists.proofs.nodes.replace_with_one.Goals as goal
 
 pub returns : goal.returns

@@ -1,4 +1,4 @@
-use Rattle.moc_blocks.proofs.Adding.{set_inserted}
+use Rattle.moc_blocks.proofs.Editing.{set_inserted}
 use Rattle.moc_lists.proofs.nodes.replace_with_two.Goals as goal
 
 pub returns-clause-new : goal.returns-clause-new

@@ -1,5 +1,5 @@
 use Rattle.std.proofs.Common.{◌+◌, arith}
-use Rattle.moc_blocks.proofs.Places.{moved_part, part_fits}
+use Rattle.moc_blocks.proofs.Places.{part_of_starts_shifted, part_fits}
 use Rattle.moc_lists.proofs.nodes.shift_after.Goals as goal
 
 pub slice_bounds-shift_each-start : goal.slice_bounds-shift_each-start
@@ -10,4 +10,4 @@ shift_each-requires c = part_fits c.args.less c.args.more (c.args.place + 1) c.a
 
 pub returns-clause-shift_starts : goal.returns-clause-shift_starts
 returns-clause-shift_starts c =
-    moved_part c.args.less c.args.more (c.args.place + 1) _ c.args.starts.now.items c.deref_mut.result.now c.shift_each.new.starts c.deref_mut.ensures.value (omega arith) (omega arith) c.shift_each.ensures
+    part_of_starts_shifted c.args.less c.args.more (c.args.place + 1) _ c.args.starts.now.items c.deref_mut.result.now c.shift_each.new.starts c.deref_mut.ensures.value (omega arith) (omega arith) c.shift_each.ensures

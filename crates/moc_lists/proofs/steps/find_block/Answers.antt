@@ -2,12 +2,12 @@ use Rattle.std.proofs.Common.{◌<◌, ◌+◌, ◌-◌, ◌/◌, arith, ap, sym
 use Rattle.moc_blocks.specs.RangeList.{IsNormal}
 use Rattle.moc_blocks.specs.Lemmas.Members.{in_ranges}
 use Rattle.moc_blocks.specs.Blocks.{concat}
-use Rattle.moc_blocks.proofs.Stepping.{narrow_left, narrow_right, block_left, block_right, block_here, block_ok}
-use Rattle.moc_blocks.proofs.Stepping.{found_none_blocks, spent_within, spent_after, few_blocks}
+use Rattle.moc_blocks.proofs.Stepping.{narrow_left, narrow_right, block_left, block_right, only_block_contains, block_ok}
+use Rattle.moc_blocks.proofs.Stepping.{no_block_contains, steps_bounded, steps_after_comparison, block_count_bounded}
 use Rattle.moc_lists.proofs.steps.find_block.Goals as goal
 
 pub step-requires : goal.step-requires
-step-requires c = omega (arith, spent_within _ _ _ _ _ _ _ _ c.loop-low.invariant (omega (arith, few_blocks (concat c.args.nodes.now) c.requires.stored)), c.requires.capacity)
+step-requires c = omega (arith, steps_bounded _ _ _ _ _ _ _ _ c.loop-low.invariant (omega (arith, block_count_bounded (concat c.args.nodes.now) c.requires.stored)), c.requires.capacity)
 
 pub loop-low-preserved-then-pixel-from : goal.loop-low-preserved-then-pixel-from
 loop-low-preserved-then-pixel-from c =
@@ -34,24 +34,24 @@ find_range-requires-clause-fits c =
 
 pub find_range-requires-clause-capacity : goal.find_range-requires-clause-capacity
 find_range-requires-clause-capacity c =
-    let few = few_blocks (concat c.args.nodes.now) c.requires.stored in
-    let spent = spent_after _ _ _ _ _ _ _ _ c.loop-low.invariant c.loop-low-test.true 64 (omega arith) in
+    let few = block_count_bounded (concat c.args.nodes.now) c.requires.stored in
+    let spent = steps_after_comparison _ _ _ _ _ _ _ _ c.loop-low.invariant c.loop-low-test.true 64 (omega arith) in
     omega (arith, spent, c.step.ensures, c.requires.capacity)
 
 pub returns-else-to-pixel-clause-found : goal.returns-else-to-pixel-clause-found
 returns-else-to-pixel-clause-found c =
     let within = c.loop-low.invariant.within in
     c.find_range.ensures.found ∙ ap (λ (l : List (ℕ × ℕ)). in_ranges l c.args.pixel) c.ranges-else-to-pixel.ensures.value
-    ∙ sym (block_here (concat c.args.nodes.now) (c.loop-low.low + (c.loop-low.high - c.loop-low.low) / 2) c.args.pixel c.in-Some.block.now c.requires.stored (omega arith) c.in-Some.ensures.1 (omega (arith, c.if-pixel-from.false, c.from.ensures.value)) (omega (arith, c.if-to-pixel.false, c.to.ensures.value)))
+    ∙ sym (only_block_contains (concat c.args.nodes.now) (c.loop-low.low + (c.loop-low.high - c.loop-low.low) / 2) c.args.pixel c.in-Some.block.now c.requires.stored (omega arith) c.in-Some.ensures.1 (omega (arith, c.if-pixel-from.false, c.from.ensures.value)) (omega (arith, c.if-to-pixel.false, c.to.ensures.value)))
 
 pub returns-else-to-pixel-clause-cost : goal.returns-else-to-pixel-clause-cost
 returns-else-to-pixel-clause-cost c = λ d lt.
     let within = c.loop-low.invariant.within in
     let ok = block_ok (concat c.args.nodes.now) (c.loop-low.low + (c.loop-low.high - c.loop-low.low) / 2) c.in-Some.block.now c.requires.stored (omega arith) c.in-Some.ensures.1 in
-    let spent = spent_after _ _ _ _ _ _ _ _ c.loop-low.invariant c.loop-low-test.true d lt in
+    let spent = steps_after_comparison _ _ _ _ _ _ _ _ c.loop-low.invariant c.loop-low-test.true d lt in
     let small : length c.ranges-else-to-pixel.result.now < 256 = omega (arith, ap length c.ranges-else-to-pixel.ensures.value, ok.1) in
     let inner = c.find_range.ensures.cost 8 small in
     omega (arith, spent, inner, c.step.ensures)
 
 pub returns-clause-found : goal.returns-clause-found
-returns-clause-found c = sym (found_none_blocks (concat c.args.nodes.now) c.args.pixel c.loop-low.low c.loop-low.high _ _ _ c.loop-low.invariant c.loop-low-test.false)
+returns-clause-found c = sym (no_block_contains (concat c.args.nodes.now) c.args.pixel c.loop-low.low c.loop-low.high _ _ _ c.loop-low.invariant c.loop-low-test.false)

@@ -1,10 +1,10 @@
 use Rattle.std.proofs.Common.{◌+◌, ◌-◌, ◌/◌, arith, sym}
-use Rattle.moc_blocks.proofs.Stepping.{narrow_left, narrow_right, range_left, range_right, range_here, found_none}
-use Rattle.moc_blocks.proofs.Stepping.{spent_within}
+use Rattle.moc_blocks.proofs.Stepping.{narrow_left, narrow_right, range_left, range_right, range_at_index_contains, no_range_contains}
+use Rattle.moc_blocks.proofs.Stepping.{steps_bounded}
 use Rattle.moc_lists.proofs.steps.find_range.Goals as goal
 
 pub step-requires : goal.step-requires
-step-requires c = omega (arith, spent_within _ _ _ _ _ _ _ _ c.loop-low.invariant (omega arith), c.requires.capacity)
+step-requires c = omega (arith, steps_bounded _ _ _ _ _ _ _ _ c.loop-low.invariant (omega arith), c.requires.capacity)
 
 pub loop-low-preserved-then-pixel-range : goal.loop-low-preserved-then-pixel-range
 loop-low-preserved-then-pixel-range c =
@@ -21,10 +21,10 @@ loop-low-preserved c =
 pub returns-else-range-pixel-clause-found : goal.returns-else-range-pixel-clause-found
 returns-else-range-pixel-clause-found c =
     let within = c.loop-low.invariant.within in
-    sym (range_here c.args.ranges.now (c.loop-low.low + (c.loop-low.high - c.loop-low.low) / 2) c.args.pixel (0, 0) c.requires.normal (omega arith) c.if-pixel-range.false c.if-range-pixel.false)
+    sym (range_at_index_contains c.args.ranges.now (c.loop-low.low + (c.loop-low.high - c.loop-low.low) / 2) c.args.pixel (0, 0) c.requires.normal (omega arith) c.if-pixel-range.false c.if-range-pixel.false)
 
 pub returns-clause-found : goal.returns-clause-found
-returns-clause-found c = sym (found_none c.args.ranges.now c.args.pixel c.loop-low.low c.loop-low.high _ _ _ c.loop-low.invariant c.loop-low-test.false)
+returns-clause-found c = sym (no_range_contains c.args.ranges.now c.args.pixel c.loop-low.low c.loop-low.high _ _ _ c.loop-low.invariant c.loop-low-test.false)
 
 pub returns-clause-cost : goal.returns-clause-cost
 returns-clause-cost c = λ d lt. let s = c.loop-low.invariant.spent d lt in omega (arith, s.1.1)

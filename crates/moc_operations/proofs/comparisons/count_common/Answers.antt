@@ -1,6 +1,6 @@
 use Rattle.std.proofs.Common.{arith}
 use Rattle.moc_operations.specs.Private.Walks.{from_current}
-use Rattle.moc_operations.proofs.Walking.{IsCounting, at_both, counting_first, counting_second, counting_room}
+use Rattle.moc_operations.proofs.Walking.{IsCounting, at_both, counting_first, counting_second, common_count_bounded}
 use Rattle.moc_operations.proofs.Walking.{counted_first, counted_second, counted_within, common_bounded}
 use Rattle.moc_operations.proofs.comparisons.count_common.Goals as goal
 
@@ -10,7 +10,7 @@ returns-in_default-second c = counted_second c.loop-first.total (from_current c.
 pub overflow_add-total : goal.overflow_add-total
 overflow_add-total c =
     let s = at_both c.loop-first.first c.loop-first.second c.in-Some.x c.in-Some-second.y c.loop-first.xs c.loop-first.ys (λ xs ys. IsCounting c.loop-first.total xs ys c.args.xs c.args.ys) c.in-Some.is c.in-Some-second.is c.loop-first.invariant in
-    omega (arith, counting_room _ _ _ _ _ _ _ _ s c.overlap-total.ensures, common_bounded c.args.xs c.args.ys c.requires.xs)
+    omega (arith, common_count_bounded _ _ _ _ _ _ _ _ s c.overlap-total.ensures, common_bounded c.args.xs c.args.ys c.requires.xs)
 
 pub overflow_add-total-then-x-y : goal.overflow_add-total-then-x-y
 overflow_add-total-then-x-y c =

@@ -1,5 +1,5 @@
 use Rattle.moc_operations.specs.Private.Walks.{from_current}
-use Rattle.moc_operations.proofs.Walking.{IsCounting, at_both, sharing_first, sharing_second, shares, counted_first}
+use Rattle.moc_operations.proofs.Walking.{IsCounting, at_both, sharing_first, sharing_second, common_is_positive, counted_first}
 use Rattle.moc_operations.proofs.Walking.{counted_second, shares_none}
 use Rattle.moc_operations.proofs.comparisons.meets.Goals as goal
 
@@ -19,7 +19,7 @@ loop-first-preserved c =
 pub returns-else-y-x : goal.returns-else-y-x
 returns-else-y-x c =
     let s = at_both c.loop-first.first c.loop-first.second c.in-Some.x c.in-Some-second.y c.loop-first.xs c.loop-first.ys (λ xs ys. IsCounting 0 xs ys c.args.xs c.args.ys) c.in-Some.is c.in-Some-second.is c.loop-first.invariant in
-    shares _ _ _ _ _ _ s c.if-x-y.false c.if-y-x.false
+    common_is_positive _ _ _ _ _ _ s c.if-x-y.false c.if-y-x.false
 
 pub returns : goal.returns
 returns c = shares_none _ (counted_first 0 c.loop-first.xs (from_current c.loop-first.second c.loop-first.ys) c.args.xs c.args.ys c.loop-first.first c.loop-first.invariant c.in_default.is)

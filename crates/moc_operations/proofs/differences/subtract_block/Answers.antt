@@ -1,7 +1,7 @@
 use Rattle.std.proofs.Common.{◌∙◌, subst, sym, arith}
 use Rattle.moc_blocks.specs.RangeList.{IsNormal}
 use Rattle.moc_operations.specs.Private.Meeting.{gaps_before, gaps_of, end_of}
-use Rattle.moc_operations.proofs.MeetingOn.{met_begun, met_here, rest_is, rest_normal, rest_shorter}
+use Rattle.moc_operations.proofs.MeetingOn.{intersects_from_start, intersects_at_range, rest_is, rest_normal, rest_shorter}
 use Rattle.moc_operations.proofs.GapsOf.{length_gaps, gaps_split, gaps_left}
 use Rattle.moc_operations.proofs.differences.subtract_block.Goals as goal
 
@@ -11,7 +11,7 @@ push_all-requires c =
     let second = c.in-Some-next_block.second in
     let low = c.args.low.now in
     record {
-      normal = (met_here first.ranges.now (gaps_before low second.ranges.now) first.tail (gaps_of (end_of low second.ranges.now) second.tail) _ _ _ _ c.intersect_ranges-met.result.first c.intersect_ranges-met.result.second
+      normal = (intersects_at_range first.ranges.now (gaps_before low second.ranges.now) first.tail (gaps_of (end_of low second.ranges.now) second.tail) _ _ _ _ c.intersect_ranges-met.result.first c.intersect_ranges-met.result.second
           c.in-Some.ensures.0 (sym (gaps_split low second.ranges.now second.tail c.args.ys.now c.in-Some-next_block.ensures.0)) c.requires.can c.intersect_ranges-met.ensures.met).can.built;
     }
 
@@ -30,7 +30,7 @@ returns-clause-met c =
     let second = c.in-Some-next_block.second in
     let place = c.intersect_ranges-met.result.second in
     let is_ys = c.resume-2.ensures ∙ rest_is second.ranges.now second.tail place in
-    met_begun first.ranges.now (gaps_before c.args.low.now second.ranges.now) first.tail (gaps_of (end_of c.args.low.now second.ranges.now) second.tail) _ _ _ _ _ _ _ c.intersect_ranges-met.result.first place
+    intersects_from_start first.ranges.now (gaps_before c.args.low.now second.ranges.now) first.tail (gaps_of (end_of c.args.low.now second.ranges.now) second.tail) _ _ _ _ _ _ _ c.intersect_ranges-met.result.first place
     c.in-Some.ensures.0 (sym (gaps_split c.args.low.now second.ranges.now second.tail c.args.ys.now c.in-Some-next_block.ensures.0)) c.requires.can
     c.intersect_ranges-met.ensures.met (c.resume.ensures ∙ rest_is first.ranges.now _ c.intersect_ranges-met.result.first)
     ((λ i. gaps_of (c.low_at.ensures i) (is_ys i)) ∙ sym (gaps_left c.args.low.now second.ranges.now second.tail place)) c.in_ok-push_all.ensures.appended

@@ -1,6 +1,6 @@
 use Rattle.std.proofs.Common.{arith, refl}
 use Rattle.moc_blocks.proofs.Merging.{EndsBelow-more}
-use Rattle.moc_operations.proofs.InCommon.{common_below, common_nothing}
+use Rattle.moc_operations.proofs.InCommon.{common_below, empty_common_range}
 use Rattle.moc_blocks.proofs.Basics.{common_same, from_two_ok}
 use Rattle.moc_operations.proofs.sharing.push_part.Goals as goal
 
@@ -8,7 +8,7 @@ pub returns-then-to-from : goal.returns-then-to-from
 returns-then-to-from c = record {
   built = c.requires.built;
   below = λ f le lt. EndsBelow-more _ f _ c.requires.after le;
-  same = λ q. common_nothing _ _ _ c.args.from c.args.to q refl refl (omega arith);
+  same = λ q. empty_common_range _ _ _ c.args.from c.args.to q refl refl (omega arith);
 }
 
 pub returns : goal.returns

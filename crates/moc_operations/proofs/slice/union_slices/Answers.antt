@@ -5,30 +5,30 @@ use Rattle.moc_blocks.specs.RangeList.{set_of}
 use Rattle.moc_blocks.proofs.Blocking.{none_there}
 use Rattle.moc_blocks.proofs.Basics.{first_item}
 use Rattle.moc_operations.proofs.Views.{union_view}
-use Rattle.moc_operations.proofs.Slices.{or_swap, union_slices_swap, union_slices_settled, union_slices_at, united_few_normal}
-use Rattle.moc_operations.proofs.Slices.{united_few, none_joined, joined_none, union_slices_start}
+use Rattle.moc_operations.proofs.Slices.{or_swap, union_slices_swap, union_slices_settled, union_slices_at, union_of_slices_normal}
+use Rattle.moc_operations.proofs.Slices.{union_of_slices_first_empty, union_with_empty_first, union_with_empty_second, union_slices_start}
 use Rattle.moc_operations.proofs.slice.union_slices.Goals as goal
 
 pub returns-in_default : goal.returns-in_default
 returns-in_default c =
     let none = none_there c.args.xs.now (omega (arith, c.in_default.len_below)) in
-    IfOk-weaker c.copy_list.result _ _ (λ written is. ap set_of is ∙ union_view c.args.xs.now c.args.ys.now c.args.ys.now (none_joined _ _ none)) c.copy_list.ensures
+    IfOk-weaker c.copy_list.result _ _ (λ written is. ap set_of is ∙ union_view c.args.xs.now c.args.ys.now c.args.ys.now (union_with_empty_first _ _ none)) c.copy_list.ensures
 
 pub returns-in_default-ys : goal.returns-in_default-ys
 returns-in_default-ys c =
     let none = none_there c.args.ys.now (omega (arith, c.in_default-ys.len_below)) in
-    IfOk-weaker c.copy_list-in_default-ys.result _ _ (λ written is. ap set_of is ∙ union_view c.args.xs.now c.args.ys.now c.args.xs.now (joined_none _ _ none)) c.copy_list-in_default-ys.ensures
+    IfOk-weaker c.copy_list-in_default-ys.result _ _ (λ written is. ap set_of is ∙ union_view c.args.xs.now c.args.ys.now c.args.xs.now (union_with_empty_second _ _ none)) c.copy_list-in_default-ys.ensures
 
 pub finish-requires : goal.finish-requires
 finish-requires c =
     let none = none_there c.loop-x.rest_xs.now (omega (arith, c.in_default-rest_xs.len_below)) in
-    united_few_normal _ _ _ _ _ c.in_ok-y.y (union_slices_settled _ _ _ _ _ _ c.loop-x.x c.loop-x.y c.in_ok-y.y c.loop-x.invariant c.in_ok-y.ensures) none
+    union_of_slices_normal _ _ _ _ _ c.in_ok-y.y (union_slices_settled _ _ _ _ _ _ c.loop-x.x c.loop-x.y c.in_ok-y.y c.loop-x.invariant c.in_ok-y.ensures) none
 
 pub returns-in_default-rest_xs : goal.returns-in_default-rest_xs
 returns-in_default-rest_xs c =
     let none = none_there c.loop-x.rest_xs.now (omega (arith, c.in_default-rest_xs.len_below)) in
     let s = union_slices_settled _ _ _ _ _ _ c.loop-x.x c.loop-x.y c.in_ok-y.y c.loop-x.invariant c.in_ok-y.ensures in
-    IfOk-weaker c.finish.result _ _ (λ written is. ap set_of is ∙ union_view c.args.xs.now c.args.ys.now _ (united_few _ _ _ _ _ s none)) c.finish.ensures
+    IfOk-weaker c.finish.result _ _ (λ written is. ap set_of is ∙ union_view c.args.xs.now c.args.ys.now _ (union_of_slices_first_empty _ _ _ _ _ s none)) c.finish.ensures
 
 pub loop-x-preserved-then-x-y : goal.loop-x-preserved-then-x-y
 loop-x-preserved-then-x-y c =
@@ -37,13 +37,13 @@ loop-x-preserved-then-x-y c =
 pub finish-requires-in_default-rest_ys : goal.finish-requires-in_default-rest_ys
 finish-requires-in_default-rest_ys c =
     let none = none_there c.loop-x.rest_ys.now (omega (arith, c.in_default-rest_ys.len_below)) in
-    united_few_normal _ _ _ _ _ c.in_ok-x.x (union_slices_settled _ _ _ _ _ _ c.loop-x.y c.loop-x.x c.in_ok-x.x (union_slices_swap _ _ _ _ _ c.loop-x.invariant) c.in_ok-x.ensures) none
+    union_of_slices_normal _ _ _ _ _ c.in_ok-x.x (union_slices_settled _ _ _ _ _ _ c.loop-x.y c.loop-x.x c.in_ok-x.x (union_slices_swap _ _ _ _ _ c.loop-x.invariant) c.in_ok-x.ensures) none
 
 pub returns-in_default-rest_ys : goal.returns-in_default-rest_ys
 returns-in_default-rest_ys c =
     let none = none_there c.loop-x.rest_ys.now (omega (arith, c.in_default-rest_ys.len_below)) in
     let s = union_slices_settled _ _ _ _ _ _ c.loop-x.y c.loop-x.x c.in_ok-x.x (union_slices_swap _ _ _ _ _ c.loop-x.invariant) c.in_ok-x.ensures in
-    IfOk-weaker c.finish-in_default-rest_ys.result _ _ (λ written is. ap set_of is ∙ union_view c.args.xs.now c.args.ys.now _ (λ q. united_few _ _ _ _ _ s none q ∙ or_swap (in_ranges c.args.ys.now q) (in_ranges c.args.xs.now q))) c.finish-in_default-rest_ys.ensures
+    IfOk-weaker c.finish-in_default-rest_ys.result _ _ (λ written is. ap set_of is ∙ union_view c.args.xs.now c.args.ys.now _ (λ q. union_of_slices_first_empty _ _ _ _ _ s none q ∙ or_swap (in_ranges c.args.ys.now q) (in_ranges c.args.xs.now q))) c.finish-in_default-rest_ys.ensures
 
 pub loop-x-preserved : goal.loop-x-preserved
 loop-x-preserved c =

@@ -1,7 +1,7 @@
 use Rattle.std.proofs.Common.{◌<◌, ◌∷◌, [], arith}
 use Rattle.moc_blocks.specs.Private.Blocks.{next_of}
 use Rattle.moc_blocks.proofs.Merging.{ends_next, EndsBelow-more}
-use Rattle.moc_operations.proofs.Differing.{differing_carried, differing_parted}
+use Rattle.moc_operations.proofs.Differing.{symmetric_step_after_move, symmetric_step_after_removal}
 use Rattle.moc_operations.proofs.symmetric_differences.remove_first.Goals as goal
 
 pub next_after_shared-requires : goal.next_after_shared-requires
@@ -15,4 +15,4 @@ next_after_shared-requires c =
 
 pub returns-clause-on : goal.returns-clause-on
 returns-clause-on c = λ ys whole_xs whole_ys s.
-    differing_carried _ _ _ _ _ _ _ c.in_ok-left.left.0 (differing_parted _ _ _ _ _ _ c.args.x c.args.y c.in_ok-left.left s c.in_ok-left.ensures) (omega arith) c.in_ok-next.ensures
+    symmetric_step_after_move _ _ _ _ _ _ _ c.in_ok-left.left.0 (symmetric_step_after_removal _ _ _ _ _ _ c.args.x c.args.y c.in_ok-left.left s c.in_ok-left.ensures) (omega arith) c.in_ok-next.ensures

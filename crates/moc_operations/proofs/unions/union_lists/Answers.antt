@@ -1,7 +1,7 @@
 use Rattle.std.proofs.Common.{◌∙◌, arith, ap}
 use Rattle.std.proofs.lemmas.Result.{IfOk-weaker}
 use Rattle.moc_blocks.specs.RangeList.{set_of}
-use Rattle.moc_operations.proofs.Merging.{none_next, united, uniting_first, uniting_second}
+use Rattle.moc_operations.proofs.Merging.{none_next, union_complete, uniting_first, uniting_second}
 use Rattle.moc_operations.proofs.Turning.{uniting_both}
 use Rattle.moc_operations.proofs.Views.{union_view}
 use Rattle.moc_operations.proofs.Shortening.{over_shorter}
@@ -13,7 +13,7 @@ returns-then-x c =
     let no_first = none_next _ s.first_normal (omega arith) in
     let no_second = none_next _ s.second_normal (omega arith) in
     IfOk-weaker c.finish.result _ _
-    (λ written is. ap set_of is ∙ union_view c.args.xs c.args.ys _ (united _ _ _ _ _ s no_first no_second)) c.finish.ensures
+    (λ written is. ap set_of is ∙ union_view c.args.xs c.args.ys _ (union_complete _ _ _ _ _ s no_first no_second)) c.finish.ensures
 
 pub loop-built-preserved-in-Continue-branch-3 : goal.loop-built-preserved-in-Continue-branch-3
 loop-built-preserved-in-Continue-branch-3 c =

@@ -1,11 +1,11 @@
 use Rattle.std.proofs.Common.{◌-◌, ◌∙◌, arith}
 use Rattle.std.specs.FinSet as set
-use Rattle.moc_parts.proofs.Sums.{kept_less}
+use Rattle.moc_parts.proofs.Sums.{common_count_at_most}
 use Rattle.moc_parts.proofs.ChangedPixels.{dropped_pixels, unchanged_equal}
 use Rattle.moc_parts.proofs.change.intersect_part.Goals as goal
 
 pub overflow_sub-pixels : goal.overflow_sub-pixels
-overflow_sub-pixels c = omega (arith, kept_less c.args.list.now c.args.others.now, c.count_common.ensures.size, c.count.ensures.size)
+overflow_sub-pixels c = omega (arith, common_count_at_most c.args.list.now c.args.others.now, c.count_common.ensures.size, c.count.ensures.size)
 
 pub returns-then-pixels-eq0 : goal.returns-then-pixels-eq0
 returns-then-pixels-eq0 c =

@@ -5,7 +5,7 @@ use Rattle.moc_sphere.specs.CellNumber.{cell_count}
 use Rattle.std.specs.List.{list_any}
 use Rattle.std.proofs.lemmas.List.{take_more}
 use Rattle.moc_sphere.specs.Faces.{face_of}
-use Rattle.moc_parts.proofs.Flags.{inserted, lacking, any-more}
+use Rattle.moc_parts.proofs.Flags.{inserted, no_pixel_in_empty, any-more}
 use Rattle.moc_parts.proofs.footprint.parts_around.Goals as goal
 
 pub of-requires : goal.of-requires
@@ -19,7 +19,7 @@ of-requires c =
 pub loop-index-init : goal.loop-index-init
 loop-index-init c k l =
     inserted c.none-parts.result c.insert.new.self c.part_of_cell.result k c.insert.ensures
-    ∙ (λ i. nat_eq (c.part_of_cell.ensures i) k || lacking c.none-parts.result k c.none-parts.ensures i)
+    ∙ (λ i. nat_eq (c.part_of_cell.ensures i) k || no_pixel_in_empty c.none-parts.result k c.none-parts.ensures i)
 
 pub loop-index-preserved : goal.loop-index-preserved
 loop-index-preserved c k l =

@@ -3,9 +3,9 @@ use Rattle.std.proofs.lemmas.Bool.{cases_lt, cases_eq}
 use Rattle.std.proofs.lemmas.Bool.Decides.{nat_tests}
 use Rattle.std.specs.FinSet as set
 use Rattle.moc_ranges.specs.Operations.{part_of}
-use Rattle.moc_parts.proofs.Members.{clash}
+use Rattle.moc_parts.proofs.Members.{absurd_bool}
 use Rattle.moc_parts.proofs.Counts.{parts_met_empty, parts_met_some}
-use Rattle.moc_parts.proofs.Flags.{inserted, lacking}
+use Rattle.moc_parts.proofs.Flags.{inserted, no_pixel_in_empty}
 use Rattle.moc_parts.proofs.footprint.parts_met.Goals as goal
 
 only_zero : (b : ℕ) (t : Bool) → t ≡ false → (nat_eq 0 b || t) ≡ nat_eq b 0
@@ -15,11 +15,11 @@ pub returns-then-is_empty-clause-parts : goal.returns-then-is_empty-clause-parts
 returns-then-is_empty-clause-parts c b l =
     inserted c.none-parts.result c.insert.new.self c.of.result b c.insert.ensures
     ∙ ap (λ n. nat_eq n b || set.contains c.none-parts.result b) c.of.ensures
-    ∙ only_zero b _ (lacking c.none-parts.result b c.none-parts.ensures)
+    ∙ only_zero b _ (no_pixel_in_empty c.none-parts.result b c.none-parts.ensures)
     ∙ sym (parts_met_empty c.args.operand.now b (c.if-is_empty.ensures.empty.0 refl))
 
 pub loop-b-init : goal.loop-b-init
-loop-b-init c = (omega arith, λ k l. lacking c.none-parts.result k c.none-parts.ensures ∙ none k _)
+loop-b-init c = (omega arith, λ k l. no_pixel_in_empty c.none-parts.result k c.none-parts.ensures ∙ none k _)
   where
     none : (k : ℕ) (t : Bool) → false ≡ (nat_lt k 0 && t)
     none k t = grind (arith, nat_tests)
@@ -31,17 +31,17 @@ hop from b k true le here first = elim (cases_lt k from) [
   | inr ge ↦ let least : b ≤ k = first ge refl in grind (arith, nat_tests)
 ]
 hop from b k false le here first = elim (cases_eq b k) [
-  | inl same ↦ clash false (here same) refl
+  | inl same ↦ absurd_bool false (here same) refl
   | inr apart ↦ grind (arith, nat_tests)
 ]
 
 -- no further part if no part with a pixel remains
-last_hop : (from k : ℕ) (x : Bool) → (from ≤ k → x ≡ true → ⊥) → (nat_lt k from && x) ≡ x
-last_hop from k true none = elim (cases_lt k from) [
+last_skip : (from k : ℕ) (x : Bool) → (from ≤ k → x ≡ true → ⊥) → (nat_lt k from && x) ≡ x
+last_skip from k true none = elim (cases_lt k from) [
   | inl lt ↦ grind (arith, nat_tests)
   | inr ge ↦ absurd (none ge refl)
 ]
-last_hop from k false none = grind (arith, nat_tests)
+last_skip from k false none = grind (arith, nat_tests)
 
 pub loop-b-preserved : goal.loop-b-preserved
 loop-b-preserved c =
@@ -59,5 +59,5 @@ loop-b-preserved c =
 pub returns-clause-parts : goal.returns-clause-parts
 returns-clause-parts c b l =
     c.loop-b.invariant.1 b l
-    ∙ last_hop c.loop-b.from b _ (c.in_default.ensures.first b)
-    ∙ sym (parts_met_some c.args.operand.now b (λ e. clash false (c.if-is_empty.ensures.empty.1 e) refl))
+    ∙ last_skip c.loop-b.from b _ (c.in_default.ensures.first b)
+    ∙ sym (parts_met_some c.args.operand.now b (λ e. absurd_bool false (c.if-is_empty.ensures.empty.1 e) refl))

@@ -7,14 +7,14 @@ use Rattle.moc_sphere.specs.CellNumber.{cell_count, cell_number}
 use Rattle.moc_lists.specs.RangeList.{NumberSet}
 use Rattle.moc_ranges.specs.Cells.{spans, pixels_of}
 use Rattle.moc_parts.specs.Commands.{surroundings}
-use Rattle.moc_parts.proofs.CellSurroundings.{one_cell, one_cell_more}
+use Rattle.moc_parts.proofs.CellSurroundings.{pixels_of_single_index, one_cell_more}
 use Rattle.moc_parts.proofs.surroundings.surroundings_of.Goals as goal
 
 pub loop-index-init : goal.loop-index-init
 loop-index-init c =
     c.in_ok-add_cells.ensures.added
     ∙ (λ i. set.union (c.new-around.ensures i) (spans (c.order-order.ensures i) (c.index.ensures.value i) (c.index-2.ensures.value i)))
-    ∙ one_cell c.args.cell.order c.args.cell.index
+    ∙ pixels_of_single_index c.args.cell.order c.args.cell.index
 
 pub add_cells-requires-in-loop-index : goal.add_cells-requires-in-loop-index
 add_cells-requires-in-loop-index c =

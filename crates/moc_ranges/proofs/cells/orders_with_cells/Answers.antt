@@ -1,5 +1,5 @@
 use Rattle.std.proofs.Common.{subst, List, ℕ, arith, []}
-use Rattle.moc_ranges.proofs.CellOrders.{Scanning, scan_step, scan_end, scan_nothing}
+use Rattle.moc_ranges.proofs.CellOrders.{Scanning, scan_step, scan_end, orders_of_empty_scan}
 use Rattle.moc_ranges.proofs.cells.orders_with_cells.Goals as goal
 
 pub overflow_sub-to : goal.overflow_sub-to
@@ -22,4 +22,4 @@ pub returns-then-widest-eq0 : goal.returns-then-widest-eq0
 returns-then-widest-eq0 c =
     let s = subst (λ (rs : List (ℕ × ℕ)). Scanning c.loop-from.ends c.loop-from.widest rs c.args.ranges) c.in-None.ensures.steps.0 c.loop-from.invariant.scanning in
     let nothing = subst (λ (w : ℕ). Scanning c.loop-from.ends w [] c.args.ranges) c.if-widest-eq0.true s in
-    scan_nothing c.loop-from.ends c.args.ranges nothing c.requires
+    orders_of_empty_scan c.loop-from.ends c.args.ranges nothing c.requires

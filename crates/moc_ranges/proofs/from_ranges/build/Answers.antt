@@ -1,7 +1,7 @@
 use Rattle.std.proofs.Common.{◌∙◌, ◌-◌, take, drop, length, get_or, ap, sym, arith}
 use Rattle.std.proofs.lemmas.Result.{IfOk-weaker}
 use Rattle.std.proofs.lemmas.List.{drop_more, drop_all}
-use Rattle.moc_blocks.proofs.Building.{open_filled, open_within, open_after}
+use Rattle.moc_blocks.proofs.Building.{last_open_nonempty, open_within, open_after}
 use Rattle.moc_ranges.proofs.Building.{lengthened_start, lengthened_more, lengthened_all, lengthened_next}
 use Rattle.moc_blocks.proofs.Basics.{first_item}
 use Rattle.moc_ranges.proofs.Views.{same_view}
@@ -20,7 +20,7 @@ loop-pair-preserved c =
     lengthened_more _ _ _ _ _ _ _ (get_or others c.loop-pair.pair-index (0, 0)) c.loop-pair.invariant (drop_more others c.loop-pair.pair-index (0, 0) c.loop-pair-test.true) c.in_ok-last.ensures.opened c.in_ok-last.ensures.later c.in_ok-last.ensures.same
 
 pub push-requires-clause-filled : goal.push-requires-clause-filled
-push-requires-clause-filled c = open_filled _ c.loop-pair.last c.loop-pair.invariant.opened
+push-requires-clause-filled c = last_open_nonempty _ c.loop-pair.last c.loop-pair.invariant.opened
 
 pub push-requires-clause-within : goal.push-requires-clause-within
 push-requires-clause-within c = open_within _ c.loop-pair.last c.loop-pair.invariant.opened

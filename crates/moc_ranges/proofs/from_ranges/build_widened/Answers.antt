@@ -3,15 +3,15 @@ use Rattle.std.proofs.lemmas.Result.{IfOk-weaker}
 use Rattle.moc_blocks.specs.RangeList.{IsNormal, set_of}
 use Rattle.moc_ranges.specs.Private.Widen.{widen}
 use Rattle.moc_blocks.specs.Private.Built.{ranges_of}
-use Rattle.moc_blocks.proofs.Building.{open_filled, open_within, open_after}
+use Rattle.moc_blocks.proofs.Building.{last_open_nonempty, open_within, open_after}
 use Rattle.moc_ranges.proofs.Building.{lengthened_start, lengthened_more, lengthened_all}
 use Rattle.moc_ranges.proofs.Views.{same_view}
 use Rattle.moc_ranges.proofs.Widening.{size_sorted}
 use Rattle.moc_ranges.proofs.from_ranges.build_widened.Goals as goal
 
 -- the next range after widening
-come : (xs rest : List (ℕ × ℕ)) (range wide : ℕ × ℕ) (size : ℕ) → xs ≡ range ∷ rest → wide ≡ widen size range → map (widen size) xs ≡ wide ∷ map (widen size) rest
-come xs rest range wide size steps is = ap (map (widen size)) steps ∙ ap (λ (r : ℕ × ℕ). r ∷ map (widen size) rest) (sym is)
+widened_first : (xs rest : List (ℕ × ℕ)) (range wide : ℕ × ℕ) (size : ℕ) → xs ≡ range ∷ rest → wide ≡ widen size range → map (widen size) xs ≡ wide ∷ map (widen size) rest
+widened_first xs rest range wide size steps is = ap (map (widen size)) steps ∙ ap (λ (r : ℕ × ℕ). r ∷ map (widen size) rest) (sym is)
 
 pub loop-from-init : goal.loop-from-init
 loop-from-init c =
@@ -23,7 +23,7 @@ loop-from-init c =
     record {
       continues = (tt, tt);
       normal = normal.3;
-      joined = lengthened_start _ (map (widen w) c.into_iter-from-iterator.result) (map (widen w) c.args.ranges) c.widen_range-last.result (ap ranges_of c.in_ok-built.ensures) (size_sorted w c.args.ranges c.requires.size c.requires.ranges) (come c.args.ranges c.into_iter-from-iterator.result range c.widen_range-last.result w steps c.widen_range-last.ensures);
+      joined = lengthened_start _ (map (widen w) c.into_iter-from-iterator.result) (map (widen w) c.args.ranges) c.widen_range-last.result (ap ranges_of c.in_ok-built.ensures) (size_sorted w c.args.ranges c.requires.size c.requires.ranges) (widened_first c.args.ranges c.into_iter-from-iterator.result range c.widen_range-last.result w steps c.widen_range-last.ensures);
     }
 
 pub loop-from-preserved : goal.loop-from-preserved
@@ -34,11 +34,11 @@ loop-from-preserved c =
     record {
       continues = (tt, tt);
       normal = normal.3;
-      joined = lengthened_more _ _ (map (widen w) c.loop-from.from-iterator) (map (widen w) c.next-in-loop-from.new.self) (map (widen w) c.args.ranges) _ _ c.widen_range-next.result c.loop-from.invariant.joined (come c.loop-from.from-iterator c.next-in-loop-from.new.self range c.widen_range-next.result w c.in-Some-2.ensures.steps c.widen_range-next.ensures) c.in_ok-last.ensures.opened c.in_ok-last.ensures.later c.in_ok-last.ensures.same;
+      joined = lengthened_more _ _ (map (widen w) c.loop-from.from-iterator) (map (widen w) c.next-in-loop-from.new.self) (map (widen w) c.args.ranges) _ _ c.widen_range-next.result c.loop-from.invariant.joined (widened_first c.loop-from.from-iterator c.next-in-loop-from.new.self range c.widen_range-next.result w c.in-Some-2.ensures.steps c.widen_range-next.ensures) c.in_ok-last.ensures.opened c.in_ok-last.ensures.later c.in_ok-last.ensures.same;
     }
 
 pub push-requires-clause-filled : goal.push-requires-clause-filled
-push-requires-clause-filled c = open_filled _ c.loop-from.last c.loop-from.invariant.joined.opened
+push-requires-clause-filled c = last_open_nonempty _ c.loop-from.last c.loop-from.invariant.joined.opened
 
 pub push-requires-clause-within : goal.push-requires-clause-within
 push-requires-clause-within c = open_within _ c.loop-from.last c.loop-from.invariant.joined.opened

@@ -5,8 +5,8 @@ use Rattle.std.proofs.lemmas.List.Elements.{All-push}
 use Rattle.std.proofs.lemmas.List.Sorted.{IsNonDecreasingBy-from_sort_by_key, All-permutation}
 use Rattle.moc_blocks.specs.RangeList.{pixel_count}
 use Rattle.moc_blocks.specs.Lemmas.Members.{in_ranges, in_range}
-use Rattle.moc_ranges.proofs.Sorting.{IsSortedFrom-sorted, in_ranges-permutation, in_ranges-push, not_faulty, skipped}
-use Rattle.moc_ranges.proofs.Sorting.{rising_push, starts_push}
+use Rattle.moc_ranges.proofs.Sorting.{IsSortedFrom-sorted, in_ranges-permutation, in_ranges-push, pair_within_sky, in_ranges_without_empty}
+use Rattle.moc_ranges.proofs.Sorting.{sorted_push, starts_push}
 use Rattle.moc_ranges.proofs.from_ranges.sort_nonempty.Goals as goal
 use Rattle.moc_ranges.proofs.from_ranges.sort_nonempty.Goals.{then-pair+in_ok-push, else-pair, then-ascending}
 use Rattle.moc_ranges.proofs.from_ranges.sort_nonempty.Goals.{else-ascending, then-not-ascending, else-not-ascending}
@@ -23,19 +23,19 @@ loop-pair-preserved c =
           let items = ap (λ v. v.items) w.filled-is ∙ w.in_ok-push.ensures.items in
           record {
             same = λ q. ap (λ (rs : List (ℕ × ℕ)). in_ranges rs q) items ∙ in_ranges-push c.loop-pair.filled.items pair q ∙ ap (λ b. b || in_range pair q) (inv.same q) ∙ sym (in_ranges-push (take k pairs) pair q) ∙ ap (λ (rs : List (ℕ × ℕ)). in_ranges rs q) (sym next);
-            good = subst (λ (rs : List (ℕ × ℕ)). All (λ r. (r.0 < r.1) × (r.1 ≤ pixel_count)) rs) (sym items) (All-push (λ r. (r.0 < r.1) × (r.1 ≤ pixel_count)) c.loop-pair.filled.items pair inv.good (w.if-pair.true, not_faulty 0 pairs k c.requires c.loop-pair-test.true));
+            good = subst (λ (rs : List (ℕ × ℕ)). All (λ r. (r.0 < r.1) × (r.1 ≤ pixel_count)) rs) (sym items) (All-push (λ r. (r.0 < r.1) × (r.1 ≤ pixel_count)) c.loop-pair.filled.items pair inv.good (w.if-pair.true, pair_within_sky 0 pairs k c.requires c.loop-pair-test.true));
             ascending = λ yes.
                 let tests : (c.loop-pair.ascending ≡ true) × (c.loop-pair.last ≤ pair.0) = elim w.if-ascending.branch [
                   | then-ascending r ↦ (r.if-ascending.true, leb-true c.loop-pair.last pair.0 (sym r.ascending-is ∙ sym w.ascending-is ∙ yes))
                   | else-ascending r ↦ absurd (false≢true (sym r.if-ascending.false ∙ sym r.ascending-is ∙ sym w.ascending-is ∙ yes))
                 ] in
                 let old = inv.ascending tests.0 in
-                rw (items, w.last-is) (rising_push 0 c.loop-pair.last c.loop-pair.filled.items pair old.0 old.1 tests.1 (omega arith) w.if-pair.true (not_faulty 0 pairs k c.requires c.loop-pair-test.true), starts_push c.loop-pair.last c.loop-pair.filled.items pair old.1 tests.1);
+                rw (items, w.last-is) (sorted_push 0 c.loop-pair.last c.loop-pair.filled.items pair old.0 old.1 tests.1 (omega arith) w.if-pair.true (pair_within_sky 0 pairs k c.requires c.loop-pair-test.true), starts_push c.loop-pair.last c.loop-pair.filled.items pair old.1 tests.1);
           }
       | else-pair w ↦
           let items = ap (λ v. v.items) w.filled-is in
           record {
-            same = λ q. ap (λ (rs : List (ℕ × ℕ)). in_ranges rs q) items ∙ inv.same q ∙ sym (skipped (take k pairs) pair q w.if-pair.false) ∙ ap (λ (rs : List (ℕ × ℕ)). in_ranges rs q) (sym next);
+            same = λ q. ap (λ (rs : List (ℕ × ℕ)). in_ranges rs q) items ∙ inv.same q ∙ sym (in_ranges_without_empty (take k pairs) pair q w.if-pair.false) ∙ ap (λ (rs : List (ℕ × ℕ)). in_ranges rs q) (sym next);
             good = subst (λ (rs : List (ℕ × ℕ)). All (λ r. (r.0 < r.1) × (r.1 ≤ pixel_count)) rs) (sym items) inv.good;
             ascending = λ yes. rw (items, w.last-is) (inv.ascending (sym w.ascending-is ∙ yes));
           }

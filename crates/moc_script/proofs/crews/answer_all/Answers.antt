@@ -4,7 +4,7 @@ use Rattle.moc_text.specs.Lines.{lines_of}
 use Rattle.moc_script.specs.Crews.{nonblank_lines}
 use Rattle.moc_script.specs.Private.Gathering.{IsLanesError}
 use Rattle.moc_script.specs.Private.Joining.{AreCrewAnswers}
-use Rattle.moc_script.proofs.Gathered.{first_named, passed_on}
+use Rattle.moc_script.proofs.Gathered.{first_named, error_passed_to_step}
 use Rattle.moc_script.proofs.crews.answer_all.Goals as goal
 
 pub unreachable-requires : goal.unreachable-requires
@@ -23,7 +23,7 @@ close_map-requires g c = record {
 pub returns-in_err-outputs-clause-line : goal.returns-in_err-outputs-clause-line
 returns-in_err-outputs-clause-line g c =
     let error = c.in_err-outputs.field-0.0 in
-    passed_on c.from_residual-in_err-outputs.result error (IsLanesError c.args.input.now) c.from_residual-in_err-outputs.ensures.1
+    error_passed_to_step c.from_residual-in_err-outputs.result error (IsLanesError c.args.input.now) c.from_residual-in_err-outputs.ensures.1
     (first_named c.in-Ok.map c.get-lanes.result c.args.input.now c.in_ok-ends.ends.items error c.in_ok-ends.ensures.ends c.in_err-outputs.ensures.first)
 
 pub returns-in-Err-clause-line : goal.returns-in-Err-clause-line

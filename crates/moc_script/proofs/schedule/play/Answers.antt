@@ -9,8 +9,8 @@ use Rattle.moc_script.specs.Schedules.{Schedule, schedule_rules}
 use Rattle.moc_script.proofs.schedule.play.Goals as goal
 
 -- nothing was read or written
-unstarted : {S : Type 0} (limit : ℕ) (rules : Rules S) (s : S) (a : SourceState) (w : SinkState) → Runs limit rules s a a w w (Err (Memory 0))
-unstarted limit rules s a w = record {
+fails_before_start : {S : Type 0} (limit : ℕ) (rules : Rules S) (s : S) (a : SourceState) (w : SinkState) → Runs limit rules s a a w w (Err (Memory 0))
+fails_before_start limit rules s a w = record {
   input = [];
   output = [];
   delivered = Delivers-nil a;
@@ -20,7 +20,7 @@ unstarted limit rules s a w = record {
 }
 
 pub returns-in_default-clause-plays : goal.returns-in_default-clause-plays
-returns-in_default-clause-plays g c = unstarted _ _ _ _ _
+returns-in_default-clause-plays g c = fails_before_start _ _ _ _ _
 
 pub returns : goal.returns
 returns g c = record {

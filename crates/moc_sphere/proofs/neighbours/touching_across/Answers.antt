@@ -1,7 +1,7 @@
 use Rattle.std.proofs.Common.{◌≡◌, ◌<◌, sym, subst, arith, ◌∙◌}
 use Rattle.moc_sphere.specs.CellNumber.{cell_count}
 use Rattle.moc_sphere.specs.Private.Sides.{IsAtStep}
-use Rattle.moc_sphere.proofs.Search.{Found, found_none, found_skip, found_some, touch_from_found}
+use Rattle.moc_sphere.proofs.Search.{Found, no_range_contains, found_skip, found_some, found_iff_touches}
 use Rattle.moc_sphere.proofs.FaceBounds.{index_below}
 use Rattle.moc_sphere.proofs.neighbours.touching_across.Goals as goal
 use Rattle.moc_sphere.proofs.neighbours.touching_across.Goals.{then-step-ne4+in-Some, then-step-ne4+in_default, else-step-ne4}
@@ -10,14 +10,14 @@ use Rattle.moc_sphere.proofs.neighbours.touching_across.Goals.{then-step-ne4+in-
 in_range : (c : goal.After-loop-step) → c.args.cell.index < cell_count c.args.cell.order
 in_range c = index_below c.args.cell.order c.args.cell.index (subst (λ f. f < 12) (sym c.requires.place.face) c.requires.face)
 
-all_found : (c : goal.After-loop-step) → Found c.args.cell.order c.args.cell.index 9 c.loop-step.cells.items
-all_found c =
+all_touching_found : (c : goal.After-loop-step) → Found c.args.cell.order c.args.cell.index 9 c.loop-step.cells.items
+all_touching_found c =
     let nine : c.loop-step.step ≡ 9 = omega arith in
     subst (λ t. Found c.args.cell.order c.args.cell.index t c.loop-step.cells.items) nine c.loop-step.invariant.found
 
 pub returns-clause-touch : goal.returns-clause-touch
 returns-clause-touch c =
-    touch_from_found c.args.cell.order c.args.cell.index c.loop-step.cells.items (in_range c) (all_found c)
+    found_iff_touches c.args.cell.order c.args.cell.index c.loop-step.cells.items (in_range c) (all_touching_found c)
 
 pub loop-step-preserved : goal.loop-step-preserved
 loop-step-preserved c =
@@ -36,7 +36,7 @@ loop-step-preserved c =
       | then-step-ne4+in_default w ↦
           rw w.cells-is (record {
             room = c.loop-step.invariant.room;
-            found = found_none k i d c.loop-step.cells.items f w.if-step-ne4.true w.in_default.ensures;
+            found = no_range_contains k i d c.loop-step.cells.items f w.if-step-ne4.true w.in_default.ensures;
           })
       | else-step-ne4 w ↦
           rw w.cells-is (record {

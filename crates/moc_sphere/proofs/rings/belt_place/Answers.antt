@@ -1,10 +1,10 @@
 use Rattle.std.proofs.Common.{◌+◌, ◌*◌, ◌-◌, ◌^◌, sym}
-use Rattle.moc_sphere.proofs.RingPlaces.{belt_falls, belt_by_shifts, with_face}
+use Rattle.moc_sphere.proofs.RingPlaces.{belt_column_bounded, belt_by_shifts, with_face}
 use Rattle.moc_sphere.proofs.rings.belt_place.Goals as goal
 
 pub overflow_sub-descending : goal.overflow_sub-descending
 overflow_sub-descending c =
-    belt_falls c.args.order c.get-k.result c.nside-n.result c.args.place c.get-k.ensures.value c.nside-n.ensures.value c.requires
+    belt_column_bounded c.args.order c.get-k.result c.nside-n.result c.args.place c.get-k.ensures.value c.nside-n.ensures.value c.requires
 
 pub face_of_strips-requires : goal.face_of_strips-requires
 face_of_strips-requires c =

@@ -4,8 +4,8 @@ use Rattle.std.proofs.lemmas.Grind.{common_steps}
 use Rattle.std.proofs.lemmas.Nat.{div_below, le-div}
 use Rattle.moc_sphere.proofs.rings.quarter_of.Goals as goal
 
-rest : (q place row : ℕ) → q ≡ place / row → place - q * row ≡ place % row
-rest q place row e = rw e (omega (arith, div-add-mod' place row))
+remainder_of_quarter : (q place row : ℕ) → q ≡ place / row → place - q * row ≡ place % row
+remainder_of_quarter q place row e = rw e (omega (arith, div-add-mod' place row))
 
 pub returns-clause-quarter : goal.returns-clause-quarter
 returns-clause-quarter c =
@@ -26,4 +26,4 @@ returns-clause-quarter c =
 
 pub returns-clause-place : goal.returns-clause-place
 returns-clause-place c =
-    rest (c.from.result + c.from-2.result + c.from-3.result) c.args.place c.args.row (returns-clause-quarter c)
+    remainder_of_quarter (c.from.result + c.from-2.result + c.from-3.result) c.args.place c.args.row (returns-clause-quarter c)

@@ -1,7 +1,7 @@
 use Rattle.std.proofs.Common.{ℕ, List, [], ◌∷◌, ◌++◌, append-nil, append_assoc, sym, ap, ◌∙◌}
 use Rattle.std.specs.FinSet as set
 use Rattle.moc_parts.specs.Batches.{footprint_of_all}
-use Rattle.moc_steps.proofs.Batches.{those_alike, all_rising, all_of_them}
+use Rattle.moc_steps.proofs.Batches.{those_congruence, ascending_parts, parts_of_footprint}
 use Rattle.moc_steps.proofs.midway.parts_of.Goals as goal
 
 pub loop-part-init : goal.loop-part-init
@@ -21,6 +21,6 @@ returns c =
     ∙ ap (λ (bs : List ℕ). c.loop-part.parts.items ++ bs) (sym c.in-None.ensures.steps.0)
     ∙ c.loop-part.invariant
     ∙ c.into_iter-part-iterator.ensures.into_iter_gives
-    ∙ all_rising footprint
-    ∙ those_alike (set.contains footprint) (footprint_of_all c.args.batch.now) 12 c.footprint-part-items.ensures.parts
-    ∙ all_of_them c.args.batch.now
+    ∙ ascending_parts footprint
+    ∙ those_congruence (set.contains footprint) (footprint_of_all c.args.batch.now) 12 c.footprint-part-items.ensures.parts
+    ∙ parts_of_footprint c.args.batch.now

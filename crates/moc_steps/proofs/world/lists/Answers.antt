@@ -6,15 +6,15 @@ use Rattle.std.proofs.lemmas.List.{get_or-map}
 use Rattle.moc_lists.specs.RangeList.{NumberSet}
 use Rattle.moc_steps.specs.Private.ClientState.{contents_of}
 use Rattle.moc_steps.proofs.Basics.{get_set_same, get_set_other, length_set, length-map}
-use Rattle.moc_steps.proofs.Loops.{filled_none, filled_next, twelve_nones, copied-at, copied_all, previous_copied}
+use Rattle.moc_steps.proofs.Loops.{entries_unchanged_from_start, entries_unchanged_next, twelve_nones, copied-at, copied_all, previous_copied}
 use Rattle.moc_steps.proofs.world.lists.Goals as goal
 
-noted : (sets : List NumberSet) → contents_of (map (λ s. Some s) sets) ≡ sets
-noted [] = refl
-noted (s ∷ sets) = ap (λ xs. s ∷ xs) (noted sets)
+contents_of_some : (sets : List NumberSet) → contents_of (map (λ s. Some s) sets) ≡ sets
+contents_of_some [] = refl
+contents_of_some (s ∷ sets) = ap (λ xs. s ∷ xs) (contents_of_some sets)
 
 pub loop-b-init : goal.loop-b-init
-loop-b-init c = (refl, filled_none (map (λ s. Some s) c.args.parts.now) (None ∷ None ∷ None ∷ None ∷ None ∷ None ∷ None ∷ None ∷ None ∷ None ∷ None ∷ None ∷ []) twelve_nones)
+loop-b-init c = (refl, entries_unchanged_from_start (map (λ s. Some s) c.args.parts.now) (None ∷ None ∷ None ∷ None ∷ None ∷ None ∷ None ∷ None ∷ None ∷ None ∷ None ∷ None ∷ []) twelve_nones)
 
 pub loop-b-preserved : goal.loop-b-preserved
 loop-b-preserved c =
@@ -25,7 +25,7 @@ loop-b-preserved c =
     let ys : List (Option (Bor NumberSet)) = set_at xs b (Some c.list.result) in
     let low : b < 12 = subst (λ n. b < n) c.requires c.loop-b-test.true in (
       length_set xs b (Some c.list.result) ∙ c.loop-b.invariant.0,
-      filled_next (map some parts) (map option_copied xs) (map option_copied ys) b c.loop-b.invariant.1
+      entries_unchanged_next (map some parts) (map option_copied xs) (map option_copied ys) b c.loop-b.invariant.1
           (copied-at ys b ∙ ap option_copied (get_set_same xs b (Some c.list.result) None (subst (λ n. b < n) (sym c.loop-b.invariant.0) low))
           ∙ ap some (c.list.ensures ∙ c.index-parts-b.is) ∙ sym (get_or-map some parts b c.index-parts-b.result None c.loop-b-test.true))
           (λ k d. copied-at ys k ∙ ap option_copied (get_set_other xs b k (Some c.list.result) None d) ∙ sym (copied-at xs k)),
@@ -40,4 +40,4 @@ returns c =
     previous_copied xs
     ∙ ap contents_of (copied_all xs taken_lists c.loop-b.invariant.0 (length-map (λ s. Some s) c.args.parts.now ∙ c.requires)
     (subst (λ n. (k : ℕ) → get_or (map option_copied xs) k None ≡ cond (nat_lt k n) (get_or taken_lists k None) None) at c.loop-b.invariant.1))
-    ∙ noted c.args.parts.now
+    ∙ contents_of_some c.args.parts.now

@@ -1,7 +1,7 @@
 use Rattle.std.proofs.Common.{◌≡◌, ◌+◌, arith, length-set}
 use Rattle.std.specs.Prelude.{decimal}
 use Rattle.std.proofs.lemmas.Fmt.{length-decimal-le}
-use Rattle.moc_text.proofs.Buffering.{number_behind}
+use Rattle.moc_text.proofs.Buffering.{bytes_before_number}
 use Rattle.moc_text.proofs.text_writer.write_number.Goals as goal
 
 pub overflow_add-end-2 : goal.overflow_add-end-2
@@ -16,7 +16,7 @@ returns-clause-written c =
     let w = c.write_digits in
     let start : w.result ≡ c.args.at + 1 = omega (arith, w.ensures.start, c.digit_count.ensures) in
     let end = c.args.at + 1 + c.digit_count.result in
-    number_behind c.args.at end c.args.before (decimal c.args.number) c.args.buffer.now w.new.buf (omega (arith, c.told-buffer)) (omega (arith, c.digit_count.ensures))
+    bytes_before_number c.args.at end c.args.before (decimal c.args.number) c.args.buffer.now w.new.buf (omega (arith, c.told-buffer)) (omega (arith, c.digit_count.ensures))
     (rw start at w.ensures.before) (rw start at w.ensures.written)
 
 pub returns-clause-within : goal.returns-clause-within

@@ -2,7 +2,7 @@ use Rattle.std.proofs.Common.{◌≡◌, ◌∙◌, ap, arith, false, inl, inr, 
 use Rattle.std.proofs.lemmas.Grind.{common_steps}
 use Rattle.std.proofs.lemmas.Result.{IfErr-weaker, IfOk-weaker}
 use Rattle.moc_forms.specs.Combining.{are_blanks}
-use Rattle.moc_conversion.proofs.Combinations.{blanks_add_nothing, last_fails, last_valid}
+use Rattle.moc_conversion.proofs.Combinations.{blanks_are_ignored, last_fails, last_valid}
 use Rattle.moc_conversion.proofs.combination.Combination.finish.Goals as goal
 
 pub returns-in_default-clause-error : goal.returns-in_default-clause-error
@@ -19,7 +19,7 @@ pub returns-then-is_blank-clause-represents : goal.returns-then-is_blank-clause-
 returns-then-is_blank-clause-represents c =
     let before : c.args.self.now.before ≡ Some c.in-Some.before = sym c.take.ensures.value ∙ c.in-Some.is in
     let blank : are_blanks c.args.self.now.text.items ≡ true = ap are_blanks (sym c.deref.ensures.value) ∙ sym c.is_blank.ensures ∙ c.if-is_blank.true in
-    blanks_add_nothing c.args.self.now c.in-Some.before c.requires before blank
+    blanks_are_ignored c.args.self.now c.in-Some.before c.requires before blank
 
 pub returns-clause-error : goal.returns-clause-error
 returns-clause-error c =

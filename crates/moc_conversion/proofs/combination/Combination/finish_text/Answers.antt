@@ -1,6 +1,6 @@
 use Rattle.std.proofs.Common.{◌≤◌, arith, inl, refl}
 use Rattle.moc_conversion.specs.Combining.{count_limit}
-use Rattle.moc_conversion.proofs.Checks.{passed_on}
+use Rattle.moc_conversion.proofs.Checks.{error_passed_to_result}
 use Rattle.moc_conversion.proofs.Combinations.{finished_text_fails, finishes_text, too_many}
 use Rattle.moc_conversion.proofs.combination.Combination.finish_text.Goals as goal
 
@@ -16,5 +16,5 @@ returns-in_default-clause-error c =
 
 pub returns-in_err-parsed-clause-error : goal.returns-in_err-parsed-clause-error
 returns-in_err-parsed-clause-error c =
-    passed_on c.from_residual.result c.in_err-parsed.field-0.0 _ c.from_residual.ensures.1
+    error_passed_to_result c.from_residual.result c.in_err-parsed.field-0.0 _ c.from_residual.ensures.1
     (finished_text_fails c.args.self.now _ c.requires c.in_err-parsed.ensures.reported)

@@ -2,7 +2,7 @@ use Rattle.std.proofs.Common.{◌≡◌, ◌⊎◌, ◌∙◌, ◌∷◌, ◌++�
 use Rattle.std.proofs.lemmas.Result.{IfErr-weaker, on_ok_weaker}
 use Rattle.moc_conversion.specs.Private.Pieces.{semicolon}
 use Rattle.moc_conversion.specs.Private.Running.{AreRejected, FailsWithin, Processes}
-use Rattle.moc_conversion.proofs.Checks.{passed_on}
+use Rattle.moc_conversion.proofs.Checks.{error_passed_to_result}
 use Rattle.moc_conversion.proofs.Combinations.{fails_later, processes_both, rejected_later}
 use Rattle.moc_conversion.proofs.combination.Combination.push_bytes.Goals as goal
 
@@ -27,7 +27,7 @@ returns-in_err-extend-clause-error c =
     let following = c.in-Some.following.now in
     let reported = c.in_err-extend.field-0.0 in
     let all : c.args.bytes.now ≡ processed ++ (part ++ 59 ∷ following) = c.loop-part.invariant.1.1 ∙ ap (λ rest. processed ++ rest) c.in-Some.ensures.1 in
-    passed_on c.from_residual.result reported _ c.from_residual.ensures.1
+    error_passed_to_result c.from_residual.result reported _ c.from_residual.ensures.1
     (inl (subst (λ (bytes : List ℕ). AreRejected c.args.self.now bytes reported) (sym all)
     (rejected_later c.args.self.now _ processed part (59 ∷ following) reported c.loop-part.invariant.1.2 c.in_err-extend.ensures.error)))
 
@@ -39,7 +39,7 @@ returns-in_err-finish_text-clause-error c =
     let reported = c.in_err-finish_text.field-0.0 in
     let all : c.args.bytes.now ≡ (processed ++ part) ++ (semicolon ++ following) =
     c.loop-part.invariant.1.1 ∙ ap (λ rest. processed ++ rest) c.in-Some.ensures.1 ∙ sym (append_assoc processed part (59 ∷ following)) in
-    passed_on c.from_residual-in_err-finish_text.result reported _ c.from_residual-in_err-finish_text.ensures.1
+    error_passed_to_result c.from_residual-in_err-finish_text.result reported _ c.from_residual-in_err-finish_text.ensures.1
     (subst (λ (bytes : List ℕ). AreRejected c.args.self.now bytes reported ⊎ FailsWithin c.args.self.now bytes reported) (sym all)
     (fails_later c.args.self.now _ (processed ++ part) semicolon following reported (processes_both _ _ _ _ _ c.loop-part.invariant.1.2 c.in_ok-extend.ensures.processes)
     c.in_err-finish_text.ensures.error))

@@ -3,7 +3,7 @@ use Rattle.std.proofs.Common.{◌≡◌, ◌∙◌, ◌+◌, ◌++◌, ℕ, List
 use Rattle.std.specs.List.{count_by, position_or_len}
 use Rattle.moc_text.specs.Lines.{is_line_feed}
 use Rattle.moc_lines.specs.Private.Input.{IsScriptState}
-use Rattle.moc_lines.proofs.WholeReading.{after_last_feed, script_unfinished, script_too_long, script_lines, script_more, no_feed}
+use Rattle.moc_lines.proofs.WholeReading.{after_last_feed, script_unfinished, script_too_long, script_lines, script_more, no_line_feed_until_end}
 use Rattle.moc_lines.proofs.reading.Script.add.Goals as goal
 
 pub returns-then-first_or_len-before-clause-fails : goal.returns-then-first_or_len-before-clause-fails
@@ -37,7 +37,7 @@ returns-in_default-memrchr-clause-held c =
     let bytes = c.args.self.now.bytes in
     let start : ℕ = c.args.self.now.start in
     let place : c.first_or_len.result ≡ position_or_len is_line_feed c.args.chunk.now = c.first_or_len.ensures.value in
-    let none = no_feed c.args.chunk.now (λ k low is. c.in_default-memrchr.ensures k (omega arith) low is) in
+    let none = no_line_feed_until_end c.args.chunk.now (λ k low is. c.in_default-memrchr.ensures k (omega arith) low is) in
     subst (λ (b : List ℕ). IsScriptState b start) (sym c.in-Ok.ensures.items)
     (script_more bytes.items c.args.chunk.now start c.requires.held none
     (omega (arith, c.if-first_or_len-before.false, length-drop start bytes.items, c.len-before.ensures, bytes.ok, place, c.requires.held.inside, c.requires.held.short)))

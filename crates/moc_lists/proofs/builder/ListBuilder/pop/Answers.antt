@@ -1,5 +1,5 @@
-use Rattle.moc_blocks.proofs.Building.{prefix_built}
+use Rattle.moc_blocks.proofs.Building.{builder_state_of_prefix}
 use Rattle.moc_lists.proofs.builder.ListBuilder.pop.Goals as goal
 
 pub invariant_of-self : goal.invariant_of-self
-invariant_of-self c = prefix_built _ _ _ _ _ c.self.invariant c.pop.ensures.items
+invariant_of-self c = builder_state_of_prefix _ _ _ _ _ c.self.invariant c.pop.ensures.items

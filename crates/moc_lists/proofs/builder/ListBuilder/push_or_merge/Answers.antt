@@ -3,7 +3,7 @@ use Rattle.moc_blocks.specs.Lemmas.Members.{in_range, in_ranges}
 use Rattle.moc_blocks.specs.Private.Blocks.{last_of}
 use Rattle.moc_blocks.specs.Private.Built.{GrowingList, growing_list, ranges_of, CanMerge, BeginsBy}
 use Rattle.moc_blocks.proofs.Merging.{EndsBelow-append}
-use Rattle.moc_blocks.proofs.Building.{longer_same, longer_built, longer_can, pushed_can}
+use Rattle.moc_blocks.proofs.Building.{longer_same, builder_state_after_extension, longer_can, can_merge_after_push}
 use Rattle.moc_blocks.proofs.Basics.{from_two_ok}
 use Rattle.moc_lists.proofs.builder.ListBuilder.push_or_merge.Goals as goal
 
@@ -11,13 +11,13 @@ pub push-requires-clause-after : goal.push-requires-clause-after
 push-requires-clause-after c = EndsBelow-append c.args.from c.args.self.now.closed c.args.self.now.loose c.requires.can.before c.if-ends_before.ensures.below
 
 pub returns-then-ends_before-clause-can : goal.returns-then-ends_before-clause-can
-returns-then-ends_before-clause-can c = from_two_ok c.push.result c.push.ensures.last c.push.ensures.built (λ last built. pushed_can c.push.new.self last.0 (c.args.from, c.args.to) built last.1)
+returns-then-ends_before-clause-can c = from_two_ok c.push.result c.push.ensures.last c.push.ensures.built (λ last built. can_merge_after_push c.push.new.self last.0 (c.args.from, c.args.to) built last.1)
 
 pub invariant_of-self : goal.invariant_of-self
-invariant_of-self c = longer_built _ _ c.self.inside.ranges.items _ c.pop.new.self.items c.in-Some.last c.args.to c.self.invariant c.in-Some.ensures.items (c.in_ok-push.ensures.items ∙ ap (λ t. c.pop.new.self.items ++ (c.in-Some.last.0, t) ∷ []) c.max.ensures) c.requires.within
+invariant_of-self c = builder_state_after_extension _ _ c.self.inside.ranges.items _ c.pop.new.self.items c.in-Some.last c.args.to c.self.invariant c.in-Some.ensures.items (c.in_ok-push.ensures.items ∙ ap (λ t. c.pop.new.self.items ++ (c.in-Some.last.0, t) ∷ []) c.max.ensures) c.requires.within
 
 pub returns-in_ok-push-clause-built : goal.returns-in_ok-push-clause-built
-returns-in_ok-push-clause-built c = (longer_built _ _ c.self.inside.ranges.items _ c.pop.new.self.items c.in-Some.last c.args.to c.self.invariant c.in-Some.ensures.items (c.in_ok-push.ensures.items ∙ ap (λ t. c.pop.new.self.items ++ (c.in-Some.last.0, t) ∷ []) c.max.ensures) c.requires.within).normal
+returns-in_ok-push-clause-built c = (builder_state_after_extension _ _ c.self.inside.ranges.items _ c.pop.new.self.items c.in-Some.last c.args.to c.self.invariant c.in-Some.ensures.items (c.in_ok-push.ensures.items ∙ ap (λ t. c.pop.new.self.items ++ (c.in-Some.last.0, t) ∷ []) c.max.ensures) c.requires.within).normal
 
 pub returns-in_ok-push-clause-same : goal.returns-in_ok-push-clause-same
 returns-in_ok-push-clause-same c = λ q.

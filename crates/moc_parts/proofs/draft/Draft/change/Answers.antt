@@ -7,8 +7,8 @@ use Rattle.moc_parts.specs.Private.Drafts.{with_part}
 use Rattle.moc_parts.proofs.PartTheorem.{changed_within}
 use Rattle.moc_parts.proofs.Sums.{size_bound}
 use Rattle.moc_parts.proofs.ChangedPixels.{changed_in_part, changes_within}
-use Rattle.moc_parts.proofs.Changing.{IsTurn, walk_begins, walk_ends, turn_comes, turn_done, turn_left}
-use Rattle.moc_parts.proofs.Drafting.{with_next, part_lies, part_was, part_becomes}
+use Rattle.moc_parts.proofs.Changing.{IsTurn, walk_begins, walk_ends, next_part_to_change, turn_is_complete, turn_parts_left}
+use Rattle.moc_parts.proofs.Drafting.{with_next, part_of_part_same, part_was, part_becomes}
 use Rattle.moc_parts.proofs.draft.Draft.change.Goals as goal
 
 pub loop-part-init : goal.loop-part-init
@@ -18,7 +18,7 @@ loop-part-init c =
 pub part-requires-in-loop-part-clause-list : goal.part-requires-in-loop-part-clause-list
 part-requires-in-loop-part-clause-list c =
     let b : ℕ = c.in-Some.part in
-    ap (λ p. part_of p b) c.part.ensures.list ∙ part_lies c.loop-part.self.set b ∙ sym c.part.ensures.list
+    ap (λ p. part_of p b) c.part.ensures.list ∙ part_of_part_same c.loop-part.self.set b ∙ sym c.part.ensures.list
 
 pub overflow_add-changed_pixels : goal.overflow_add-changed_pixels
 overflow_add-changed_pixels c =
@@ -27,7 +27,7 @@ overflow_add-changed_pixels c =
     let new : NumberSet = set_after_change change old in
     let b : ℕ = c.in-Some.part in
     let turn : IsTurn change old c.loop-part.self.set c.loop-part.changed_pixels b c.next.new.self =
-    turn_comes change c.requires old c.loop-part.self.set c.loop-part.changed_pixels c.loop-part.invariant.0 b c.loop-part.part-iterator c.next.new.self
+    next_part_to_change change c.requires old c.loop-part.self.set c.loop-part.changed_pixels c.loop-part.invariant.0 b c.loop-part.part-iterator c.next.new.self
     c.in-Some.ensures.steps c.loop-part.invariant.1 in
     let part : c.part.result.now ≡ part_of old b = part_was new old c.loop-part.self.set c.part.result.now b turn.half c.part.ensures.list in
     let becomes = part_becomes change c.requires old c.part.result.now b part in
@@ -44,13 +44,13 @@ put-requires c =
     let new : NumberSet = set_after_change change old in
     let b : ℕ = c.in-Some.part in
     let turn : IsTurn change old c.loop-part.self.set c.loop-part.changed_pixels b c.next.new.self =
-    turn_comes change c.requires old c.loop-part.self.set c.loop-part.changed_pixels c.loop-part.invariant.0 b c.loop-part.part-iterator c.next.new.self
+    next_part_to_change change c.requires old c.loop-part.self.set c.loop-part.changed_pixels c.loop-part.invariant.0 b c.loop-part.part-iterator c.next.new.self
     c.in-Some.ensures.steps c.loop-part.invariant.1 in
     let part : c.part.result.now ≡ part_of old b = part_was new old c.loop-part.self.set c.part.result.now b turn.half c.part.ensures.list in
     let becomes = part_becomes change c.requires old c.part.result.now b part in
     let did = subst (IsPartUpdate c.part.result.now (changed_part change c.part.result.now b)) c.in-Some-2.is c.in_ok-list.ensures in
     let list : c.in-Some-2.field-0.list ≡ part_of new b = did.0 ∙ becomes in
-    ap (λ p. part_of p b) list ∙ part_lies new b ∙ sym list
+    ap (λ p. part_of p b) list ∙ part_of_part_same new b ∙ sym list
 
 pub loop-part-preserved-in-Continue-branch-3 : goal.loop-part-preserved-in-Continue-branch-3
 loop-part-preserved-in-Continue-branch-3 c =
@@ -59,7 +59,7 @@ loop-part-preserved-in-Continue-branch-3 c =
     let new : NumberSet = set_after_change change old in
     let b : ℕ = c.in-Some.part in
     let turn : IsTurn change old c.loop-part.self.set c.loop-part.changed_pixels b c.next.new.self =
-    turn_comes change c.requires old c.loop-part.self.set c.loop-part.changed_pixels c.loop-part.invariant.0 b c.loop-part.part-iterator c.next.new.self
+    next_part_to_change change c.requires old c.loop-part.self.set c.loop-part.changed_pixels c.loop-part.invariant.0 b c.loop-part.part-iterator c.next.new.self
     c.in-Some.ensures.steps c.loop-part.invariant.1 in
     let part : c.part.result.now ≡ part_of old b = part_was new old c.loop-part.self.set c.part.result.now b turn.half c.part.ensures.list in
     let becomes = part_becomes change c.requires old c.part.result.now b part in
@@ -67,7 +67,7 @@ loop-part-preserved-in-Continue-branch-3 c =
     let more : c.in-Some-2.field-0.pixels ≡ set.len (part_of (symmetric new old) b) = did.1 ∙ changed_in_part new old c.part.result.now _ b part becomes in
     let list : c.in-Some-2.field-0.list ≡ part_of new b = did.0 ∙ becomes in (
       b + 1,
-      turn_done change old c.loop-part.self.set _ c.loop-part.changed_pixels c.in-Some-2.field-0.pixels b c.next.new.self turn
+      turn_is_complete change old c.loop-part.self.set _ c.loop-part.changed_pixels c.in-Some-2.field-0.pixels b c.next.new.self turn
           (c.in_ok-put.ensures.set ∙ (λ i. with_part (turn.half i) b (list i)) ∙ with_next new old b) more,
       c.in_ok-put.ensures.before ∙ c.loop-part.invariant.2,
     )
@@ -79,13 +79,13 @@ loop-part-preserved c =
     let new : NumberSet = set_after_change change old in
     let b : ℕ = c.in-Some.part in
     let turn : IsTurn change old c.loop-part.self.set c.loop-part.changed_pixels b c.next.new.self =
-    turn_comes change c.requires old c.loop-part.self.set c.loop-part.changed_pixels c.loop-part.invariant.0 b c.loop-part.part-iterator c.next.new.self
+    next_part_to_change change c.requires old c.loop-part.self.set c.loop-part.changed_pixels c.loop-part.invariant.0 b c.loop-part.part-iterator c.next.new.self
     c.in-Some.ensures.steps c.loop-part.invariant.1 in
     let part : c.part.result.now ≡ part_of old b = part_was new old c.loop-part.self.set c.part.result.now b turn.half c.part.ensures.list in
     let becomes = part_becomes change c.requires old c.part.result.now b part in
     let did = subst (IsPartUpdate c.part.result.now (changed_part change c.part.result.now b)) c.in_default.is c.in_ok-list.ensures in (
       b + 1,
-      turn_left change old c.loop-part.self.set c.loop-part.changed_pixels b c.next.new.self turn (sym becomes ∙ did ∙ part),
+      turn_parts_left change old c.loop-part.self.set c.loop-part.changed_pixels b c.next.new.self turn (sym becomes ∙ did ∙ part),
       c.loop-part.invariant.2,
     )
 

@@ -8,7 +8,7 @@ use Rattle.moc_ranges.specs.Operations.{part_of}
 use Rattle.moc_parts.specs.Lemmas.{all_parts}
 use Rattle.moc_parts.specs.Private.Drafts.{sets_of}
 use Rattle.moc_parts.specs.Prepared.{is_given, part_if}
-use Rattle.moc_parts.proofs.Drafting.{AreDoneBelow, previous_twelve, previous_part, single_part, some_copied, one_done, none_done}
+use Rattle.moc_parts.proofs.Drafting.{AreDoneBelow, previous_twelve, previous_part, single_part, some_copied, list_replaced, list_is_missing}
 use Rattle.moc_parts.proofs.draft.Draft.into_lists.Goals as goal
 use Rattle.moc_parts.proofs.draft.Draft.into_lists.Goals.{
   then-is_none,
@@ -38,7 +38,7 @@ loop-part-preserved c =
     let same = inv.2 b (omega arith) in
     let next : List (Option NumberSet) = c.if-is_none.lists in
     let left_out : next ≡ set_at lists b None → c.is_none.result ≡ true → AreDoneBelow new_lists next is (b + 1) =
-    λ put none. one_done new_lists lists next is b None c.loop-part-test.true put (sym (ap (λ t. part_if t set_now b) (given_is ∙ ap not none))) inv in
+    λ put none. list_replaced new_lists lists next is b None c.loop-part-test.true put (sym (ap (λ t. part_if t set_now b) (given_is ∙ ap not none))) inv in
     elim c.if-is_none.branch [
       | then-is_none w ↦ left_out (w.lists-is ∙ w.clear.ensures ∙ ap (λ n. set_at lists n None) part) w.if-is_none.true
       | else-is_none+then-is_none-2+in_ok-try_copy+in_ok-put w ↦
@@ -51,9 +51,9 @@ loop-part-preserved c =
           (some_copied w.get.result ∙ w.is_none-else-is_none.ensures ∙ ap not w.if-is_none-2.true)
           (ap (λ n. get_or before n item) at ∙ get_or_default before b item list (subst (λ n. b < n) (sym many) c.loop-part-test.true))
           ∙ ap (λ d. part_of d.set b) c.self.view_is in
-          one_done new_lists lists next is b (Some w.in_ok-try_copy.field-0) c.loop-part-test.true (w.lists-is ∙ w.in_ok-put.ensures.put ∙ ap (λ n. set_at lists n (Some w.in_ok-try_copy.field-0)) part)
+          list_replaced new_lists lists next is b (Some w.in_ok-try_copy.field-0) c.loop-part-test.true (w.lists-is ∙ w.in_ok-put.ensures.put ∙ ap (λ n. set_at lists n (Some w.in_ok-try_copy.field-0)) part)
           (ap Some copied ∙ sym (ap (λ t. part_if t set_now b) (given_is ∙ ap not w.if-is_none.false))) inv
-      | else-is_none+else-is_none-2 w ↦ none_done new_lists lists next is b w.lists-is
+      | else-is_none+else-is_none-2 w ↦ list_is_missing new_lists lists next is b w.lists-is
           (ap (λ n. get_or lists n None) (sym part) ∙ sym w.get.ensures
           ∙ single_part (sets_of before) new_lists b (option_copied w.get.result) c.self.invariant.0 c.self.invariant.1 c.loop-part-test.true (w.get.ensures ∙ ap (λ n. get_or lists n None) part ∙ same)
           (some_copied w.get.result ∙ w.is_none-else-is_none.ensures ∙ ap not w.if-is_none-2.false)

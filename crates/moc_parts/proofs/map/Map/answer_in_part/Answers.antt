@@ -4,8 +4,8 @@ use Rattle.std.specs.Prelude.{set as set_at}
 use Rattle.moc_lists.specs.RangeList.{NumberSet}
 use Rattle.moc_parts.specs.Commands.{reply_on, set_after}
 use Rattle.moc_parts.specs.Private.Drafts.{AreParts}
-use Rattle.moc_parts.proofs.Twelve.{parts_length, get-parts, made_union}
-use Rattle.moc_parts.proofs.SingleParts.{after_within, parts_after, put_new, reply_there}
+use Rattle.moc_parts.proofs.Twelve.{parts_length, get-parts, union_of_parts_below}
+use Rattle.moc_parts.proofs.SingleParts.{after_within, parts_after, entry_is_new, reply_there}
 use Rattle.moc_parts.proofs.map.Map.answer_in_part.Goals as goal
 
 pub index_mut-requires : goal.index_mut-requires
@@ -32,8 +32,8 @@ returns-clause-set c =
     let new = c.execute_on.new.pixels in
     let was = c.index_mut.ensures.value ∙ ap (λ k. get_or sets k old) at ∙ get-parts sets b old c.self.invariant small in
     on_ok_weaker c.execute_on.result
-    (λ is. made_union (set_at sets c.index.result new) _
-    (ap (λ k. set_at sets k new) at ∙ put_new c.args.command.now b c.requires sets c.self.invariant small old new was is)
+    (λ is. union_of_parts_below (set_at sets c.index.result new) _
+    (ap (λ k. set_at sets k new) at ∙ entry_is_new c.args.command.now b c.requires sets c.self.invariant small old new was is)
     (after_within c.args.command.now b c.requires sets c.self.invariant small)
     ∙ ap (λ (s : NumberSet). set_after s c.args.command.now) c.self.view_is)
     c.execute_on.ensures.set

@@ -1,15 +1,15 @@
 use Rattle.std.proofs.Common.{arith, ap, length}
 use Rattle.moc_ranges.specs.Private.CellRuns.{pieces_along}
-use Rattle.moc_blocks.proofs.Blocking.{few_ranges}
+use Rattle.moc_blocks.proofs.Blocking.{range_count_bounded}
 use Rattle.moc_ranges.proofs.CellPieces.{ahead_count, pieces_count}
 use Rattle.moc_ranges.proofs.cell_ranges.CellRangesIterator.size_hint.Goals as goal
 
 pub overflow_mul-result : goal.overflow_mul-result
-overflow_mul-result c = omega (arith, few_ranges c.self.inside.ranges c.self.invariant.0, ap (λ r. r.0) c.size_hint-ranges.ensures.exact)
+overflow_mul-result c = omega (arith, range_count_bounded c.self.inside.ranges c.self.invariant.0, ap (λ r. r.0) c.size_hint-ranges.ensures.exact)
 
 pub overflow_add-result : goal.overflow_add-result
 overflow_add-result c =
-    omega (arith, few_ranges c.self.inside.ranges c.self.invariant.0, ap (λ r. r.0) c.size_hint-ranges.ensures.exact, c.self.invariant.2)
+    omega (arith, range_count_bounded c.self.inside.ranges c.self.invariant.0, ap (λ r. r.0) c.size_hint-ranges.ensures.exact, c.self.invariant.2)
 
 pub returns-clause-upper : goal.returns-clause-upper
 returns-clause-upper c =

@@ -2,7 +2,7 @@ use Rattle.std.proofs.Common.{◌∙◌, ap, sym, arith}
 use Rattle.std.specs.FinSet as set
 use Rattle.moc_blocks.specs.Lemmas.Members.{same_members}
 use Rattle.moc_ranges.specs.Operations.{pixels, part_of}
-use Rattle.moc_ranges.proofs.Views.{part_past, all_of_none}
+use Rattle.moc_ranges.proofs.Views.{no_part_above_11, empty_is_subset}
 use Rattle.moc_ranges.proofs.Looking.{base_members}
 use Rattle.moc_ranges.proofs.coverage.Coverage.covers_base_pixel.Goals as goal
 
@@ -14,4 +14,4 @@ returns c =
 
 pub returns-then-base_pixel-gt11 : goal.returns-then-base_pixel-gt11
 returns-then-base_pixel-gt11 c =
-    all_of_none (part_of pixels c.args.base_pixel) c.args.self.now (part_past pixels (record { each = λ q has. has }) c.args.base_pixel c.if-base_pixel-gt11.true)
+    empty_is_subset (part_of pixels c.args.base_pixel) c.args.self.now (no_part_above_11 pixels (record { each = λ q has. has }) c.args.base_pixel c.if-base_pixel-gt11.true)

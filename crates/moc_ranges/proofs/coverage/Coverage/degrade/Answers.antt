@@ -1,7 +1,7 @@
 use Rattle.std.proofs.Common.{ℕ, ap, ◌∙◌, map}
 use Rattle.moc_ranges.specs.Private.Widen.{widen}
 use Rattle.moc_blocks.specs.Lemmas.Members.{same_members, in_ranges, contains-set_of}
-use Rattle.moc_ranges.proofs.Widening.{degraded}
+use Rattle.moc_ranges.proofs.Widening.{widened_is_degraded}
 use Rattle.moc_ranges.proofs.coverage.Coverage.degrade.Goals as goal
 
 pub build_widened-requires-clause-size : goal.build_widened-requires-clause-size
@@ -11,4 +11,4 @@ pub returns : goal.returns
 returns c = c.in_ok-list.ensures ∙ same_members _ _ (λ q.
     contains-set_of (map (widen c.cell_size.result) c.ranges-2.result) q
     ∙ ap (λ (size : ℕ). in_ranges (map (widen size) c.ranges-2.result) q) c.cell_size.ensures.size
-    ∙ degraded c.args.order c.ranges-2.result c.args.self.now q c.cell_size.ensures.in_range c.ranges-2.ensures.normal c.ranges-2.ensures.set)
+    ∙ widened_is_degraded c.args.order c.ranges-2.result c.args.self.now q c.cell_size.ensures.in_range c.ranges-2.ensures.normal c.ranges-2.ensures.set)

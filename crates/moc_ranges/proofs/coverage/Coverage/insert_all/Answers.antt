@@ -2,7 +2,7 @@ use Rattle.std.proofs.Common.{◌≡◌, arith, sym, subst, refl}
 use Rattle.std.specs.Prelude.{OnOk, IfOk}
 use Rattle.std.specs.FinSet as set
 use Rattle.moc_blocks.specs.RangeList.{NumberSet}
-use Rattle.moc_ranges.proofs.Adding.{only_range, common_fewer, new_count, none_new, there_union}
+use Rattle.moc_ranges.proofs.Adding.{only_range, common_count_at_most_second, new_count, none_new, union_with_contained}
 use Rattle.moc_ranges.proofs.coverage.Coverage.insert_all.Goals as goal
 
 pub returns-in-Some-len1-clause-set : goal.returns-in-Some-len1-clause-set
@@ -16,7 +16,7 @@ returns-in-Some-len1-clause-added c =
     subst (λ (s : NumberSet). IfOk c.insert_range.result (λ n. n ≡ set.len (set.difference s c.args.self.now))) (sym is) c.insert_range.ensures.added
 
 pub overflow_sub-added : goal.overflow_sub-added
-overflow_sub-added c = omega (arith, c.count.ensures.size, c.count_common.ensures.size, common_fewer c.args.self.now c.args.other.now)
+overflow_sub-added c = omega (arith, c.count.ensures.size, c.count_common.ensures.size, common_count_at_most_second c.args.self.now c.args.other.now)
 
 pub returns-in_ok-self-clause-added : goal.returns-in_ok-self-clause-added
 returns-in_ok-self-clause-added c = new_count c.args.self.now c.args.other.now _ _ _ c.count.ensures.size c.count_common.ensures.size refl
@@ -24,7 +24,7 @@ returns-in_ok-self-clause-added c = new_count c.args.self.now c.args.other.now _
 pub returns-else-added-gt0-clause-set : goal.returns-else-added-gt0-clause-set
 returns-else-added-gt0-clause-set c =
     let new = new_count c.args.self.now c.args.other.now _ _ _ c.count.ensures.size c.count_common.ensures.size refl in
-    sym (there_union c.args.self.now c.args.other.now (none_new c.args.self.now c.args.other.now (omega (arith, new, c.if-added-gt0.false))))
+    sym (union_with_contained c.args.self.now c.args.other.now (none_new c.args.self.now c.args.other.now (omega (arith, new, c.if-added-gt0.false))))
 
 pub returns-else-added-gt0-clause-added : goal.returns-else-added-gt0-clause-added
 returns-else-added-gt0-clause-added c = new_count c.args.self.now c.args.other.now _ _ _ c.count.ensures.size c.count_common.ensures.size refl

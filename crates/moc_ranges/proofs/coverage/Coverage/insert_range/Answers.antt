@@ -3,25 +3,25 @@ use Rattle.std.specs.FinSet as set
 use Rattle.std.specs.Cmp.{nat_cmp_total}
 use Rattle.moc_blocks.specs.RangeList.{numbers, NumberSet, set_of}
 use Rattle.moc_ranges.proofs.Views.{range_view}
-use Rattle.moc_ranges.proofs.Adding.{no_numbers, there_union, there_count, match_some, grown_set, grown_count}
+use Rattle.moc_ranges.proofs.Adding.{no_numbers, union_with_contained, contained_adds_nothing, match_some, set_is_union, added_count_is_new}
 use Rattle.moc_ranges.proofs.Adding.{union_width}
 use Rattle.moc_blocks.proofs.Replacing.{none_matched}
 use Rattle.moc_ranges.proofs.coverage.Coverage.insert_range.Goals as goal
 
 pub returns-then-to-from-clause-set : goal.returns-then-to-from-clause-set
-returns-then-to-from-clause-set c = sym (there_union c.args.self.now (numbers c.args.from c.args.to) (no_numbers c.args.from c.args.to c.args.self.now c.if-to-from.true))
+returns-then-to-from-clause-set c = sym (union_with_contained c.args.self.now (numbers c.args.from c.args.to) (no_numbers c.args.from c.args.to c.args.self.now c.if-to-from.true))
 
 pub returns-then-to-from-clause-added : goal.returns-then-to-from-clause-added
-returns-then-to-from-clause-added c = sym (there_count c.args.self.now (numbers c.args.from c.args.to) (no_numbers c.args.from c.args.to c.args.self.now c.if-to-from.true))
+returns-then-to-from-clause-added c = sym (contained_adds_nothing c.args.self.now (numbers c.args.from c.args.to) (no_numbers c.args.from c.args.to c.args.self.now c.if-to-from.true))
 
 pub returns-in-Some-clause-set : goal.returns-in-Some-clause-set
 returns-in-Some-clause-set c =
-    grown_set c.args.from c.args.to _ c.self.inside.list c.insert_in_gap.new.self (match_some _ _ _ _ c.in-Some.is c.in_ok-added.ensures.inserted)
+    set_is_union c.args.from c.args.to _ c.self.inside.list c.insert_in_gap.new.self (match_some _ _ _ _ c.in-Some.is c.in_ok-added.ensures.inserted)
     ∙ ap (λ (s : NumberSet). set.union s (numbers c.args.from c.args.to)) c.self.view_is
 
 pub returns-in-Some-clause-added : goal.returns-in-Some-clause-added
 returns-in-Some-clause-added c =
-    grown_count c.args.from c.args.to c.in-Some.added c.self.inside.list c.insert_in_gap.new.self c.in_ok-added.ensures.normal_before c.in_ok-added.ensures.normal (match_some _ _ _ _ c.in-Some.is c.in_ok-added.ensures.inserted)
+    added_count_is_new c.args.from c.args.to c.in-Some.added c.self.inside.list c.insert_in_gap.new.self c.in_ok-added.ensures.normal_before c.in_ok-added.ensures.normal (match_some _ _ _ _ c.in-Some.is c.in_ok-added.ensures.inserted)
     ∙ ap (λ (s : NumberSet). set.len (set.difference (numbers c.args.from c.args.to) s)) c.self.view_is
 
 pub returns-then-covers_range-clause-set : goal.returns-then-covers_range-clause-set
@@ -30,7 +30,7 @@ returns-then-covers_range-clause-set c =
     ap set_of (none_matched _ _ _ c.in_default.not-Some c.in_ok-added.ensures.inserted) ∙ c.self.view_is in
     let has : set.is_subset (numbers c.args.from c.args.to) c.args.self.now ≡ true =
     ap (set.is_subset (numbers c.args.from c.args.to)) (sym is) ∙ sym c.covers_range.ensures ∙ c.if-covers_range.true in
-    is ∙ sym (there_union c.args.self.now (numbers c.args.from c.args.to) (set.is_subset-contains nat_cmp_total (numbers c.args.from c.args.to) c.args.self.now has))
+    is ∙ sym (union_with_contained c.args.self.now (numbers c.args.from c.args.to) (set.is_subset-contains nat_cmp_total (numbers c.args.from c.args.to) c.args.self.now has))
 
 pub returns-then-covers_range-clause-added : goal.returns-then-covers_range-clause-added
 returns-then-covers_range-clause-added c =
@@ -38,20 +38,20 @@ returns-then-covers_range-clause-added c =
     ap set_of (none_matched _ _ _ c.in_default.not-Some c.in_ok-added.ensures.inserted) ∙ c.self.view_is in
     let has : set.is_subset (numbers c.args.from c.args.to) c.args.self.now ≡ true =
     ap (set.is_subset (numbers c.args.from c.args.to)) (sym is) ∙ sym c.covers_range.ensures ∙ c.if-covers_range.true in
-    sym (there_count c.args.self.now (numbers c.args.from c.args.to) (set.is_subset-contains nat_cmp_total (numbers c.args.from c.args.to) c.args.self.now has))
+    sym (contained_adds_nothing c.args.self.now (numbers c.args.from c.args.to) (set.is_subset-contains nat_cmp_total (numbers c.args.from c.args.to) c.args.self.now has))
 
 pub returns-in-Some-2-clause-set : goal.returns-in-Some-2-clause-set
 returns-in-Some-2-clause-set c =
     let is : set_of c.insert_in_gap.new.self ≡ c.args.self.now =
     ap set_of (none_matched _ _ _ c.in_default.not-Some c.in_ok-added.ensures.inserted) ∙ c.self.view_is in
-    grown_set c.args.from c.args.to _ c.insert_in_gap.new.self c.insert.new.self (match_some _ _ _ _ c.in-Some-2.is c.in_ok-added-2.ensures.inserted)
+    set_is_union c.args.from c.args.to _ c.insert_in_gap.new.self c.insert.new.self (match_some _ _ _ _ c.in-Some-2.is c.in_ok-added-2.ensures.inserted)
     ∙ ap (λ (s : NumberSet). set.union s (numbers c.args.from c.args.to)) is
 
 pub returns-in-Some-2-clause-added : goal.returns-in-Some-2-clause-added
 returns-in-Some-2-clause-added c =
     let is : set_of c.insert_in_gap.new.self ≡ c.args.self.now =
     ap set_of (none_matched _ _ _ c.in_default.not-Some c.in_ok-added.ensures.inserted) ∙ c.self.view_is in
-    grown_count c.args.from c.args.to c.in-Some-2.added c.insert_in_gap.new.self c.insert.new.self c.in_ok-added-2.ensures.normal_before c.in_ok-added-2.ensures.normal (match_some _ _ _ _ c.in-Some-2.is c.in_ok-added-2.ensures.inserted)
+    added_count_is_new c.args.from c.args.to c.in-Some-2.added c.insert_in_gap.new.self c.insert.new.self c.in_ok-added-2.ensures.normal_before c.in_ok-added-2.ensures.normal (match_some _ _ _ _ c.in-Some-2.is c.in_ok-added-2.ensures.inserted)
     ∙ ap (λ (s : NumberSet). set.len (set.difference (numbers c.args.from c.args.to) s)) is
 
 pub overflow_sub-added : goal.overflow_sub-added

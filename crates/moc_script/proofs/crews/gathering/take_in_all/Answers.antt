@@ -55,7 +55,7 @@ loop-end-preserved c =
           subst (λ (n : ℕ). IsLaneEnd map lanes input n (Ok (get_or (into_iter_items left) j d))) place
           (subst (λ (q : LaneOutput). IsLaneEnd map lanes input (k + (j + 1)) (Ok q)) (sym shifted) (was.1 (j + 1) d (search rules)))),
       (subst (λ (n : ℕ). IsGathered map n lanes input (vec_items c.push.new.self) (Some c.both.result)) (sym grown)
-          (subst (λ (l : List (List (List ℕ))). IsGathered map (k + 1) lanes input l (Some c.both.result)) (sym c.in-Ok.ensures.items)
+          (subst (λ (l : List (List (List ℕ))). IsGathered map (k + 1) lanes input l (Some c.both.result)) (sym c.in_ok-push.ensures.items)
           (gather_more map lanes input (vec_items c.loop-end.answers) k c.loop-end.all c.in-Some.end.client c.both.result c.in-Some.end.answers (omega (arith, c.loop-end.answers.ok)) was.2 c.both.ensures.map c.both.ensures.both
           (lane_of_end map lanes input k c.in-Some.end here)))),
     )

@@ -13,14 +13,14 @@ use Rattle.moc_script.specs.Private.LaneWork.{Performs}
 use Rattle.moc_script.specs.Private.Texts.{split_by_len, total}
 use Rattle.moc_script.proofs.LaneLemmas.{Performs-push, line_keeps_map, line_keeps_number, line_made}
 use Rattle.moc_script.proofs.TextLemmas.{split_by_len-push, total-push}
-use Rattle.moc_script.proofs.Passing.{lines_few, passed_more}
+use Rattle.moc_script.proofs.Passing.{line_count_bounded, passed_more}
 use Rattle.moc_script.proofs.crews.lane.answer_lines.Goals as goal
 
 pub next_line-requires : goal.next_line-requires
 next_line-requires g c =
     let was = c.loop-number.invariant.passed in
     let left = lines_of c.loop-number.left.bytes.now in
-    let few = lines_few c.args.job.input.now in
+    let few = line_count_bounded c.args.job.input.now in
     record { bounded = omega (arith, few, c.new-left.type_inv, was.count_is, ap length was.lines, length-append was.passed left) }
 
 pub loop-number-preserved : goal.loop-number-preserved

@@ -7,8 +7,8 @@ use Rattle.moc_shared.specs.Clients.{IsNewClient}
 use Rattle.moc_script.specs.Private.Promises.{IsWorkOf}
 use Rattle.moc_script.proofs.crews.threads.start.Goals as goal
 
-pushed_here : {A : Type 0} (xs : List A) (x d : A) (n : ℕ) → length xs ≡ n → get_or (xs ++ x ∷ []) n d ≡ x
-pushed_here xs x d n is =
+get_of_pushed : {A : Type 0} (xs : List A) (x d : A) (n : ℕ) → length xs ≡ n → get_or (xs ++ x ∷ []) n d ≡ x
+get_of_pushed xs x d n is =
     let none : n - n ≡ 0 = omega arith in
     get_or-append_right xs (x ∷ []) n n d is (omega arith) ∙ ap (λ i. get_or (x ∷ []) i d) none
 
@@ -33,7 +33,7 @@ loop-client-preserved g c =
           (subst (IsNewClient map (done + (k + 1))) (sym shifted) (was.1 (k + 1) d (search rules)))),
       (λ k d below. below_more (λ i. IsWorkOf c.args.job.map.now c.args.job.lanes c.args.job.input.now i (get_or all i d).promise) done
           (λ i low. let e = ap (λ l. get_or l i d) c.push_reserved.ensures.items ∙ get_or_append_left (vec_items c.loop-client.handles) _ d i (omega (arith, low, c.loop-client.handles.ok)) in subst (λ h. IsWorkOf c.args.job.map.now c.args.job.lanes c.args.job.input.now i h.promise) (sym e) (was.2 i d low))
-          (subst (λ h. IsWorkOf c.args.job.map.now c.args.job.lanes c.args.job.input.now done h.promise) (sym (ap (λ l. get_or l done d) c.push_reserved.ensures.items ∙ pushed_here (vec_items c.loop-client.handles) _ d done (omega (arith, c.loop-client.handles.ok))))
+          (subst (λ h. IsWorkOf c.args.job.map.now c.args.job.lanes c.args.job.input.now done h.promise) (sym (ap (λ l. get_or l done d) c.push_reserved.ensures.items ∙ get_of_pushed (vec_items c.loop-client.handles) _ d done (omega (arith, c.loop-client.handles.ok))))
           (let spawned = c.in-Ok-spawn_with.ensures.ok in
           record {
             map_is = ap (λ t. t.job.map.now) spawned;

@@ -1,5 +1,5 @@
 use Rattle.std.proofs.Common.{sym, ◌∙◌}
-use Rattle.moc_shared.proofs.Replying.{notes_same, local_batch, some_found, footprint_copies, leaves}
+use Rattle.moc_shared.proofs.Replying.{notes_same, local_batch, pointers_of_footprint, footprint_copies, leaves}
 use Rattle.moc_shared.proofs.calls.execution.observe.Goals as goal
 
 pub end_all-requires-clause-held : goal.end_all-requires-clause-held
@@ -18,7 +18,7 @@ end_all-requires-clause-some c =
     let set_is_valid =
     footprint_copies c.args.batch.now c.args.slots.now c.copy_all.new.copies c.in-Ok.ensures.copied c.requires.held.footprint
     in
-    some_found c.args.batch.now c.copy_all.new.copies set_is_valid local
+    pointers_of_footprint c.args.batch.now c.copy_all.new.copies set_is_valid local
 
 pub end_all-requires-clause-edited : goal.end_all-requires-clause-edited
 end_all-requires-clause-edited c =

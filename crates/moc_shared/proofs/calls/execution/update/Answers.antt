@@ -1,14 +1,14 @@
 use Rattle.std.proofs.Common.{sym, subst, List, []}
 use Rattle.moc_parts.specs.declared.reply.Reply.{Reply}
 use Rattle.moc_shared.specs.Private.Slots.{BatchTakesEffect}
-use Rattle.moc_shared.proofs.Replying.{local_batch, some_found}
+use Rattle.moc_shared.proofs.Replying.{local_batch, pointers_of_footprint}
 use Rattle.moc_shared.proofs.calls.execution.update.Goals as goal
 
 pub end_all-requires-clause-some : goal.end_all-requires-clause-some
 end_all-requires-clause-some c =
     let local =
     local_batch c.args.batch.now c.batches_are_local.ensures c.commands.ensures.some c.commands.ensures.valid in
-    some_found c.args.batch.now c.args.slots.now c.requires.held.footprint local
+    pointers_of_footprint c.args.batch.now c.args.slots.now c.requires.held.footprint local
 
 pub returns-in-Ok-clause-executed : goal.returns-in-Ok-clause-executed
 returns-in-Ok-clause-executed c = record {

@@ -6,14 +6,14 @@ use Rattle.moc_shared.specs.Private.Seats.{PartNote, part, IsInSky, slot_at, not
 use Rattle.moc_shared.specs.Private.OperationEffects.{HasEffect}
 use Rattle.moc_shared.specs.Private.Slots.{replies_to}
 use Rattle.moc_shared.specs.Batches.{batch_answer}
-use Rattle.moc_shared.proofs.SlotIndices.{top_note, none_from, apart_top, place_set_same}
-use Rattle.moc_shared.proofs.Guarantees.{one_ended}
-use Rattle.moc_shared.proofs.Replying.{never_none}
+use Rattle.moc_shared.proofs.SlotIndices.{top_note, none_from, top_slot_separate, place_set_same}
+use Rattle.moc_shared.proofs.Guarantees.{single_client_after_call}
+use Rattle.moc_shared.proofs.Replying.{update_has_contents}
 use Rattle.moc_shared.proofs.calls.footprint.end_all.Goals as goal
 
 pub unreachable-requires : goal.unreachable-requires
 unreachable-requires c = let s = c.requires.some in
-    never_none c.args.slots.now c.args.edited.now s.0 s.1 s.2 c.requires.edited.same_parts
+    update_has_contents c.args.slots.now c.args.edited.now s.0 s.1 s.2 c.requires.edited.same_parts
     (λ k. c.in_default.ensures.none k)
 
 pub end_call-requires-clause-held : goal.end_call-requires-clause-held
@@ -25,7 +25,7 @@ end_call-requires-clause-held c =
     (sym c.take_at.ensures.0 ∙ c.in-Some-take_at.is) c.take_at.ensures.1 in (
       ap (λ (l : List PartNote). parts_of_notes l) c.requires.held.held ∙ sym c.requires.edited.same_parts
           ∙ ap (λ (l : List PartNote). parts_of_notes l) top,
-      apart_top c.take_at.new.slots 12 c.in-Some.part
+      top_slot_separate c.take_at.new.slots 12 c.in-Some.part
           (ap (λ (l : List (Option Pointer)). slot_at l c.in-Some.part) c.take_at.ensures.1
           ∙ place_set_same c.args.edited.now c.in-Some.part None word_count),
     )
@@ -47,7 +47,7 @@ give_below-requires-clause-held c =
     let cs = c.args.batch.now in
     let ended = c.end_call.ensures.ended in
     record {
-      client = one_ended (call_by v.mine.number cs (replies_to c.args.slots.now cs)) (notes_below c.take_at.new.slots 12) v c.end_call.new.seat.me.0
+      client = single_client_after_call (call_by v.mine.number cs (replies_to c.args.slots.now cs)) (notes_below c.take_at.new.slots 12) v c.end_call.new.seat.me.0
           c.requires.held.client ended;
       carried = c.end_call.ensures.carried;
       held = ap (λ (v : ClientView). v.holds) ended.1;

@@ -2,7 +2,7 @@ use Rattle.std.proofs.Common.{rules, ◌≡◌, ℕ, suc, sym, ap, ◌∙◌, ar
 use Rattle.moc_shared.specs.Seats.{Pointer}
 use Rattle.moc_shared.specs.Private.Seats.{notes_below}
 use Rattle.moc_shared.specs.Private.StepEffects.{with_holds}
-use Rattle.moc_shared.proofs.SlotIndices.{held_upto, next_note, given_back, passed_over, all_given, not_below}
+use Rattle.moc_shared.proofs.SlotIndices.{held_parts_below, next_note, given_back, part_between_slots, all_slots_given, not_below}
 use Rattle.moc_shared.proofs.calls.footprint.give_below.Goals as goal
 
 pub loop-number-init : goal.loop-number-init
@@ -12,7 +12,7 @@ loop-number-init c =
     record {
       same = search rules;
       carried = c.requires.held.carried;
-      holds = held_upto c.args.seat.now.me.0 slots b c.requires.held.held c.requires.end.0 c.requires.end.1;
+      holds = held_parts_below c.args.seat.now.me.0 slots b c.requires.held.held c.requires.end.0 c.requires.end.1;
       within = c.requires.end.0;
       long = search rules;
     }
@@ -50,7 +50,7 @@ loop-number-preserved c =
     record {
       same = c.loop-number.invariant.same;
       carried = c.loop-number.invariant.carried;
-      holds = passed_over c.args.seat.now.me.0 c.loop-number.seat.me.0 c.loop-number.slots c.take_at.new.slots
+      holds = part_between_slots c.args.seat.now.me.0 c.loop-number.seat.me.0 c.loop-number.slots c.take_at.new.slots
           c.loop-number.number b c.loop-number.invariant.holds up (sym c.take_at.ensures.0 ∙ c.in_default.is) c.take_at.ensures.1
           ∙ ap (λ j. with_holds c.args.seat.now.me.0 (notes_below c.take_at.new.slots j)) c.of-part.ensures;
       within = search rules;
@@ -60,5 +60,5 @@ loop-number-preserved c =
 
 pub returns-clause-given_back : goal.returns-clause-given_back
 returns-clause-given_back c =
-    all_given c.args.seat.now.me.0 c.loop-number.seat.me c.loop-number.slots c.loop-number.number
+    all_slots_given c.args.seat.now.me.0 c.loop-number.seat.me c.loop-number.slots c.loop-number.number
     c.loop-number.invariant.holds (search rules) c.loop-number.invariant.carried

@@ -6,9 +6,9 @@ use Rattle.moc_shared.specs.Seats.{table_index, note, Pointer, ClientView}
 use Rattle.moc_shared.specs.Private.Invariant.{parts_of_notes}
 use Rattle.moc_shared.specs.Private.Seats.{PartNote, notes_below}
 use Rattle.moc_shared.specs.Private.Slots.{MissesTaking}
-use Rattle.moc_shared.proofs.SlotSets.{own_set}
-use Rattle.moc_shared.proofs.SlotIndices.{start_parts, took_part, passed_parts, passed_so_far, touched_so_far, still_beyond}
-use Rattle.moc_shared.proofs.SlotIndices.{not_below, noted_touched, holds_upto, refused_view, known_through}
+use Rattle.moc_shared.proofs.SlotSets.{slots_within_after_set}
+use Rattle.moc_shared.proofs.SlotIndices.{start_parts, view_with_taken_part, parts_before_slot, parts_so_far, touched_so_far, slots_empty_after}
+use Rattle.moc_shared.proofs.SlotIndices.{not_below, slot_index_of_note, holds_below, view_unchanged_if_refused, known_part_owner}
 use Rattle.moc_shared.proofs.calls.footprint.take_all.Goals as goal
 
 pub loop-part-init : goal.loop-part-init
@@ -32,7 +32,7 @@ take_slot-requires-clause-other c =
     let to = next_remaining (footprint_of_all c.args.batch.now) inv.next c.in-Some.part c.loop-part.part-iterator c.next.new.self inv.remains c.in-Some.ensures.steps in
     λ y h. not_below c.loop-part.slots b y
     (subst (λ (v : ClientView). Contains v.holds (note b y))
-    (passed_parts c.args.seat.now.me.0 c.loop-part.seat.me.0 c.loop-part.slots inv.next b inv.view to.after inv.beyond) h)
+    (parts_before_slot c.args.seat.now.me.0 c.loop-part.seat.me.0 c.loop-part.slots inv.next b inv.view to.after inv.beyond) h)
 
 pub give_all-requires-clause-held : goal.give_all-requires-clause-held
 give_all-requires-clause-held c =
@@ -43,8 +43,8 @@ give_all-requires-clause-held c =
     record {
       client = search rules;
       carried = c.take_slot.ensures.carried;
-      held = holds_upto c.args.seat.now.me.0 c.loop-part.seat.me.0 c.take_slot.new.seat.me.0 c.loop-part.slots b c.in-Err.holder
-          (passed_parts c.args.seat.now.me.0 c.loop-part.seat.me.0 c.loop-part.slots inv.next b inv.view after inv.beyond)
+      held = holds_below c.args.seat.now.me.0 c.loop-part.seat.me.0 c.take_slot.new.seat.me.0 c.loop-part.slots b c.in-Err.holder
+          (parts_before_slot c.args.seat.now.me.0 c.loop-part.seat.me.0 c.loop-part.slots inv.next b inv.view after inv.beyond)
           c.in-Err.ensures.err.0 to.below (λ k l. inv.beyond k (omega (arith, after, l)));
     }
 
@@ -57,16 +57,16 @@ returns-in-Err-clause-err c =
     let after = to.after in
     let init = c.args.seat.now.me.0 in
     let slots = c.loop-part.slots in
-    let view = passed_parts init c.loop-part.seat.me.0 slots inv.next b inv.view after inv.beyond in
+    let view = parts_before_slot init c.loop-part.seat.me.0 slots inv.next b inv.view after inv.beyond in
     let known =
-    known_through init c.loop-part.seat.me.0 (notes_below slots b) c.in-Err.holder view c.in-Err.ensures.err.1
+    known_part_owner init c.loop-part.seat.me.0 (notes_below slots b) c.in-Err.holder view c.in-Err.ensures.err.1
     c.in-Err.ensures.err.2 in
-    let so_far = passed_so_far cs slots inv.next b inv.so_far inv.beyond to.between in
+    let so_far = parts_so_far cs slots inv.next b inv.so_far inv.beyond to.between in
     let refused : MissesTaking cs b c.in-Err.holder init c.give_all.new.seat.me.0 = (
       notes_below slots b,
-      refused_view init c.loop-part.seat.me.0 c.take_slot.new.seat.me.0 c.give_all.new.seat.me.0 slots b
+      view_unchanged_if_refused init c.loop-part.seat.me.0 c.take_slot.new.seat.me.0 c.give_all.new.seat.me.0 slots b
           c.in-Err.holder view c.in-Err.ensures.err.0 (λ i. (c.give_all.ensures.given_back i).0),
-      (λ p y h. noted_touched cs slots b p y so_far h),
+      (λ p y h. slot_index_of_note cs slots b p y so_far h),
       to.passes,
       to.below,
       known.0,
@@ -95,15 +95,15 @@ loop-part-preserved c =
       remains = to.remains;
       same = (c.take_slot.ensures.same.0 ∙ inv.same.0, c.take_slot.ensures.same.1 ∙ inv.same.1);
       carried = c.take_slot.ensures.carried;
-      view = took_part c.args.seat.now.me.0 c.loop-part.seat.me.0 c.take_slot.new.seat.me.0 slots new b (b + 1) pointer
-          (passed_parts c.args.seat.now.me.0 c.loop-part.seat.me.0 slots inv.next b inv.view after inv.beyond) up
+      view = view_with_taken_part c.args.seat.now.me.0 c.loop-part.seat.me.0 c.take_slot.new.seat.me.0 slots new b (b + 1) pointer
+          (parts_before_slot c.args.seat.now.me.0 c.loop-part.seat.me.0 slots inv.next b inv.view after inv.beyond) up
           c.in-Ok.ensures.ok.0 put word_count;
       long = ap (λ (l : List (Option Pointer)). length l) put ∙ length-set slots b (Some pointer) ∙ inv.long;
       so_far = touched_so_far cs slots new b (b + 1) pointer
-          (passed_so_far cs slots inv.next b inv.so_far inv.beyond to.between)
+          (parts_so_far cs slots inv.next b inv.so_far inv.beyond to.between)
           up to.passes put word_count;
-      beyond = still_beyond slots new b (b + 1) pointer (λ k l. inv.beyond k (omega (arith, after, l))) up put;
-      own = own_set slots new b pointer inv.own put word_count c.in-Ok.ensures.ok.1;
+      beyond = slots_empty_after slots new b (b + 1) pointer (λ k l. inv.beyond k (omega (arith, after, l))) up put;
+      own = slots_within_after_set slots new b pointer inv.own put word_count c.in-Ok.ensures.ok.1;
     }
 
 pub returns-clause-ok : goal.returns-clause-ok
@@ -111,9 +111,9 @@ returns-clause-ok c =
     let inv = c.loop-part.invariant in
     let cs = c.args.batch.now in
     let rest = none_remaining (footprint_of_all cs) inv.next c.loop-part.part-iterator inv.remains c.in-None.ensures.steps.0 in (
-      passed_parts c.args.seat.now.me.0 c.loop-part.seat.me.0 c.loop-part.slots inv.next 12 inv.view inv.remains.within
+      parts_before_slot c.args.seat.now.me.0 c.loop-part.seat.me.0 c.loop-part.slots inv.next 12 inv.view inv.remains.within
           inv.beyond,
       inv.carried,
-      passed_so_far cs c.loop-part.slots inv.next 12 inv.so_far inv.beyond rest,
+      parts_so_far cs c.loop-part.slots inv.next 12 inv.so_far inv.beyond rest,
       inv.own,
     )

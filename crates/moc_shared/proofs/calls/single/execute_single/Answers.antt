@@ -5,9 +5,9 @@ use Rattle.moc_shared.specs.Private.Invariant.{parts_of_notes}
 use Rattle.moc_shared.specs.Private.Seats.{PartNote, part, IsInSky}
 use Rattle.moc_shared.specs.Batches.{batch_answer}
 use Rattle.moc_shared.specs.Private.OperationEffects.{HasEffect}
-use Rattle.moc_shared.specs.Private.StepEffects.{with_holds, tail}
-use Rattle.moc_shared.proofs.Basics.{none_in}
-use Rattle.moc_shared.proofs.CarriedSlots.{none_carried}
+use Rattle.moc_shared.specs.Private.StepEffects.{with_holds, rest_of_list}
+use Rattle.moc_shared.proofs.Basics.{empty_range_or}
+use Rattle.moc_shared.proofs.CarriedSlots.{no_entries_of_no_keys}
 use Rattle.moc_shared.proofs.Replying.{local_batch}
 use Rattle.moc_shared.proofs.SingleCommands.{answers_alone}
 use Rattle.moc_shared.proofs.calls.single.execute_single.Goals as goal
@@ -27,15 +27,15 @@ pub give_part-requires-clause-held : goal.give_part-requires-clause-held
 give_part-requires-clause-held c = (
   [],
   c.requires.held.held ∙ (λ i. note c.args.part (Some (sym c.in-Err.ensures.unchanged i)) ∷ []),
-  λ y h. none_in (note c.args.part y) h,
+  λ y h. empty_range_or (note c.args.part y) h,
 )
 
 pub returns-in-Err-clause-idle : goal.returns-in-Err-clause-idle
 returns-in-Err-clause-idle c =
-    none_carried c.give_part.new.seat.me.1
+    no_entries_of_no_keys c.give_part.new.seat.me.1
     (c.give_part.ensures.carried ∙ (λ i. map table_index (parts_of_notes (c.give_part.ensures.given_back i).holds))
-    ∙ (λ i. map table_index (parts_of_notes (tail (c.requires.held.held i)))))
+    ∙ (λ i. map table_index (parts_of_notes (rest_of_list (c.requires.held.held i)))))
 
 pub returns-in-Err-clause-err : goal.returns-in-Err-clause-err
 returns-in-Err-clause-err c = c.give_part.ensures.given_back
-    ∙ (λ i. with_holds c.args.seat.now.me.0 (tail (c.requires.held.held i)))
+    ∙ (λ i. with_holds c.args.seat.now.me.0 (rest_of_list (c.requires.held.held i)))

@@ -7,9 +7,9 @@ use Rattle.moc_shared.specs.Private.Invariant.{parts_of_notes}
 use Rattle.moc_shared.specs.Private.Seats.{PartNote}
 use Rattle.moc_shared.specs.Private.StepEffects.{with_misses}
 use Rattle.moc_shared.specs.Private.Slots.{in_footprint}
-use Rattle.moc_shared.proofs.SlotSets.{own_set}
-use Rattle.moc_shared.proofs.SlotIndices.{start_parts, passed_parts, passed_so_far, touched_so_far, still_beyond, not_below}
-use Rattle.moc_shared.proofs.WaitingViews.{no_wait, took_after}
+use Rattle.moc_shared.proofs.SlotSets.{slots_within_after_set}
+use Rattle.moc_shared.proofs.SlotIndices.{start_parts, parts_before_slot, parts_so_far, touched_so_far, slots_empty_after, not_below}
+use Rattle.moc_shared.proofs.WaitingViews.{no_wait, view_after_taking}
 use Rattle.moc_shared.proofs.calls.waiting.wait_for_all.Goals as goal
 
 pub loop-part-init : goal.loop-part-init
@@ -38,7 +38,7 @@ wait_for_slot-requires-clause-other g c =
     let v = inv.view in
     λ y h. not_below c.loop-part.slots b y
     (subst (λ (v : ClientView). Contains v.holds (note b y))
-    (passed_parts (with_misses c.args.seat.now.me.0 v.0) c.loop-part.seat.me.0 c.loop-part.slots inv.next b v.1 to.after inv.beyond) h)
+    (parts_before_slot (with_misses c.args.seat.now.me.0 v.0) c.loop-part.seat.me.0 c.loop-part.slots inv.next b v.1 to.after inv.beyond) h)
 
 pub loop-part-preserved : goal.loop-part-preserved
 loop-part-preserved g c =
@@ -61,16 +61,16 @@ loop-part-preserved g c =
       remains = to.remains;
       same = (c.wait_for_slot.ensures.same.0 ∙ inv.same.0, c.wait_for_slot.ensures.same.1 ∙ inv.same.1);
       carried = c.wait_for_slot.ensures.carried;
-      view = took_after cs init c.loop-part.seat.me.0 c.wait_for_slot.new.seat.me.0 slots new b (b + 1)
+      view = view_after_taking cs init c.loop-part.seat.me.0 c.wait_for_slot.new.seat.me.0 slots new b (b + 1)
           c.wait_for_slot.result v.0 t.0
-          (passed_parts (with_misses init v.0) c.loop-part.seat.me.0 slots inv.next b v.1 after inv.beyond) v.2
+          (parts_before_slot (with_misses init v.0) c.loop-part.seat.me.0 slots inv.next b v.1 after inv.beyond) v.2
           t.1 t.2 to.passes up put word_count;
       long = ap (λ (l : List (Option Pointer)). length l) put ∙ length-set slots b (Some c.wait_for_slot.result) ∙ inv.long;
       so_far = touched_so_far cs slots new b (b + 1) c.wait_for_slot.result
-          (passed_so_far cs slots inv.next b inv.so_far inv.beyond to.between)
+          (parts_so_far cs slots inv.next b inv.so_far inv.beyond to.between)
           up to.passes put word_count;
-      beyond = still_beyond slots new b (b + 1) c.wait_for_slot.result (λ k l. inv.beyond k (omega (arith, after, l))) up put;
-      own = own_set slots new b c.wait_for_slot.result inv.own put word_count c.wait_for_slot.ensures.own;
+      beyond = slots_empty_after slots new b (b + 1) c.wait_for_slot.result (λ k l. inv.beyond k (omega (arith, after, l))) up put;
+      own = slots_within_after_set slots new b c.wait_for_slot.result inv.own put word_count c.wait_for_slot.ensures.own;
     }
 
 pub returns-clause-slots : goal.returns-clause-slots
@@ -78,14 +78,14 @@ returns-clause-slots g c =
     let inv = c.loop-part.invariant in
     let cs = c.args.batch.now in
     let rest = none_remaining (footprint_of_all cs) inv.next c.loop-part.part-iterator inv.remains c.in-None.ensures.steps.0 in
-    (passed_so_far cs c.loop-part.slots inv.next 12 inv.so_far inv.beyond rest, inv.own)
+    (parts_so_far cs c.loop-part.slots inv.next 12 inv.so_far inv.beyond rest, inv.own)
 
 pub returns-clause-taken_or_missed : goal.returns-clause-taken_or_missed
 returns-clause-taken_or_missed g c =
     let inv = c.loop-part.invariant in
     let v = inv.view in (
       v.0,
-      passed_parts (with_misses c.args.seat.now.me.0 v.0) c.loop-part.seat.me.0 c.loop-part.slots inv.next 12 v.1
+      parts_before_slot (with_misses c.args.seat.now.me.0 v.0) c.loop-part.seat.me.0 c.loop-part.slots inv.next 12 v.1
           inv.remains.within inv.beyond,
       v.2,
     )

@@ -1,9 +1,9 @@
 use Rattle.std.proofs.Common.{List, [], IfOk, OnErr, refl, ◌∙◌, subst}
 use Rattle.std.proofs.lemmas.Result.{IfOk-weaker, on_err_weaker}
 use Rattle.moc_shared.specs.History.{call_by}
-use Rattle.moc_shared.proofs.Guarantees.{ends_from, fails_from, idle_after, stays_through, stays_done}
+use Rattle.moc_shared.proofs.Guarantees.{ends_from, fails_from, idle_after, client_unchanged_with_parts, client_unchanged_at_end}
 use Rattle.moc_shared.proofs.SingleCommands.{only_command}
-use Rattle.moc_shared.proofs.WaitingViews.{waits_from, stays_waited}
+use Rattle.moc_shared.proofs.WaitingViews.{waits_from, client_unchanged_after_waiting}
 use Rattle.moc_parts.specs.declared.command.Command.{Command}
 use Rattle.moc_shared.specs.Clients.{record_of, call_of, TakesEffectAfterWaiting, FailsOutOfMemoryWaiting}
 use Rattle.moc_shared.specs.Private.Seats.{notes_below}
@@ -35,10 +35,10 @@ returns-clause-map g c =
     let v = with_misses c.args.client.now.seat.me.0 t.0 in
     idle_after c.args.self.now c.args.client.now record
     { number = c.args.client.now.number; seat = c.execute_held.new.seat } c.requires.map
-    (stays_waited c.args.client.now.seat.me.0 c.execute_held.new.seat.me.0 t.0
-    (stays_through v c.wait_for_all-slots.new.seat.me.0 c.execute_held.new.seat.me.0
+    (client_unchanged_after_waiting c.args.client.now.seat.me.0 c.execute_held.new.seat.me.0 t.0
+    (client_unchanged_with_parts v c.wait_for_all-slots.new.seat.me.0 c.execute_held.new.seat.me.0
     (notes_below c.wait_for_all-slots.result 12) t.1
-    (stays_done c.args.batch.now c.wait_for_all-slots.new.seat.me.0 c.execute_held.new.seat.me.0 c.execute_held.result
+    (client_unchanged_at_end c.args.batch.now c.wait_for_all-slots.new.seat.me.0 c.execute_held.new.seat.me.0 c.execute_held.result
     c.execute_held.ensures.executed.ok c.execute_held.ensures.executed.err)))
     refl (c.execute_held.ensures.same.0 ∙ c.wait_for_all-slots.ensures.same.0 ∙ c.requires.map.table)
     c.execute_held.ensures.executed.idle

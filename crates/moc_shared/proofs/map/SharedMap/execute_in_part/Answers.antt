@@ -5,9 +5,9 @@ use Rattle.moc_shared.specs.Seats.{table_index, note, Pointer}
 use Rattle.moc_shared.specs.Private.Invariant.{parts_of_notes}
 use Rattle.moc_shared.specs.Private.Seats.{PartNote, shared}
 use Rattle.moc_shared.specs.Private.StepEffects.{with_misses}
-use Rattle.moc_shared.proofs.Basics.{none_in}
+use Rattle.moc_shared.proofs.Basics.{empty_range_or}
 use Rattle.moc_shared.proofs.Guarantees.{idle_after}
-use Rattle.moc_shared.proofs.SingleCommands.{one_held, holds_alone, ended_alone, undone_alone, stays_alone, stays_answered}
+use Rattle.moc_shared.proofs.SingleCommands.{single_client_holds, holds_only_part, ended_alone, undone_alone, client_unchanged_alone, client_unchanged_after_reply}
 use Rattle.moc_shared.proofs.map.SharedMap.execute_in_part.Goals as goal
 
 pub wait_for_slot-pointer-requires-clause-carried : goal.wait_for_slot-pointer-requires-clause-carried
@@ -16,14 +16,14 @@ wait_for_slot-pointer-requires-clause-carried g c = ap (λ (l : List (ℕ × Opt
 
 pub wait_for_slot-pointer-requires-clause-other : goal.wait_for_slot-pointer-requires-clause-other
 wait_for_slot-pointer-requires-clause-other g c =
-    λ y h. none_in (note c.args.part y) (subst (λ (l : List PartNote). Contains l (note c.args.part y)) c.requires.map.no_part h)
+    λ y h. empty_range_or (note c.args.part y) (subst (λ (l : List PartNote). Contains l (note c.args.part y)) c.requires.map.no_part h)
 
 pub execute_single-requires-clause-held : goal.execute_single-requires-clause-held
 execute_single-requires-clause-held g c =
     let t = c.wait_for_slot-pointer.ensures.taken_or_missed in
     let v = with_misses c.args.client.now.seat.me.0 t.0 in
-    holds_alone c.args.client.now.seat.me.0 c.wait_for_slot-pointer.new.seat.me c.args.part (arc_value c.wait_for_slot-pointer.result) t.0
-    c.requires.map.one (one_held v c.wait_for_slot-pointer.new.seat.me.0 c.args.part (shared c.wait_for_slot-pointer.result) c.requires.map.no_part t.1)
+    holds_only_part c.args.client.now.seat.me.0 c.wait_for_slot-pointer.new.seat.me c.args.part (arc_value c.wait_for_slot-pointer.result) t.0
+    c.requires.map.one (single_client_holds v c.wait_for_slot-pointer.new.seat.me.0 c.args.part (shared c.wait_for_slot-pointer.result) c.requires.map.no_part t.1)
     c.wait_for_slot-pointer.ensures.carried
 
 pub returns : goal.returns
@@ -34,11 +34,11 @@ returns g c =
     let old = c.args.client.now.seat.me.0 in
     let mid = c.wait_for_slot-pointer.new.seat.me.0 in
     let new = c.execute_single.new.seat.me.0 in
-    let held = one_held (with_misses old t.0) mid part slots c.requires.map.no_part t.1 in
+    let held = single_client_holds (with_misses old t.0) mid part slots c.requires.map.no_part t.1 in
     record {
       map = idle_after c.args.self.now c.args.client.now record { number = c.args.client.now.number; seat = c.execute_single.new.seat } c.requires.map
-          (stays_alone old mid new part slots t.0 held
-          (stays_answered (c.args.command.now ∷ []) mid new c.execute_single.result c.execute_single.ensures.ok c.execute_single.ensures.err))
+          (client_unchanged_alone old mid new part slots t.0 held
+          (client_unchanged_after_reply (c.args.command.now ∷ []) mid new c.execute_single.result c.execute_single.ensures.ok c.execute_single.ensures.err))
           refl (c.execute_single.ensures.same.0 ∙ c.wait_for_slot-pointer.ensures.same.0 ∙ c.requires.map.table)
           c.execute_single.ensures.idle;
       number = refl;

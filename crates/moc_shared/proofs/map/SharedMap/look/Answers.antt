@@ -2,7 +2,7 @@ use Rattle.std.proofs.Common.{List, sym, subst, ◌∙◌}
 use Rattle.moc_parts.specs.declared.command.Command.{Command}
 use Rattle.moc_shared.specs.Clients.{call_of, TakesEffect, MissesPart, HasNoEffect}
 use Rattle.moc_shared.specs.Private.Slots.{replies_to}
-use Rattle.moc_shared.proofs.Guarantees.{ends_from, refuses_from, undone_from}
+use Rattle.moc_shared.proofs.Guarantees.{ends_from, refuses_from, undone_after_start}
 use Rattle.moc_shared.proofs.map.SharedMap.look.Goals as goal
 
 pub returns-in-Err-clause-err : goal.returns-in-Err-clause-err
@@ -26,7 +26,7 @@ pub returns-in-Err-observe-clause-err : goal.returns-in-Err-observe-clause-err
 returns-in-Err-observe-clause-err c =
     let t = c.in-Ok-take_all.ensures.ok in (
       subst (λ (cs : List Command). HasNoEffect cs c.args.client.now.seat.me.0.mine c.observe.new.seat.me.0.mine) c.in-Ok.ensures
-          (undone_from c.in-Ok.batch c.args.client.now.seat.me.0 c.take_all.new.seat.me.0 c.observe.new.seat.me.0 c.in-Ok-take_all.slots t.2 t.0
+          (undone_after_start c.in-Ok.batch c.args.client.now.seat.me.0 c.take_all.new.seat.me.0 c.observe.new.seat.me.0 c.in-Ok-take_all.slots t.2 t.0
           c.in-Err-observe.ensures.err),
       sym c.is_update.ensures ∙ c.if-is_update.false,
     )

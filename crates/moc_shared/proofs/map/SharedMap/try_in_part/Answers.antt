@@ -3,9 +3,9 @@ use Rattle.moc_shared.specs.History.{call_by}
 use Rattle.moc_shared.specs.Seats.{table_index, note}
 use Rattle.moc_shared.specs.Private.Invariant.{parts_of_notes}
 use Rattle.moc_shared.specs.Private.Seats.{PartNote, shared}
-use Rattle.moc_shared.proofs.CarriedSlots.{none_carried}
-use Rattle.moc_shared.proofs.Guarantees.{idle_after, refused_client, refuses_from, stays_through, stays_ended, stays_given}
-use Rattle.moc_shared.proofs.SingleCommands.{one_held, tried_takes_effect, tried_has_no_effect, missed_alone}
+use Rattle.moc_shared.proofs.CarriedSlots.{no_entries_of_no_keys}
+use Rattle.moc_shared.proofs.Guarantees.{idle_after, client_unchanged_if_refused, refuses_from, client_unchanged_with_parts, client_unchanged_after_call, client_unchanged_after_release}
+use Rattle.moc_shared.proofs.SingleCommands.{single_client_holds, tried_takes_effect, tried_has_no_effect, missed_alone}
 use Rattle.moc_shared.proofs.map.SharedMap.try_in_part.Goals as goal
 
 pub returns-in-Ok-execute_single : goal.returns-in-Ok-execute_single
@@ -15,11 +15,11 @@ returns-in-Ok-execute_single c =
     let old = c.args.client.now.seat.me.0 in
     let mid = c.take_slot.new.seat.me.0 in
     let new = c.execute_single.new.seat.me.0 in
-    let held = one_held old mid part content c.requires.map.no_part c.in-Ok.ensures.ok.0 in
+    let held = single_client_holds old mid part content c.requires.map.no_part c.in-Ok.ensures.ok.0 in
     record {
       map = idle_after c.args.self.now c.args.client.now record { number = c.args.client.now.number; seat = c.execute_single.new.seat } c.requires.map
-          (stays_through old mid new (note part content ∷ []) held
-          (stays_ended (call_by mid.mine.number (c.args.command.now ∷ []) (c.in-Ok-execute_single.reply ∷ [])) mid new
+          (client_unchanged_with_parts old mid new (note part content ∷ []) held
+          (client_unchanged_after_call (call_by mid.mine.number (c.args.command.now ∷ []) (c.in-Ok-execute_single.reply ∷ [])) mid new
           c.in-Ok-execute_single.ensures.ok))
           refl (c.execute_single.ensures.same.0 ∙ c.take_slot.ensures.same.0 ∙ c.requires.map.table)
           c.execute_single.ensures.idle;
@@ -37,10 +37,10 @@ returns-in-Err-execute_single c =
     let old = c.args.client.now.seat.me.0 in
     let mid = c.take_slot.new.seat.me.0 in
     let new = c.execute_single.new.seat.me.0 in
-    let held = one_held old mid part content c.requires.map.no_part c.in-Ok.ensures.ok.0 in
+    let held = single_client_holds old mid part content c.requires.map.no_part c.in-Ok.ensures.ok.0 in
     record {
       map = idle_after c.args.self.now c.args.client.now record { number = c.args.client.now.number; seat = c.execute_single.new.seat } c.requires.map
-          (stays_through old mid new (note part content ∷ []) held (stays_given mid new c.in-Err-execute_single.ensures.err))
+          (client_unchanged_with_parts old mid new (note part content ∷ []) held (client_unchanged_after_release mid new c.in-Err-execute_single.ensures.err))
           refl (c.execute_single.ensures.same.0 ∙ c.take_slot.ensures.same.0 ∙ c.requires.map.table)
           c.execute_single.ensures.idle;
       number = refl;
@@ -58,9 +58,9 @@ returns-in-Err c =
     let missed = missed_alone c.args.command.now part c.requires.single.met old new c.in-Err.holder t.in_range c.requires.map.no_part
     t.err.0 t.err.1 t.err.2 in
     record {
-      map = refused_client c.args.self.now c.args.client.now record { number = c.args.client.now.number; seat = c.take_slot.new.seat }
+      map = client_unchanged_if_refused c.args.self.now c.args.client.now record { number = c.args.client.now.number; seat = c.take_slot.new.seat }
           part c.in-Err.holder (c.args.command.now ∷ []) c.requires.map refl (c.take_slot.ensures.same.0 ∙ c.requires.map.table)
-          (none_carried c.take_slot.new.seat.me.1 (c.take_slot.ensures.carried
+          (no_entries_of_no_keys c.take_slot.new.seat.me.1 (c.take_slot.ensures.carried
           ∙ (λ i. map table_index (parts_of_notes (t.err.0 i).holds))
           ∙ ap (λ (l : List PartNote). map table_index (parts_of_notes l)) c.requires.map.no_part))
           missed;

@@ -1,11 +1,11 @@
 use Rattle.std.proofs.Common.{refl, ◌∙◌}
-use Rattle.moc_shared.proofs.NewMaps.{each_of_map, stands_new, rest_new, one_more}
+use Rattle.moc_shared.proofs.NewMaps.{each_of_map, view_of_new_record, rest_new, one_more}
 use Rattle.moc_shared.specs.Clients.{start_of}
 use Rattle.moc_shared.proofs.map.making.split_seats.Goals as goal
 
 pub split-rest-requires-clause-client : goal.split-rest-requires-clause-client
 split-rest-requires-clause-client c =
-    stands_new (start_of c.args.map.now) c.args.clients c.loop-number.number c.loop-number.seat.me.0
+    view_of_new_record (start_of c.args.map.now) c.args.clients c.loop-number.number c.loop-number.seat.me.0
     c.loop-number.invariant.view c.loop-number-test.true
 
 pub loop-number-preserved : goal.loop-number-preserved

@@ -7,13 +7,13 @@ use Rattle.moc_shared.specs.Private.Invariant.{parts_of_notes}
 use Rattle.moc_shared.specs.Private.Seats.{content, part, IsInSky, notes_below}
 use Rattle.moc_shared.specs.Private.Slots.{replies_to}
 use Rattle.moc_shared.proofs.Moves.{ends_call_as, ended_is}
-use Rattle.moc_shared.proofs.CarriedSlots.{first_carried, rest_parts}
+use Rattle.moc_shared.proofs.CarriedSlots.{first_entry_of_keys, rest_parts}
 use Rattle.moc_shared.proofs.table.steps.end_call.Goals as goal
 
 pub exchange-requires : goal.exchange-requires
 exchange-requires g c = (
   c.requires.place.0,
-  first_carried c.args.seat.now.me.1 c.index-index.result _
+  first_entry_of_keys c.args.seat.now.me.1 c.index-index.result _
       (c.requires.carried ∙ ap (λ (l : List ℕ). map table_index l) c.requires.held.0
       ∙ (λ i. sym c.index-index.ensures.place i ∷ map table_index (parts_of_notes (notes_below c.args.rest.now 12)))),
 )

@@ -5,15 +5,15 @@ use Rattle.moc_shared.specs.Batches.{batch_answer}
 use Rattle.moc_shared.specs.Seats.{table_index, ClientView}
 use Rattle.moc_shared.specs.Private.Invariant.{parts_of_notes}
 use Rattle.moc_shared.specs.Private.Seats.{content, part, IsInSky}
-use Rattle.moc_shared.proofs.Basics.{none_in}
+use Rattle.moc_shared.proofs.Basics.{empty_range_or}
 use Rattle.moc_shared.proofs.Moves.{ends_call_as, ended_is}
-use Rattle.moc_shared.proofs.CarriedSlots.{first_carried, none_carried, rest_parts}
+use Rattle.moc_shared.proofs.CarriedSlots.{first_entry_of_keys, no_entries_of_no_keys, rest_parts}
 use Rattle.moc_shared.proofs.table.steps.end_single.Goals as goal
 
 pub exchange-requires : goal.exchange-requires
 exchange-requires g c = (
   c.requires.place.0,
-  first_carried c.args.seat.now.me.1 c.index-index.result _
+  first_entry_of_keys c.args.seat.now.me.1 c.index-index.result _
       (c.requires.carried ∙ ap (λ (l : List ℕ). map table_index l) c.requires.held
       ∙ (λ i. sym c.index-index.ensures.place i ∷ [])),
 )
@@ -25,7 +25,7 @@ store-requires g c = let v = c.args.seat.now.me.0 in (
   ends_call_as 12 content part batch_answer IsInSky _ _ _ _ _ v _ _ (Some c.args.new) _
       (call_by v.mine.number (c.args.command.now ∷ []) (c.args.reply.now ∷ [])) g.C.EndingCall.call
       [] g.C.EndingCall.notes c.index-index.ensures.place c.requires.call.0 c.requires.call.1
-      c.exchange.ensures.3 c.requires.client refl c.requires.held (λ h. none_in c.args.part h) c.requires.answered,
+      c.exchange.ensures.3 c.requires.client refl c.requires.held (λ h. empty_range_or c.args.part h) c.requires.answered,
 )
 
 pub returns : goal.returns
@@ -37,6 +37,6 @@ returns g c = let v = c.args.seat.now.me.0 in
     (rest_parts c.args.seat.now.me.1 (table_index c.args.part) _ (c.requires.carried ∙ ap (λ (l : List ℕ). map table_index l) c.requires.held)) c.store.ensures.2 in
     record {
       same = search rules;
-      idle = none_carried c.store.new.seat.me.1 (t.0 ∙ ap (λ (u : ClientView). map table_index (parts_of_notes u.holds)) t.1.1);
+      idle = no_entries_of_no_keys c.store.new.seat.me.1 (t.0 ∙ ap (λ (u : ClientView). map table_index (parts_of_notes u.holds)) t.1.1);
       ended = t.1;
     }

@@ -3,7 +3,7 @@ use Rattle.std.specs.List.{list_any}
 use Rattle.moc_parts.specs.Batches.{batches}
 use Rattle.moc_parts.specs.Lemmas.{all_parts}
 use Rattle.moc_steps.specs.Machine.{holds, twelve}
-use Rattle.moc_steps.proofs.Batches.{upto, any-next, any_twelve}
+use Rattle.moc_steps.proofs.Batches.{parts_below, any-next, any_twelve}
 use Rattle.moc_steps.proofs.Permitted.{any_of}
 use Rattle.moc_steps.proofs.TakingParts.{in_twelve}
 use Rattle.moc_steps.proofs.midway.ActiveOperation.holds_some.Goals as goal
@@ -23,4 +23,4 @@ returns-then-holds c =
 pub returns : goal.returns
 returns c =
     let twelve : c.loop-part.part-index ≡ 12 = (let low = c.loop-part-test.false in let high = c.loop-part.auto.part-index-end in omega arith) in
-    sym (sym (any_twelve (holds batches c.args.self.now.running)) ∙ ap (λ n. list_any (holds batches c.args.self.now.running) (upto n)) (sym twelve) ∙ c.loop-part.invariant)
+    sym (sym (any_twelve (holds batches c.args.self.now.running)) ∙ ap (λ n. list_any (holds batches c.args.self.now.running) (parts_below n)) (sym twelve) ∙ c.loop-part.invariant)

@@ -9,7 +9,7 @@ use Rattle.moc_steps.specs.Machine.{Running, next_part}
 use Rattle.moc_steps.specs.Private.ClientState.{ClientState, ClientInvariant, contents_of}
 use Rattle.moc_steps.proofs.Cases.{is_in}
 use Rattle.moc_steps.proofs.TakenParts.{next_is}
-use Rattle.moc_steps.proofs.TakenContents.{get_less, filled_more, previous_more, lie_more, none_made}
+use Rattle.moc_steps.proofs.TakenContents.{get_less, taken_contents_next, previous_more, contents_within_parts_next, no_index_no_update}
 use Rattle.moc_steps.proofs.midway.ActiveOperation.take.Goals as goal
 
 pub overflow_add-self : goal.overflow_add-self
@@ -31,9 +31,9 @@ invariant_of-self c =
     subst (λ q. ClientInvariant i.batch (i.taken + 1) i.edited i.parts.items (set_at i.taken_lists q (Some c.args.list)) i.prepared_update) (sym c.index.ensures.value) (record {
       ascending = v.ascending;
       filled = subst (λ n. (b : ℕ) → b < 12 → is_some (get_or (set_at i.taken_lists c.args.part (Some c.args.list)) b None) ≡ is_in b (take n i.parts.items)) (sym more)
-          (filled_more i.taken_lists i.parts.items i.taken c.args.part c.args.list next (subst (λ n. c.args.part < n) (sym twelve) low) v.filled);
-      own = lie_more i.taken_lists c.args.part c.args.list v.own low c.requires.own;
-      ready = none_made i.prepared_update _ (ap (λ (z : ClientState). z.entry_index) c.self.view_is ∙ c.requires.first);
+          (taken_contents_next i.taken_lists i.parts.items i.taken c.args.part c.args.list next (subst (λ n. c.args.part < n) (sym twelve) low) v.filled);
+      own = contents_within_parts_next i.taken_lists c.args.part c.args.list v.own low c.requires.own;
+      ready = no_index_no_update i.prepared_update _ (ap (λ (z : ClientState). z.entry_index) c.self.view_is ∙ c.requires.first);
       committed = v.committed;
     })
 

@@ -49,8 +49,8 @@ index_mut-requires c =
     let twelve : length i.parts.items ≡ 12 = inv.1.size in
     let low = c.index.ensures.in_range in search rules
 
-goes : (c : goal.After-drop-index_mut) → Goes c.self.inside.begun c.self.inside.clients c.self.inside.parts.items c.self.inside.order.items (machine.Step.Edit c.args.client c.args.part) c.self.inside.begun c.change.new.self (slice_set c.self.inside.parts.items c.index.result c.in_ok-list.list) c.self.inside.holders c.push.new.self.items
-goes c =
+edit_step : (c : goal.After-drop-index_mut) → Goes c.self.inside.begun c.self.inside.clients c.self.inside.parts.items c.self.inside.order.items (machine.Step.Edit c.args.client c.args.part) c.self.inside.begun c.change.new.self (slice_set c.self.inside.parts.items c.index.result c.in_ok-list.list) c.self.inside.holders c.push.new.self.items
+edit_step c =
     let i = c.self.inside in
     let s : ClientState = c.in-Some.midway.now in
     let b : ℕ = c.args.part in
@@ -70,10 +70,10 @@ goes c =
     (first_edit_goes i.begun i.clients i.parts.items i.holders i.order.items c.self.invariant c.args.client b s prepared_update.entry_index list entry has none place_is c.number-begin.ensures refl refl list_is permitted)))
 
 pub invariant_of-self-2 : goal.invariant_of-self-2
-invariant_of-self-2 c = (goes c).1
+invariant_of-self-2 c = (edit_step c).1
 
 pub returns-clause-after : goal.returns-clause-after
-returns-clause-after c = (goes c).0 ∙ ap (λ w. world_after batches w (machine.Step.Edit c.args.client c.args.part)) c.self.view_is
+returns-clause-after c = (edit_step c).0 ∙ ap (λ w. world_after batches w (machine.Step.Edit c.args.client c.args.part)) c.self.view_is
 
 pub unreachable-requires-in_default-list : goal.unreachable-requires-in_default-list
 unreachable-requires-in_default-list c =

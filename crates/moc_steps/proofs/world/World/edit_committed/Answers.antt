@@ -30,15 +30,15 @@ unreachable-requires c =
     (ap (λ (w : BatchWorld). refusal batches w.locks (machine.Step.Edit c.args.client c.args.part)) c.self.view_is ∙ c.requires.permitted)
     (sym c.get.ensures ∙ ap option_copied c.in_default.is)
 
-any : (c : goal.In-Some) → is_nonempty c.in-Some.midway.now.running.edited ≡ true
-any c =
+has_edited_part : (c : goal.In-Some) → is_nonempty c.in-Some.midway.now.running.edited ≡ true
+has_edited_part c =
     let i = c.self.inside in
     any_edited i.begun i.clients i.parts.items i.holders i.order.items c.self.invariant c.args.client c.in-Some.midway.now c.args.self.now (sym c.in-Some.ensures) c.self.view_is c.requires.committed
 
 pub new_list-requires-clause-value : goal.new_list-requires-clause-value
 new_list-requires-clause-value c =
     let i = c.self.inside in
-    is_Some c.in-Some.midway.now.entry_index (has_place i.begun i.clients i.parts.items i.holders i.order.items c.self.invariant c.args.client c.in-Some.midway.now (sym c.in-Some.ensures) (any c))
+    is_Some c.in-Some.midway.now.entry_index (has_place i.begun i.clients i.parts.items i.holders i.order.items c.self.invariant c.args.client c.in-Some.midway.now (sym c.in-Some.ensures) (has_edited_part c))
 
 pub new_list-requires-clause-part : goal.new_list-requires-clause-part
 new_list-requires-clause-part c =
@@ -60,8 +60,8 @@ index_mut-requires c =
     let twelve : length i.parts.items ≡ 12 = inv.1.size in
     let low = c.index.ensures.in_range in search rules
 
-goes : (c : goal.After-drop-index_mut) → Goes c.self.inside.begun c.self.inside.clients c.self.inside.parts.items c.self.inside.order.items (machine.Step.Edit c.args.client c.args.part) c.self.inside.begun c.change.new.self (slice_set c.self.inside.parts.items c.index.result c.in_ok-list.list) c.self.inside.holders c.self.inside.order.items
-goes c =
+edit_committed_step : (c : goal.After-drop-index_mut) → Goes c.self.inside.begun c.self.inside.clients c.self.inside.parts.items c.self.inside.order.items (machine.Step.Edit c.args.client c.args.part) c.self.inside.begun c.change.new.self (slice_set c.self.inside.parts.items c.index.result c.in_ok-list.list) c.self.inside.holders c.self.inside.order.items
+edit_committed_step c =
     let i = c.self.inside in
     let s : ClientState = c.in-Some.midway.now in
     let has : map.get i.clients c.args.client ≡ Some s = sym c.in-Some.ensures in
@@ -76,7 +76,7 @@ goes c =
     (ap (λ (w : BatchWorld). refusal batches w.locks (machine.Step.Edit c.args.client c.args.part)) c.self.view_is ∙ c.requires.permitted)))
 
 pub invariant_of-self : goal.invariant_of-self
-invariant_of-self c = (goes c).1
+invariant_of-self c = (edit_committed_step c).1
 
 pub returns-clause-after : goal.returns-clause-after
-returns-clause-after c = (goes c).0 ∙ ap (λ w. world_after batches w (machine.Step.Edit c.args.client c.args.part)) c.self.view_is
+returns-clause-after c = (edit_committed_step c).0 ∙ ap (λ w. world_after batches w (machine.Step.Edit c.args.client c.args.part)) c.self.view_is

@@ -4,7 +4,7 @@ use Rattle.moc_steps.specs.Machine as machine
 use Rattle.moc_steps.specs.Machine.{refusal, end_refusal, world_after, reply_to}
 use Rattle.moc_steps.specs.Played.{BatchWorld}
 use Rattle.moc_steps.proofs.PreservedSteps.{Goes, is_midway}
-use Rattle.moc_steps.proofs.EndGoes.{answers, read_at, quit_ends, quit_silent, entry_place, done_ends}
+use Rattle.moc_steps.proofs.EndGoes.{entry_with_replies, read_at, quit_ends, quit_silent, entry_place, done_ends}
 use Rattle.moc_steps.proofs.EndGoes.{done_tells}
 use Rattle.moc_steps.specs.Theorems.{RepliesByEntry}
 use Rattle.moc_steps.proofs.AnyObject.{reached_replies}
@@ -57,23 +57,23 @@ index_mut-requires c =
     let i = c.self.inside in
     let low : c.entry_index-entry_index.result < length i.order.items = entry_place i.begun i.clients i.parts.items i.holders i.order.items c.self.invariant c.args.client c.in_ok-midway.midway c.entry_index-entry_index.result (sym c.in_ok-midway.ensures.client) (sym (ap (λ n. Some n) c.entry_index-entry_index.ensures ∙ c.in_ok-prepared_update.ensures.entry_index)) in search rules
 
-goes : (c : goal.Joined-index_mut) → Goes c.self.inside.begun c.self.inside.clients c.self.inside.parts.items c.self.inside.order.items (machine.Step.End c.args.client) c.self.inside.begun c.remove.new.self c.self.inside.parts.items c.self.inside.holders (slice_set c.self.inside.order.items c.entry_index-entry_index.result (answers c.index_mut.result.now c.into_replies-replies.result.1))
-goes c =
+end_step : (c : goal.Joined-index_mut) → Goes c.self.inside.begun c.self.inside.clients c.self.inside.parts.items c.self.inside.order.items (machine.Step.End c.args.client) c.self.inside.begun c.remove.new.self c.self.inside.parts.items c.self.inside.holders (slice_set c.self.inside.order.items c.entry_index-entry_index.result (entry_with_replies c.index_mut.result.now c.into_replies-replies.result.1))
+end_step c =
     let i = c.self.inside in
     let has = sym c.in_ok-midway.ensures.client in
     let at = sym (ap (λ n. Some n) c.entry_index-entry_index.ensures ∙ c.in_ok-prepared_update.ensures.entry_index) in
     let low = entry_place i.begun i.clients i.parts.items i.holders i.order.items c.self.invariant c.args.client c.in_ok-midway.midway c.entry_index-entry_index.result has at in
-    subst (λ m. Goes i.begun i.clients i.parts.items i.order.items (machine.Step.End c.args.client) i.begun m i.parts.items i.holders (slice_set i.order.items c.entry_index-entry_index.result (answers c.index_mut.result.now c.into_replies-replies.result.1))) (sym c.in_ok-midway.ensures.removed)
+    subst (λ m. Goes i.begun i.clients i.parts.items i.order.items (machine.Step.End c.args.client) i.begun m i.parts.items i.holders (slice_set i.order.items c.entry_index-entry_index.result (entry_with_replies c.index_mut.result.now c.into_replies-replies.result.1))) (sym c.in_ok-midway.ensures.removed)
     (done_ends i.begun i.clients i.parts.items i.holders i.order.items c.self.invariant c.args.client c.in_ok-midway.midway c.entry_index-entry_index.result c.index_mut.result.now c.into_replies-replies.result.1 has at
     (read_at i.order.items c.entry_index-entry_index.result c.index_mut.result.now low c.index_mut.ensures.value)
     (ap (λ p. p.1) c.into_replies-replies.ensures ∙ c.in_ok-prepared_update.ensures.value.replied)
     (ap (λ (w : BatchWorld). refusal batches w.locks (machine.Step.End c.args.client)) c.self.view_is ∙ c.requires))
 
 pub invariant_of-self-2 : goal.invariant_of-self-2
-invariant_of-self-2 c = (goes c).1
+invariant_of-self-2 c = (end_step c).1
 
 pub returns-clause-after : goal.returns-clause-after
-returns-clause-after c = (goes c).0 ∙ ap (λ w. world_after batches w (machine.Step.End c.args.client)) c.self.view_is
+returns-clause-after c = (end_step c).0 ∙ ap (λ w. world_after batches w (machine.Step.End c.args.client)) c.self.view_is
 
 pub returns-clause-reply : goal.returns-clause-reply
 returns-clause-reply c =

@@ -2,7 +2,7 @@ use Rattle.std.proofs.Common.{◌≡◌, Some, None, inl, inr, refl, sym, ap, �
 use Rattle.std.specs.Option.{is_some}
 use Rattle.moc_parts.specs.Batches.{batches}
 use Rattle.moc_steps.specs.Machine.{client_at}
-use Rattle.moc_steps.proofs.Basics.{clash}
+use Rattle.moc_steps.proofs.Basics.{absurd_bool}
 use Rattle.moc_steps.proofs.TakingParts.{holder_holds}
 use Rattle.moc_steps.proofs.PreservedSteps.{seen_as}
 use Rattle.moc_steps.proofs.NextSteps.{highest_takes, highest_edits, highest_gives}
@@ -39,7 +39,7 @@ returns-then-not-has_edited-clause-step c =
       highest_edits c.args.self.now c.args.client c.in_ok-midway.midway.now.running was c.args.part c.requires stays
           (elim c.else-not-quits.branch [
             | else-not-quits-via-then-not-quits+else-is_some w ↦ ap is_some (sym w.next_part.ensures) ∙ sym w.is_some.ensures ∙ w.if-is_some.false
-            | else-not-quits-via-else-not-quits w ↦ clash c.in_ok-midway.midway.now.running.quits (sym c.quits.ensures ∙ w.if-not-quits.false) stays
+            | else-not-quits-via-else-not-quits w ↦ absurd_bool c.in_ok-midway.midway.now.running.quits (sym c.quits.ensures ∙ w.if-not-quits.false) stays
           ])
           (sym c.has_edited.ensures ∙ c.if-not-has_edited.true),
       refl,

@@ -1,22 +1,9 @@
-use Rattle.std.proofs.lemmas.Result.{err_from_is_err_and}
-use Rattle.moc_text.proofs.ReadWords.{says_all}
-use Rattle.moc_text.proofs.UniqueReading.{one_set}
-use Rattle.moc_text.proofs.Represented.{reading_is, fault_is, read_as_said}
+use Rattle.moc_text.proofs.UniqueReading.{set_is_unique}
+use Rattle.moc_text.proofs.Represented.{reading_is}
 use Rattle.moc_text.proofs.ascii.reading.read_ascii.Goals as goal
 
-pub returns-in_err-reading-clause-reported : goal.returns-in_err-reading-clause-reported
-returns-in_err-reading-clause-reported c =
-    let p = err_from_is_err_and c.from_residual.result c.from_residual.ensures.1 in
-    rw (p.1, p.2) (fault_is c.args.text.now _ c.in_err-reading.ensures.error)
+pub returns-in-Some-clause-reported : goal.returns-in-Some-clause-reported
+returns-in-Some-clause-reported c = rw (c.in_ok-set.ensures, c.order.ensures) (reading_is c.args.text.now _ _ c.in-Some.ensures)
 
-pub returns-in_err-reading-clause-reading : goal.returns-in_err-reading-clause-reading
-returns-in_err-reading-clause-reading c =
-    let p = err_from_is_err_and c.from_residual.result c.from_residual.ensures.1 in
-    read_as_said c.args.text.now _ (rw (p.1, p.2) (fault_is c.args.text.now _ c.in_err-reading.ensures.error))
-
-pub returns-clause-reported : goal.returns-clause-reported
-returns-clause-reported c = rw c.in_ok-set.ensures (reading_is c.args.text.now _ _ (says_all c.args.text.now _ _ _ c.in_ok-reading.ensures.represents))
-
-pub returns-clause-reading : goal.returns-clause-reading
-returns-clause-reading c = λ a k said.
-    rw c.in_ok-set.ensures (one_set c.args.text.now _ a _ k (says_all c.args.text.now _ _ _ c.in_ok-reading.ensures.represents) said)
+pub returns-in-Some-clause-reading : goal.returns-in-Some-clause-reading
+returns-in-Some-clause-reading c = λ a k said. rw (c.in_ok-set.ensures, c.order.ensures) (set_is_unique c.args.text.now _ a _ k c.in-Some.ensures said)

@@ -11,13 +11,13 @@ use Rattle.moc_text.proofs.Runs.{from_first, from_last, of_order, order_step}
 use Rattle.moc_text.proofs.ascii.writing.push_all.Goals as goal
 
 pub loop-level-init : goal.loop-level-init
-loop-level-init c =
+loop-level-init g c =
     let cells = cells_of c.args.set.now in
     ap (λ (l : List CellNumber). c.args.text.now ++ remaining_text c.args.stated None (runs_of l)) (from_first c.args.orders.0 c.args.orders.1 cells c.requires.each)
     ∙ ap (λ (t : List ℕ). c.args.text.now ++ t) (remaining_text-join c.args.stated (runs_of cells))
 
 pub loop-level-preserved : goal.loop-level-preserved
-loop-level-preserved c =
+loop-level-preserved g c =
     let k = c.loop-level.level in
     let cells = cells_of c.args.set.now in
     let ps = c.cell_ranges.result in
@@ -27,7 +27,7 @@ loop-level-preserved c =
     ∙ c.loop-level.invariant
 
 pub returns : goal.returns
-returns c =
+returns g c =
     let cells = cells_of c.args.set.now in
     on_ok_weaker c.push_stated.result (λ e. e
     ∙ ap (λ (l : List CellNumber). c.loop-level.text ++ remaining_text c.args.stated c.loop-level.before (runs_of l)) (sym (from_last c.args.orders.0 c.args.orders.1 c.loop-level.level cells c.requires.each c.loop-level-test.false))

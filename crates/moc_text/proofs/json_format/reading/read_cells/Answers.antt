@@ -5,7 +5,7 @@ use Rattle.serde_json.specs.View.{view, items_view}
 use Rattle.serde_json.specs.declared.value.Value.{Value}
 use Rattle.moc_ranges.specs.Lemmas.{union-empty}
 use Rattle.moc_text.specs.JsonFormat.{items_pixels, elements_error}
-use Rattle.moc_text.proofs.JsonMembers.{item_fine, item_added}
+use Rattle.moc_text.proofs.JsonMembers.{element_without_error, item_added}
 use Rattle.moc_text.proofs.json_format.reading.read_cells.Goals as goal
 
 pub loop-place-preserved : goal.loop-place-preserved
@@ -17,7 +17,7 @@ loop-place-preserved c =
     drop-cons c.args.values.now c.loop-place.place value c.loop-place-test.true ∙ ap (λ (v : Value). v ∷ drop (suc c.loop-place.place) c.args.values.now) (sym c.index-values-place.is) ∙ ap (λ (n : ℕ). value ∷ drop n c.args.values.now) after in
     let read = c.in_ok-read_cell.ensures in
     record {
-      fault = item_fine c.args.order c.args.name c.loop-place.place (view value) (items_view rest) read.0 ∙ ap (λ (vs : List Value). elements_error c.args.order c.args.name c.loop-place.place (items_view vs)) (sym next) ∙ c.loop-place.invariant.fault;
+      fault = element_without_error c.args.order c.args.name c.loop-place.place (view value) (items_view rest) read.0 ∙ ap (λ (vs : List Value). elements_error c.args.order c.args.name c.loop-place.place (items_view vs)) (sym next) ∙ c.loop-place.invariant.fault;
       set = item_added c.args.order c.loop-place.cells c.read_cell.new.cells (view value) (items_view rest) read.1 ∙ ap (λ (vs : List Value). set.union c.loop-place.cells (items_pixels c.args.order (items_view vs))) (sym next) ∙ c.loop-place.invariant.set;
     }
 

@@ -5,7 +5,7 @@ use Rattle.serde_json.specs.View.{view, members_view}
 use Rattle.moc_lists.specs.RangeList.{NumberSet}
 use Rattle.moc_ranges.specs.Lemmas.{empty-union}
 use Rattle.moc_text.specs.JsonFormat.{members_pixels, RepresentsJson}
-use Rattle.moc_text.proofs.JsonMembers.{one_members}
+use Rattle.moc_text.proofs.JsonMembers.{json_set_is_unique}
 use Rattle.moc_text.proofs.json_format.reading.read_json.Goals as goal
 use Rattle.moc_text.proofs.json_format.reading.read_json.Goals.{Joined-value-4}
 
@@ -27,4 +27,4 @@ pub returns-clause-set : goal.returns-clause-set
 returns-clause-set c = represents c
 
 pub returns-clause-reading : goal.returns-clause-reading
-returns-clause-reading c = λ a k said. one_members c.args.text.now _ a _ k (represents c) said
+returns-clause-reading c = λ a k said. json_set_is_unique c.args.text.now _ a _ k (represents c) said

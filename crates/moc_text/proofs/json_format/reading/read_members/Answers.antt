@@ -10,7 +10,7 @@ use Rattle.serde_json.specs.View.{view, members_view}
 use Rattle.moc_ranges.specs.Lemmas.{union-empty}
 use Rattle.moc_text.specs.Ascii.{deeper}
 use Rattle.moc_text.specs.JsonFormat.{order_of_name, array_pixels, name_error, members_pixels, members_error, deepest_name}
-use Rattle.moc_text.proofs.JsonMembers.{member_fine, member_added, member_deepest}
+use Rattle.moc_text.proofs.JsonMembers.{member_without_error, member_added, member_deepest}
 use Rattle.moc_text.proofs.ReadWords.{deeper-None}
 use Rattle.moc_text.proofs.json_format.reading.read_members.Goals as goal
 
@@ -28,7 +28,7 @@ loop-text-preserved c =
     let added : c.read_member.new.cells ≡ set.union c.loop-text.cells (array_pixels (order_of_name text) (as_array d)) = read.2 ∙ ap (λ (t : List ℕ). set.union c.loop-text.cells (array_pixels (order_of_name t) (as_array d))) same in
     record {
       count = omega (arith, ap length e, c.loop-text.invariant.count);
-      fault = member_fine name text d ms fine ∙ ap (λ (it : List (String Global × Value)). members_error name (members_view it)) (sym e) ∙ c.loop-text.invariant.fault;
+      fault = member_without_error name text d ms fine ∙ ap (λ (it : List (String Global × Value)). members_error name (members_view it)) (sym e) ∙ c.loop-text.invariant.fault;
       set = member_added c.loop-text.cells c.read_member.new.cells text d ms added ∙ ap (λ (it : List (String Global × Value)). set.union c.loop-text.cells (members_pixels (members_view it))) (sym e) ∙ c.loop-text.invariant.set;
       moc_order = member_deepest c.loop-text.moc_order c.deeper-moc_order.result c.in_ok-order.order text d ms order c.deeper-moc_order.ensures ∙ ap (λ (it : List (String Global × Value)). deeper c.loop-text.moc_order (deepest_name (members_view it))) (sym e) ∙ c.loop-text.invariant.moc_order;
     }

@@ -3,7 +3,7 @@ use Rattle.std.proofs.Common.{List, ℕ, [], ◌++◌, subst}
 use Rattle.moc_devices.specs.Devices.{Sends}
 use Rattle.moc_devices.specs.Lemmas.{OnlyWrites-later}
 use Rattle.moc_script.proofs.Sending.{Sends-error, Sends-then}
-use Rattle.moc_script.proofs.Joinings.{joins_fail, joins_then}
+use Rattle.moc_script.proofs.Joinings.{joins_fail, merge_after_sending}
 use Rattle.moc_script.proofs.crews.merging.AnswerMerger.write.Goals as goal
 
 pub returns-in_err-write_turns-clause-sends : goal.returns-in_err-write_turns-clause-sends
@@ -13,14 +13,14 @@ returns-in_err-write_turns-clause-sends g c =
 pub returns-in_err-send-clause-sends : goal.returns-in_err-send-clause-sends
 returns-in_err-send-clause-sends g c =
     let pending = c.write_turns.new.self.pending.items in
-    joins_then c.args.self.walks.items c.args.following.now pending _ _ _ c.from_residual-in_err-send.result c.in_ok-write_turns.ensures.sends
+    merge_after_sending c.args.self.walks.items c.args.following.now pending _ _ _ c.from_residual-in_err-send.result c.in_ok-write_turns.ensures.sends
     (Sends-error (pending ++ c.args.following.now) c.send.new.pending.items [] _ _ c.send.result c.from_residual-in_err-send.result c.from_residual-in_err-send.ensures.0 c.send.ensures.sends)
 
 pub returns-clause-sends : goal.returns-clause-sends
 returns-clause-sends g c =
     let pending = c.write_turns.new.self.pending.items in
     let last = c.send.new.pending.items in
-    joins_then c.args.self.walks.items c.args.following.now pending _ _ _ c.write_all.result c.in_ok-write_turns.ensures.sends
+    merge_after_sending c.args.self.walks.items c.args.following.now pending _ _ _ c.write_all.result c.in_ok-write_turns.ensures.sends
     (Sends-then (pending ++ c.args.following.now) last [] (g.W.Sink.writing c.write_turns.new.writer) (g.W.Sink.writing c.send.new.writer) (g.W.Sink.writing c.write_all.new.writer) c.write_all.result c.in_ok-send.ensures.sends
     (subst (λ (l : List ℕ). Sends l (g.W.Sink.writing c.send.new.writer) [] (g.W.Sink.writing c.write_all.new.writer) c.write_all.result) c.deref.ensures.value c.write_all.ensures.sends))
 

@@ -1,0 +1,166 @@
+-- Inserting a range into a list of blocks, and removing one from it.
+use Rattle.std.specs.Prelude.{◌≡◌, ℕ, ◌+◌, ◌<◌, ◌≤◌, Bool, ◌||◌, ◌&&◌, not, nat_lt, cond, min, max, Option}
+use Rattle.std.specs.Prelude.{None, Some, List, [], ◌∷◌, ◌++◌, length, get_or, slice_set, take, drop, Result}
+use Rattle.std.specs.Prelude.{MatchOption, MatchResult}
+use Rattle.std.specs.List.{insert}
+use Rattle.moc_blocks.specs.RangeList.{IsNormal}
+use Rattle.moc_blocks.specs.Lemmas.Members.{in_range, in_ranges}
+use Rattle.moc_blocks.specs.Blocks.{concat, ObeysFillRule, AreBlocks, max_block_ranges}
+use Rattle.moc_blocks.specs.Private.Blocks.{next_of, width_of, IsStored}
+use Rattle.moc_blocks.specs.Private.Built.{first_length, last_length, EndsBelow}
+use Rattle.moc_blocks.specs.Private.Walks.{all_ranges}
+use Rattle.moc_blocks.specs.declared.edits.rebuild.RangeEdit.{RangeEdit}
+use Rattle.moc_blocks.specs.declared.edits.rebuild.RangeEdit.TheVariants.{Insert, Remove}
+use Rattle.moc_blocks.specs.declared.edits.rebuild.Edit.{Edit}
+use Rattle.moc_blocks.specs.declared.edits.rebuild.Edit.TheVariants.{Block, Node}
+
+-- a run of a list, with the runs before it, which all end below a number, and the runs after it
+pub record IsSplitAtRun {T : Type 0} (ranges : T → List (ℕ × ℕ)) (from : ℕ) (whole before : List T) (run : T)
+    (after : List T) : Type 0 where
+  pub parts : whole ≡ before ++ run ∷ after
+  pub below : EndsBelow from (all_ranges ranges before)
+
+-- a range was merged with the ranges that it touches, and `rest` is the list after it
+pub record IsMergedRange (start to : ℕ) (ranges : List (ℕ × ℕ)) (end : ℕ) (rest : List (ℕ × ℕ)) : Type 0 where
+  pub normal : IsNormal ((start, end) ∷ rest)
+  pub fewer : length rest ≤ length ranges
+  pub below : (f : ℕ) → to < f → EndsBelow f ranges → EndsBelow f ((start, end) ∷ rest)
+  pub same : (q : ℕ) → in_ranges ((start, end) ∷ rest) q ≡ (in_range (start, to) q || in_ranges ranges q)
+
+-- the parts of ranges below a number
+abbrev pub parts_below : ℕ → List (ℕ × ℕ) → List (ℕ × ℕ)
+parts_below limit [] = []
+parts_below limit (range ∷ ranges) =
+    cond (nat_lt range.0 limit) ((range.0, min range.1 limit) ∷ parts_below limit ranges) (parts_below limit ranges)
+
+-- the parts of ranges at or above a number
+abbrev pub parts_from : ℕ → List (ℕ × ℕ) → List (ℕ × ℕ)
+parts_from limit [] = []
+parts_from limit (range ∷ ranges) =
+    cond (nat_lt limit range.1) ((max range.0 limit, range.1) ∷ parts_from limit ranges) (parts_from limit ranges)
+
+-- whether a pixel is in a list after an edit, from whether it was in the list and whether it is in the range
+abbrev pub after_edit : RangeEdit → Bool → Bool → Bool
+after_edit Insert was inside = was || inside
+after_edit Remove was inside = was && not inside
+
+-- a list has the pixels of an old list after an edit with a range
+abbrev pub IsEdited : RangeEdit → ℕ → ℕ → List (ℕ × ℕ) → List (ℕ × ℕ) → Type 0
+IsEdited edit from to old new = (q : ℕ) → in_ranges new q ≡ after_edit edit (in_ranges old q) (in_range (from, to) q)
+
+-- the ranges of a block after an edit with a range; they begin and end no further out than the old ones and the range
+pub record AreEditedRanges (edit : RangeEdit) (from to : ℕ) (old new : List (ℕ × ℕ)) : Type 0 where
+  pub normal : IsNormal new
+  pub first : min from (next_of old) ≤ next_of new
+  pub below : (f : ℕ) → to < f → EndsBelow f old → EndsBelow f new
+  pub same : IsEdited edit from to old new
+
+-- the pieces of a split list: one list, or two if the second is not empty
+abbrev pub pieces : {X : Type 0} → List X → List X → List (List X)
+pieces xs [] = xs ∷ []
+pieces xs (y ∷ ys) = xs ∷ ((y ∷ ys) ∷ [])
+
+-- a list was split into one or two lists, which keep the fill rule between lists of the given lengths
+pub record IsSplit {X : Type 0} (most before after : ℕ) (items first second : List X) : Type 0 where
+  pub parts : first ++ second ≡ items
+  pub filled : ObeysFillRule most (pieces first second)
+  pub front : 0 < before → most < before + first_length (pieces first second)
+  pub back : 0 < after → most < last_length (pieces first second) + after
+
+-- a list has the pixels of an old list and of one more range; `added` of them are new
+pub record AddsRange (from to : ℕ) (old new : List (ℕ × ℕ)) (added : ℕ) : Type 0 where
+  pub same : IsEdited Insert from to old new
+  pub more : width_of new ≡ width_of old + added
+
+-- a list has the pixels of an old list that are not in a range; `removed` pixels are in both
+pub record RemovesRange (from to : ℕ) (old new : List (ℕ × ℕ)) (removed : ℕ) : Type 0 where
+  pub same : IsEdited Remove from to old new
+  pub less : width_of new + removed ≡ width_of old
+
+-- the result of inserting a range: a list with the given number of new pixels; or, at `None` or an error, the list is
+-- unchanged
+abbrev pub Inserts : {E : Type 0} → ℕ → ℕ → List (ℕ × ℕ) → List (ℕ × ℕ) → Result (Option ℕ) E → Type 0
+Inserts from to old new result =
+    MatchResult result (λ added. MatchOption added (new ≡ old) (AddsRange from to old new)) (λ _. new ≡ old)
+
+-- the result of removing a range: a list without the given number of pixels; or, at `None` or an error, the list is
+-- unchanged
+abbrev pub Removes : {E : Type 0} → ℕ → ℕ → List (ℕ × ℕ) → List (ℕ × ℕ) → Result (Option ℕ) E → Type 0
+Removes from to old new result =
+    MatchResult result (λ removed. MatchOption removed (new ≡ old) (RemovesRange from to old new)) (λ _. new ≡ old)
+
+-- the new blocks of a node after an edit, between the blocks before and after the node
+pub record IsNodeBlocks (edit : RangeEdit) (from to : ℕ) (before after node blocks : List (List (ℕ × ℕ))) : Type 0 where
+  pub some : 0 < length blocks
+  pub sized : AreBlocks (before ++ (blocks ++ after))
+  pub normal : IsNormal (concat (before ++ (blocks ++ after)))
+  pub is_edited : IsEdited edit from to (concat (before ++ (node ++ after))) (concat (before ++ (blocks ++ after)))
+
+-- a block of a node was edited, and is now one block or two; `left` and `right` are the blocks around it in this node
+pub record IsEditedBlock (edit : RangeEdit) (from to : ℕ) (before after node left : List (List (ℕ × ℕ)))
+    (run : List (ℕ × ℕ)) (right : List (List (ℕ × ℕ))) (first second : List (ℕ × ℕ)) : Type 0 where
+  pub parts : node ≡ left ++ run ∷ right
+  pub filled : AreBlocks (pieces first second)
+  pub normal : IsNormal (first ++ second)
+  pub node_blocks : IsNodeBlocks edit from to before after node (left ++ (pieces first second ++ right))
+
+-- the block at the given position of the node at the given position was edited; these are its ranges now
+pub record IsBlockEdit (edit : RangeEdit) (from to : ℕ) (nodes : List (List (List (ℕ × ℕ)))) (node block : ℕ)
+    (ranges : List (ℕ × ℕ)) : Type 0 where
+  pub before : List (List (List (ℕ × ℕ)))
+  pub old : List (List (ℕ × ℕ))
+  pub after : List (List (List (ℕ × ℕ)))
+  pub parts : nodes ≡ before ++ old ∷ after
+  pub at : node ≡ length before
+  pub left : List (List (ℕ × ℕ))
+  pub run : List (ℕ × ℕ)
+  pub right : List (List (ℕ × ℕ))
+  pub place : block ≡ length left
+  pub edited_block : IsEditedBlock edit from to (concat before) (concat after) old left run right ranges []
+
+-- a range fits into a gap of a block that is not full, at these positions: of the block's node, of the block in it, and
+-- of the gap in the block
+pub record IsGap (from to : ℕ) (nodes : List (List (List (ℕ × ℕ)))) (node block place : ℕ) : Type 0 where
+  pub ranges : List (ℕ × ℕ)
+  pub block_edit : IsBlockEdit Insert from to nodes node block ranges
+  pub inside : place ≤ length block_edit.run
+  pub capacity : length block_edit.run < max_block_ranges
+  pub made : ranges ≡ insert block_edit.run place (from, to)
+
+-- the blocks of a node, with a range inserted into one of them
+abbrev pub with_range_inserted : List (List (ℕ × ℕ)) → ℕ → ℕ → ℕ × ℕ → List (List (ℕ × ℕ))
+with_range_inserted blocks block place range = slice_set blocks block (insert (get_or blocks block []) place range)
+
+-- a block of a node is not full, and a range can be inserted at the given position
+pub record HasGap (node : List (List (ℕ × ℕ))) (block place : ℕ) (range : ℕ × ℕ) : Type 0 where
+  pub there : block < length node
+  pub inside : place ≤ length (get_or node block [])
+  pub capacity : length (get_or node block []) < max_block_ranges
+  pub normal : IsNormal (concat (with_range_inserted node block place range))
+  pub sized : AreBlocks (with_range_inserted node block place range)
+
+-- a list of one or two elements
+abbrev pub one_or_two : {X : Type 0} → X → Option X → List X
+one_or_two first None = first ∷ []
+one_or_two first (Some second) = first ∷ (second ∷ [])
+
+-- the node at a position is replaced by one or two nodes because of an edit
+pub record IsNodeEdit (edit : RangeEdit) (from to : ℕ) (nodes : List (List (List (ℕ × ℕ)))) (place : ℕ)
+    (first : List (List (ℕ × ℕ))) (second : Option (List (List (ℕ × ℕ)))) : Type 0 where
+  pub before : List (List (List (ℕ × ℕ)))
+  pub node : List (List (ℕ × ℕ))
+  pub after : List (List (List (ℕ × ℕ)))
+  pub parts : nodes ≡ before ++ node ∷ after
+  pub at : place ≡ length before
+  pub stored : IsStored [] (before ++ (one_or_two first second ++ after))
+  pub is_edited : IsEdited edit from to (concat (concat nodes))
+      (concat (concat (before ++ (one_or_two first second ++ after))))
+
+-- a block or a node is replaced because of an edit
+abbrev pub IsEdit : RangeEdit → ℕ → ℕ → List (List (List (ℕ × ℕ))) → Edit → Type 0
+IsEdit edit from to nodes (Block e) = IsBlockEdit edit from to nodes e.node e.block e.ranges.items
+IsEdit edit from to nodes (Node e) = IsNodeEdit edit from to nodes e.place e.first e.second
+
+-- a list with other elements in place of the one at a position
+abbrev pub with_replaced_item : {X : Type 0} → List X → ℕ → List X → List X
+with_replaced_item xs place new = take place xs ++ (new ++ drop (place + 1) xs)
