@@ -1,6 +1,7 @@
 /* Makes one allocation of the program that it is loaded into fail: the one with the number FAIL_ALLOCATION, counted from 1. At the end it
-   writes the number of allocations into the file ALLOCATION_COUNT. Several threads may allocate. program.py and library.py build and load
-   this library. */
+   writes the number of allocations into the file ALLOCATION_COUNT. Several threads may allocate. Calls of calloc count only if the variable
+   FAIL_CALLOC is set, because the C library makes some for its own threads. program.py and library.py build and load this library. */
+#include <errno.h>
 #include <stddef.h>
 #include <stdio.h>
 #include <stdlib.h>
@@ -8,6 +9,7 @@
 #include <unistd.h>
 
 extern void *__libc_malloc(size_t);
+extern void *__libc_calloc(size_t, size_t);
 extern void *__libc_realloc(void *, size_t);
 
 static long count, failing = -1;
@@ -19,12 +21,20 @@ static int fails(void)
         const char *text = getenv("FAIL_ALLOCATION");
         failing = text ? atol(text) : 0;
     }
-    return __atomic_add_fetch(&count, 1, __ATOMIC_SEQ_CST) == failing;
+    if (__atomic_add_fetch(&count, 1, __ATOMIC_SEQ_CST) != failing)
+        return 0;
+    errno = ENOMEM;
+    return 1;
 }
 
 void *malloc(size_t size)
 {
     return fails() ? NULL : __libc_malloc(size);
+}
+
+void *calloc(size_t count_of_elements, size_t size)
+{
+    return getenv("FAIL_CALLOC") && fails() ? NULL : __libc_calloc(count_of_elements, size);
 }
 
 void *realloc(void *old, size_t size)

@@ -9,10 +9,12 @@ import itertools
 from collections.abc import Iterator
 
 # The sizes and alignments of the types of elements, and a valid array of each.
-SIZES = {"uint8_t": (1, 1), "uint32_t": (4, 4), "uint64_t": (8, 8), "moc_range": (16, 8), "uint64_t[8]": (64, 8)}
+SIZES = {"uint8_t": (1, 1), "uint32_t": (4, 4), "uint64_t": (8, 8), "moc_range": (16, 8), "uint64_t[8]": (64, 8), "moc_text": (16, 8)}
 ARRAYS = {"uint8_t": "at.bytes", "uint32_t": "at.xs", "uint64_t": "at.cells", "moc_range": "at.ranges", "uint64_t[8]": "at.rows"}
+# A valid text.
+TEXT, VALID_TEXT = "moc_text", "&at.text"
 # Of the handles: valid ones, a zeroed one, and one in the memory of `guards.c`, with its offset.
-VALID_HANDLES = {"moc_store": ["&store"], "moc_client": ["&client", "&other"]}
+VALID_HANDLES = {"moc_store": ["&store", "&target"], "moc_client": ["&client", "&other"]}
 NULL_HANDLES = {"moc_store": "&no_store", "moc_client": "&no_client"}
 PLACED_HANDLES = {"moc_store": ("stores + 4", 32), "moc_client": ("clients + 12", 96)}
 HANDLE_SIZE = 8
@@ -49,11 +51,15 @@ class Call:
         self.macro = "NO_ID_AT" if name in id_functions else "WRONG_AT"
         self.types = [kind.removeprefix("const ").removesuffix("*") for kind in types]
         self.pointers = [place for place, kind in enumerate(types) if "*" in kind]
-        self.read = {place for place, kind in enumerate(types) if kind.startswith("const ") and self.types[place] not in VALID_HANDLES}
+        self.read = {place for place, kind in enumerate(types) if kind.startswith("const ")}
 
     def is_handle(self, place: int) -> bool:
         """Returns whether an argument is a pointer to a handle."""
         return self.types[place] in VALID_HANDLES
+
+    def is_array(self, place: int) -> bool:
+        """Returns whether an argument is a pointer with a length."""
+        return place in self.pointers and not self.is_handle(place) and self.types[place] != TEXT
 
     def text(self, changed: dict[int, str], is_apart: bool = False) -> str:
         """Returns the call in C. Arguments without a text in the dictionary are valid. All arrays have distinct memory if `is_apart`."""
@@ -62,6 +68,8 @@ class Call:
         for place, kind in enumerate(self.types):
             if kind in handles:
                 valid = next(handles[kind])
+            elif kind == TEXT:
+                valid = VALID_TEXT
             elif place in self.pointers:
                 valid = f"(void *)spare[{place}]" if is_apart else ARRAYS[kind]
             else:
@@ -69,22 +77,27 @@ class Call:
             arguments.append(changed.get(place, valid))
         return f"{self.name}({', '.join(arguments)})"
 
+    def extent(self, place: int) -> int:
+        """Returns the size in bytes of a text, or of an array of `LENGTH` elements."""
+        size = SIZES[self.types[place]][0]
+        return LENGTH * size if self.is_array(place) else size
+
     def overlap(self, earlier: int, later: int) -> Iterator[dict[int, str]]:
         """Returns the changed arguments of the calls in which two pointers overlap."""
         if self.is_handle(earlier) and self.is_handle(later):
-            yield dict.fromkeys((earlier, later), "(void *)(clients + 12)")
+            yield dict.fromkeys((earlier, later), f"(void *)({PLACED_HANDLES[self.types[earlier]][0]})")
             return
         fixed, moved = earlier, later
         if self.is_handle(later) or (not self.is_handle(earlier) and SIZES[self.types[later]][1] > SIZES[self.types[earlier]][1]):
             fixed, moved = later, earlier
         if self.is_handle(fixed):
-            area, (name, offset), extent = "house", PLACED_HANDLES[self.types[fixed]], HANDLE_SIZE
+            area, (name, offset), extent = "handles", PLACED_HANDLES[self.types[fixed]], HANDLE_SIZE
         else:
-            area, offset, extent = "room", OFFSET, LENGTH * SIZES[self.types[fixed]][0]
-            name = f"AT(room, {offset})"
-        size, alignment = SIZES[self.types[moved]]
-        lengths = {place + 1: str(LENGTH) for place in (earlier, later) if not self.is_handle(place)}
-        for start in (offset, offset - LENGTH * size + alignment, offset + extent - alignment):
+            area, offset, extent = "numbers", OFFSET, self.extent(fixed)
+            name = f"AT(numbers, {offset})"
+        alignment = SIZES[self.types[moved]][1]
+        lengths = {place + 1: str(LENGTH) for place in (earlier, later) if self.is_array(place)}
+        for start in (offset, offset - self.extent(moved) + alignment, offset + extent - alignment):
             yield {**lengths, fixed: name, moved: f"AT({area}, {start})"}
 
 
@@ -99,7 +112,7 @@ def misaligned_rows(call: Call, alignment: int) -> Iterator[str]:
     """Returns the checks of pointers that are not aligned, for types with this alignment."""
     for place in call.pointers:
         if (HANDLE_SIZE if call.is_handle(place) else SIZES[call.types[place]][1]) == alignment:
-            yield f"{call.macro}(MOC_MISALIGNED, {place}, {call.text({place: 'askew'})});"
+            yield f"{call.macro}(MOC_MISALIGNED, {place}, {call.text({place: 'misaligned'})});"
 
 
 def overlap_rows(call: Call) -> Iterator[str]:
@@ -113,7 +126,7 @@ def overlap_rows(call: Call) -> Iterator[str]:
 def empty_rows(call: Call) -> Iterator[str]:
     """Returns the checks of empty arrays at null pointers."""
     for place in call.pointers:
-        if not call.is_handle(place):
+        if call.is_array(place):
             yield f"VALID({call.text({place: 'NULL', place + 1: '0'}, True)});"
 
 
@@ -134,7 +147,7 @@ def make_rows(functions: dict[str, list[str]], id_functions: set[str]) -> str:
     """
     calls = [Call(name, types, id_functions) for name, types in functions.items()]
     return "".join([HEAD, function("null_pointers", "void", [row for call in calls for row in null_rows(call)]),
-                    function("misaligned_pointers", "void *askew", [row for call in calls for row in misaligned_rows(call, 8)]),
-                    function("misaligned_halves", "void *askew", [row for call in calls for row in misaligned_rows(call, 4)]),
+                    function("misaligned_pointers", "void *misaligned", [row for call in calls for row in misaligned_rows(call, 8)]),
+                    function("misaligned_halves", "void *misaligned", [row for call in calls for row in misaligned_rows(call, 4)]),
                     function("overlapping_pointers", "void", [row for call in calls for row in overlap_rows(call)]),
                     function("empty_arrays_at_null", "void", [row for call in calls for row in empty_rows(call)])])

@@ -5,7 +5,10 @@
   function with each of its pointers null, not aligned, and overlapping another pointer; `guard_rows.py` makes these calls from
   `ploverchaise.h`. Both run with the sanitizers for addresses, undefined behaviour and leaks, and without them.
 - `tests/c/allocations.c` makes sets and texts while each allocation in turn fails (`tests/fail_allocation.c`).
-- The program of `docs/C.md` prints what the page says.
+- `tests/c/wrapper.cpp` tests `ploverchaise.hpp`, and `tests/c/fuzz.cpp` makes random calls. Both run with and without the sanitizers.
+- `tests/c/threads.c` tests locks, waiting and forks with the thread sanitizer, and with replacements of the proved functions.
+- The programs of `docs/C.md` print what the page says.
+- The archive has no global names but those of the header.
 - The header compiles as C99 and as C++. Its codes, functions, types and structs agree with those of the crate.
 - Guards pass an aligned address for an empty array that is not aligned. The test replaces the proved functions for this check.
 
@@ -24,8 +27,10 @@ from tally import Tally
 TOP = os.path.dirname(os.path.dirname(os.path.abspath(__file__)))
 CRATE = os.path.join(TOP, "crates", "moc_c")
 sys.path.insert(0, os.path.join(TOP, "tools"))
-from guards import CLIENT, HEADER, ID_FUNCTIONS, PROVED, RESULT, STORE, TEXTS, WRITTEN  # noqa: E402
-from guards import Function, guards_source, parse_header, proved_declaration  # noqa: E402
+import codes  # noqa: E402
+import linking  # noqa: E402
+from guards import CLIENT, HEADER, ID_FUNCTIONS, PROVED, RESULT, STORE, TEXT  # noqa: E402
+from guards import Function, guards_source, parse_header, proved_declarations  # noqa: E402
 
 CC, CXX = os.environ.get("CC", "cc"), os.environ.get("CXX", "c++")
 WARNINGS = ["-Wall", "-Wextra", "-Wpedantic", "-Werror"]
@@ -51,6 +56,8 @@ UNSUPPORTED = [f"int moc_x({STORE} *store);", f"{RESULT} *moc_x({STORE} *store);
                f"{RESULT} moc_x(const void *at, size_t length);", f"{RESULT} moc_x(const {STORE} *stores, size_t count);",
                f"{RESULT} moc_x(uint8_t const *text, size_t length);", f"{RESULT} moc_x(const uint8_t *const text, size_t length);"]
 TIME_LIMIT = 300
+# The test programs in C++.
+CXX_TESTS = ["wrapper", "fuzz"]
 # The minimal number of failing allocations that `allocations.c` has to report.
 MIN_FAILURES = 20
 
@@ -114,21 +121,15 @@ def functions_in(text: str) -> dict[str, list[str]]:
     return {name: [result, *map(remove_name, arguments.split(","))] for result, name, arguments in DECLARATION.findall(text)}
 
 
-def proved_functions() -> list[Function]:
-    """Returns the functions of the header that are guards of proved functions."""
-    return [function for function in parse_header(read_text(HEADER)) if function.name not in (*TEXTS, *WRITTEN)]
-
-
-def proved_prototype(function: Function) -> str:
-    """Returns the declaration of a proved function without its attribute."""
-    return proved_declaration(function).partition(" __attribute__")[0].rstrip(";\n")
-
-
-def proved_declarations() -> dict[str, list[str]]:
-    """Returns the types of each proved function, as the guards declare it, by its name in the crate, and of the fields of each struct."""
+def declared_types() -> dict[str, list[str]]:
+    """Returns the types of each proved function, as the guards declare it, by its name in the crate, and of the fields of each struct that
+    proved functions use."""
     text = COMMENT.sub("", read_text(HEADER))
-    declarations = functions_in("".join(f"{proved_prototype(function)};\n".replace(PROVED, "moc_") for function in proved_functions()))
+    lines = proved_declarations(parse_header(read_text(HEADER)))
+    declarations = functions_in("".join(f"{line};\n".replace(PROVED, "moc_") for line in lines))
     for name, fields in STRUCT.findall(text):
+        if name == TEXT:
+            continue
         declarations[name] = ["struct"]
         for line in fields.split(";"):
             kind, _, names = line.strip().partition(" ")
@@ -146,7 +147,7 @@ def check_header(tally: Tally, folder: str) -> None:
     codes = CODE.findall(read_text(CRATE, "src", "codes.rt"))
     tally.check(bool(codes), "the crate has no codes")
     tally.check_equal("the codes of the header", header_codes, sorted([*codes, *GUARD_CODES], key=lambda code: int(code[1])))
-    declared, crate = proved_declarations(), crate_declarations()
+    declared, crate = declared_types(), crate_declarations()
     tally.check_equal("the proved functions and structs", sorted(declared), sorted(crate))
     for name in {*declared} & {*crate}:
         tally.check_equal(f"the types of {name}", declared[name], crate[name])
@@ -167,7 +168,7 @@ def write_rows(tally: Tally, folder: str) -> None:
     write_text(os.path.join(folder, "guard_rows.h"), make_rows(with_result, {f"moc_{name}" for name in ID_FUNCTIONS}))
     others = [name for name, (result, *_) in functions.items() if result in ("bool", "void")]
     tally.check(bool(others) and all(f"{name}(NULL)" in text for name in others),
-                f"guards.c does not open and close null handles: {others}")
+                f"guards.c does not call functions with null pointers: {others}")
 
 
 def check_unsupported(tally: Tally) -> None:
@@ -181,11 +182,13 @@ def check_unsupported(tally: Tally) -> None:
         tally.check_equal(f"the guard of {line}", source, "")
 
 
-def compile_test(tally: Tally, folder: str, name: str, *options: str) -> str | None:
-    """Compiles a program of `tests/c` with the library. Returns its path, or None if it does not compile."""
+def compile_test(tally: Tally, folder: str, name: str, libraries: str, options: list[str]) -> str | None:
+    """Compiles a program of `tests/c` with the archive of a folder. Returns its path, or None if it does not compile."""
     program = os.path.join(folder, name + ("-checked" if options else ""))
-    result = run([CC, "-std=c99", "-D_POSIX_C_SOURCE=200809L", "-g", "-O1", *WARNINGS, *options, f"-I{folder}",
-                  os.path.join(TOP, "tests", "c", f"{name}.c"), os.path.join(folder, "libploverchaise.a"), "-pthread", "-o", program])
+    compiler = [CXX, "-std=c++17"] if name in CXX_TESTS else [CC, "-std=c99", "-D_POSIX_C_SOURCE=200809L"]
+    source = os.path.join(TOP, "tests", "c", name + (".cpp" if name in CXX_TESTS else ".c"))
+    result = run([*compiler, "-g", "-O1", *WARNINGS, *options, f"-I{folder}", source, os.path.join(libraries, linking.STATIC),
+                  "-pthread", "-o", program])
     return program if tally.check(result.returncode == 0, f"{name} does not compile\n{result.stderr}") else None
 
 
@@ -198,16 +201,14 @@ def add_results(tally: Tally, name: str, program: str, **environment: str) -> No
 
 
 def check_calls(tally: Tally, folder: str) -> None:
-    """Runs `calls.c` and `guards.c`, without and with the sanitizers.
-
-    With the sanitizers the guards are compiled again, so that the sanitizers check them too. The linker prefers these to the guards
-    of the library."""
-    guards = os.path.join(folder, "guards.c")
-    write_text(guards, guards_source(parse_header(read_text(HEADER))))
-    variants: list[list[str]] = [[], [*SANITIZERS, guards]]
-    for name in ("calls", "guards"):
-        for options in variants:
-            program = compile_test(tally, folder, name, *options)
+    """Runs `calls.c`, `guards.c`, `wrapper.cpp` and `fuzz.cpp`, without and with the sanitizers. The guards then have them too."""
+    checked = os.path.join(folder, "checked")
+    if not tally.check(linking.link(checked, SANITIZERS), "the library with sanitizers is not built"):
+        return
+    variants: list[tuple[str, list[str]]] = [(folder, []), (checked, SANITIZERS)]
+    for name in ("calls", "guards", *CXX_TESTS):
+        for libraries, options in variants:
+            program = compile_test(tally, folder, name, libraries, options)
             if program is not None:
                 add_results(tally, os.path.basename(program), program, ASAN_OPTIONS="detect_leaks=1")
 
@@ -215,62 +216,103 @@ def check_calls(tally: Tally, folder: str) -> None:
 def replacement_of(function: Function) -> str:
     """Returns a replacement in C of a proved function, which checks only that its arrays are aligned."""
     handles = (STORE, CLIENT)
-    names = (re.search(r"\*(\w+)", argument) for argument in function.arguments if not argument.removeprefix("const ").startswith(handles))
+    names = (re.search(r"\*(\w+)", argument) for argument in function.arguments if not argument.startswith(handles))
     checks = "".join(f" is_aligned &= (uintptr_t){name[1]} % __alignof__(*{name[1]}) == 0;" for name in names if name)
     statement = {RESULT: f"return ({RESULT}){{0, 0, 0}};", "bool": "return true;", "void": ""}[function.result]
-    return f"{proved_prototype(function)} {{ calls++;{checks} {statement} }}\n"
+    return f"{function.result} moc_{function.name}({', '.join(function.arguments)}) {{ calls++;{checks} {statement} }}\n"
 
 
 def call_on_empty_arrays(function: Function) -> str:
     """Returns a line in C that calls a function with empty arrays that are not aligned, and counts whether the guard aligned them."""
-    clients = iter(("&other", "&client"))
-    arguments = ["&store" if STORE in argument else next(clients) if argument.startswith(CLIENT)
+    clients, stores = iter(("&client", "&other")), iter(("&store", "&target"))
+    arguments = [next(stores) if STORE in argument else next(clients) if CLIENT in argument else "&text" if TEXT in argument
                  else "askew" if "*" in argument else "0" for argument in function.arguments]
     return (f"    calls = 0; is_aligned = true; moc_{function.name}({', '.join(arguments)}); "
-            f"count(calls == 1 && is_aligned, \"{function.name}\");\n")
+            f"count(calls > 0 && is_aligned, \"{function.name}\");\n")
 
 
 def check_empty_arrays(tally: Tally, folder: str) -> None:
     """Checks that guards pass an aligned address for an empty array that is not aligned."""
     functions = parse_header(read_text(HEADER))
+    replaced = parse_header("".join(f"{line};\n" for line in proved_declarations(functions)))
+    tested = [function for function in functions if any(argument.startswith("size_t ") for argument in function.arguments)]
     program = os.path.join(folder, "empty")
     write_text(program + ".c", "".join([
-        "#include <stdio.h>\n", guards_source(functions), "static int calls, passed, failed;\nstatic bool is_aligned;\n",
+        "#define _POSIX_C_SOURCE 200809L\n#include <stdio.h>\n", guards_source(functions),
+        "static int calls, passed, failed;\nstatic bool is_aligned;\n",
         "static void count(bool holds, const char *name)\n{\n    passed += holds;\n    failed += !holds;\n"
         "    if (!holds)\n        printf(\"an empty array of %s is not aligned\\n\", name);\n}\n",
-        *map(replacement_of, proved_functions()),
+        *map(replacement_of, replaced),
         "int main(void)\n{\n    static uint64_t at[2];\n    void *askew = (char *)at + 1;\n"
-        f"    {STORE} store = {{at}};\n    {CLIENT} client = {{at}}, other = {{at}};\n",
-        *(call_on_empty_arrays(function) for function in proved_functions() if function.result == RESULT),
+        f"    {STORE} store, target;\n    {CLIENT} client, other;\n    {TEXT} text;\n"
+        '    count(moc_store_open(&store) && moc_store_open(&target), "stores");\n'
+        '    count(moc_client_open(&client) && moc_client_open(&other), "clients");\n',
+        *(call_on_empty_arrays(function) for function in tested),
         '    printf("%d passed, %d failed\\n", passed, failed);\n    return failed != 0;\n}\n']))
-    result = run([CC, "-std=c99", "-Wno-unused", f"-I{folder}", program + ".c", "-o", program])
+    result = run([CC, "-std=c11", "-Wno-unused", f"-I{folder}", program + ".c", "-pthread", "-o", program])
     if tally.check(result.returncode == 0, f"the program of empty arrays does not compile\n{result.stderr}"):
         add_results(tally, "empty arrays", program)
 
 
+def stub_of(function: Function) -> str:
+    """Returns a replacement in C of a proved function for `threads.c`, which may run in several threads."""
+    codes_of = {"proved_map_apply": "__atomic_load_n(&applied, __ATOMIC_SEQ_CST), 0"}
+    codes_of["proved_map_join"] = "0, __atomic_fetch_add(&joined, 1, __ATOMIC_SEQ_CST)"
+    value = {RESULT: f"return ({RESULT}){{{codes_of.get(function.name, '0, 0')}, 0}};", "bool": "return true;", "void": ""}[function.result]
+    return f"{function.result} moc_{function.name}({', '.join(function.arguments)}) {{ {value} }}\n"
+
+
+def check_locks(tally: Tally, folder: str) -> None:
+    """Runs `threads.c` with replacements of the proved functions and the thread sanitizer, which does not know the proved code."""
+    functions = parse_header(read_text(HEADER))
+    replaced = parse_header("".join(f"{line};\n" for line in proved_declarations(functions)))
+    program = os.path.join(folder, "threads")
+    write_text(program + ".c", "".join([guards_source(functions), "static uint32_t applied;\nstatic uint64_t joined;\n",
+                                        *map(stub_of, replaced), read_text(TOP, "tests", "c", "threads.c")]))
+    result = run([CC, "-std=c11", "-g", "-O1", "-fsanitize=thread", f"-I{folder}", f"-I{os.path.join(TOP, 'tests', 'c')}", program + ".c",
+                  "-pthread", "-o", program])
+    if tally.check(result.returncode == 0, f"threads.c does not compile\n{result.stderr}"):
+        add_results(tally, "threads", program, TSAN_OPTIONS="report_thread_leaks=0")
+
+
 def check_page(tally: Tally, folder: str) -> None:
-    """Checks that the program of `docs/C.md` prints what the page says."""
-    program = os.path.join(folder, "page")
-    shown = re.search(r"^```c\n(.*?)^```\n\nIt (?:writes|prints) `(.*?)`", read_text(TOP, "docs", "C.md"), re.MULTILINE | re.DOTALL)
-    if not tally.check(shown is not None, "docs/C.md has no program with its output") or shown is None:
-        return
-    write_text(program + ".c", shown[1])
-    result = run([CC, "-std=c99", *WARNINGS, f"-I{folder}", program + ".c", os.path.join(folder, "libploverchaise.a"), "-o", program])
-    if tally.check(result.returncode == 0, f"the program of docs/C.md does not compile\n{result.stderr}"):
-        result = run([program])
-        tally.check_equal("the program of docs/C.md", (result.returncode, result.stdout), (0, shown[2] + "\n"))
+    """Checks that the programs of `docs/C.md`, in C and C++, print what the page says."""
+    page = read_text(TOP, "docs", "C.md")
+    in_c = re.search(r"^```c\n(.*?)^```\n\nIt writes `(.*?)`", page, re.MULTILINE | re.DOTALL)
+    in_cxx = re.search(r"^```cpp\n(.*?)^```\n\n```text\n(.*?)\n```", page, re.MULTILINE | re.DOTALL)
+    for shown, compiler, name in ((in_c, [CC, "-std=c99"], "page.c"), (in_cxx, [CXX, "-std=c++17"], "page.cc")):
+        if not tally.check(shown is not None, f"docs/C.md has no program with its output for {name}") or shown is None:
+            continue
+        program = os.path.join(folder, name)
+        write_text(program, shown[1])
+        result = run([*compiler, *WARNINGS, f"-I{folder}", program, os.path.join(folder, linking.STATIC), "-o", program + ".out"])
+        if tally.check(result.returncode == 0, f"{name} of docs/C.md does not compile\n{result.stderr}"):
+            result = run([program + ".out"])
+            tally.check_equal(f"the output of {name}", (result.returncode, result.stdout), (0, shown[2] + "\n"))
+
+
+def check_archive(tally: Tally, folder: str) -> None:
+    """Checks that the archive has no global names but those of the header."""
+    names = run(["nm", "--defined-only", "--extern-only", os.path.join(folder, linking.STATIC)]).stdout
+    exported = re.findall(r"^[0-9a-f]+ [A-Z] (\w+)$", names, re.MULTILINE)
+    tally.check_equal("the global names of the archive", sorted(exported), sorted(f"moc_{function.name}" for function in parse_header(
+        read_text(HEADER))))
+    pairs = {f"MOC_{code.name}" for code in codes.read_codes() if len(code.numbers) > 1}
+    wrapper = re.search(r"inline moc_result checked_id\(.*?\n\}", read_text(HEADER + "pp"), re.DOTALL)
+    tally.check(wrapper is not None and set(re.findall(r"MOC_\w+", wrapper[0])) == pairs | {"MOC_OK"},
+                "ploverchaise.hpp has other codes with two numbers than codes.tsv")
 
 
 def check_failing_allocations(tally: Tally, folder: str) -> None:
     """Runs `allocations.c` while each allocation in turn fails, and checks that it succeeds after at most one repetition of a call."""
-    program = compile_test(tally, folder, "allocations")
+    program = compile_test(tally, folder, "allocations", folder, [])
     shim, count = os.path.join(folder, "fail_allocation.so"), os.path.join(folder, "count")
     result = run([CC, "-shared", "-fPIC", "-O1", "-o", shim, os.path.join(TOP, "tests", "fail_allocation.c")])
     if not tally.check(result.returncode == 0, f"the shim does not compile\n{result.stderr}") or program is None:
         return
 
     def run_with_failure(path: str, allocation: int) -> subprocess.CompletedProcess[str]:
-        return run([path], LD_PRELOAD=shim, FAIL_ALLOCATION=str(allocation), ALLOCATION_COUNT=count)
+        return run([path], LD_PRELOAD=shim, FAIL_ALLOCATION=str(allocation), ALLOCATION_COUNT=count, FAIL_CALLOC="1")
 
     result = run_with_failure(program, 0)
     tally.check_equal("allocations.c without a failing allocation", (result.returncode, result.stdout), (0, "0\n"))
@@ -294,7 +336,9 @@ def main() -> int:
             check_unsupported(tally)
             check_calls(tally, folder)
             check_empty_arrays(tally, folder)
+            check_locks(tally, folder)
             check_page(tally, folder)
+            check_archive(tally, folder)
             check_failing_allocations(tally, folder)
     return tally.finish()
 

@@ -4,7 +4,7 @@
 usage: tools/build.py [--libraries [CRATE..] | --library [FOLDER]]
 
 `--libraries` proves only the libraries; with names of crates, only these crates and their libraries. `--library` links the library for C
-and Python (`library.py`) instead of the program, and puts it into the folder, which is by default the folder of the Python package.
+and Python (`linking.py`) instead of the program, and puts it into the folder, which is by default the folder of the Python package.
 
 Each crate is proved as soon as its libraries are, in a separate workspace (`crates.py`), at the same time as other crates. The crates that
 the longest chains of crates depend on have priority, and the others use the processors that these leave idle. With more jobs than
@@ -30,7 +30,7 @@ import threading
 import time
 from collections.abc import Iterator
 
-import library
+import linking
 from crates import SOURCE_FOLDERS, folder_of, is_current, libraries_of_crates, make_workspace, read_crates, save_results, stat_files
 
 PROGRAM = "moc_cli"
@@ -299,9 +299,9 @@ def main() -> int:
     parser = argparse.ArgumentParser(description="Proves the program and builds it.")
     kinds = parser.add_mutually_exclusive_group()
     kinds.add_argument("--libraries", nargs="*", metavar="CRATE", help="prove only the libraries, or only these crates and their libraries")
-    kinds.add_argument("--library", nargs="?", const=library.FOLDER, metavar="FOLDER", help="link the library for C and Python")
+    kinds.add_argument("--library", nargs="?", const=linking.FOLDER, metavar="FOLDER", help="link the library for C and Python")
     options = parser.parse_args()
-    targets = [library.CRATE] if options.library is not None else options.libraries or [PROGRAM]
+    targets = [linking.CRATE] if options.library is not None else options.libraries or [PROGRAM]
     with_program = options.library is None and options.libraries is None
     out = os.path.join(folder_of(PROGRAM), "out")
     workspaces = os.path.join(out, "workspaces")
@@ -314,7 +314,7 @@ def main() -> int:
             succeeded = build.prove_libraries() and (not with_program or build.build_program())
         shutil.rmtree(workspaces, ignore_errors=True)
         if succeeded and options.library is not None:
-            succeeded = library.link(options.library)
+            succeeded = linking.link(options.library, [])
     if not with_program or not succeeded:
         return 0 if succeeded else 1
     program = os.path.join(out, PROGRAM)

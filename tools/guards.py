@@ -4,18 +4,18 @@
 A proved function takes a handle as a borrow and an array as a slice. Neither is null, each is aligned for its type, and what the function
 writes does not overlap its other arguments. C guarantees nothing of this. So the proved functions have other names, and each function of
 the header is a guard that checks its pointers. A guard returns MOC_NULL for the first null pointer. Otherwise it returns MOC_MISALIGNED for
-the first pointer that is not aligned, and otherwise MOC_OVERLAP for the first pointer that overlaps an earlier one. A handle counts as
-written, also if it is `const`, because the proved function borrows it mutably. The result has the
-number of the argument. If all pointers are valid, the guard calls the proved function. It replaces the address of an empty array by an
-aligned address, and a number above 255, which is not an order or a number of clients, by 254, because the proved functions take bytes.
+the first pointer that is not aligned, and otherwise MOC_OVERLAP for the first pointer that overlaps an earlier one, or is a copy of an
+earlier handle. The result has the number of the argument.
 
-A failed call that returns an id on success returns UINT64_MAX in its place, so that the position of the error cannot be used as an id. A
-closed handle is zeroed. The rest of the C code is not proved either: `moc_map_execute`, which calls two guards, and the functions that
-return texts.
+If all pointers are valid, the guard takes the locks of its handles, and calls the proved function, or a function of
+`crates/moc_c/c/handles.c`. It replaces the address of an empty array by an aligned address, and an id by the id that the proved functions
+use. The proved functions take bytes, so it replaces a number above 255, which is not an order or a number of clients, by 254. A call that
+may find a part held is repeated until the timeout of its client. A failed call that returns an id on success returns UINT64_MAX in its
+place, so that the position of the error cannot be used as an id.
 
 usage: tools/guards.py
 
-Prints the guards."""
+Prints the guards, after `handles.c`."""
 from __future__ import annotations
 
 import os
@@ -28,16 +28,20 @@ import codes
 from crates import folder_of
 
 HEADER = os.path.join(folder_of("moc_c"), "include", "ploverchaise.h")
-# The types of the header: the result of a function, the store, and the handle of a client.
-RESULT, STORE, CLIENT = "moc_result", "moc_store", "moc_client"
+HANDLES = os.path.join(folder_of("moc_c"), "c", "handles.c")
+# The types of the header: the result of a function, the store, the client, and a text.
+RESULT, STORE, CLIENT, TEXT = "moc_result", "moc_store", "moc_client", "moc_text"
 # The name of the proved function of `moc_NAME`, without NAME.
 PROVED = "moc_proved_"
 # The attribute of a proved function that takes pointers. It lets a sanitizer check the arguments that a guard passes.
 NO_NULL = " __attribute__((nonnull))"
 
-HEAD = f"""/* Generated from ploverchaise.h by tools/guards.py. */
+HEAD = """/* Generated from ploverchaise.h and handles.c by tools/guards.py. */
+#define _POSIX_C_SOURCE 200809L
 #include "ploverchaise.h"
-
+"""
+# Functions of the guards, after the declarations of the proved functions.
+HELPERS = """
 /* The address of an empty array. It is aligned for all types of the header. */
 static uint64_t nothing;
 #define NOTHING ((void *)&nothing)
@@ -46,44 +50,47 @@ static uint64_t nothing;
 
 /* Returns whether two arrays, of the given numbers and sizes of elements, have a common byte. Divides, because a product may overflow. */
 static bool overlap(const void *a, size_t size, size_t count, const void *b, size_t other_size, size_t other_count)
-{{
+{
     uintptr_t from = (uintptr_t)a, other = (uintptr_t)b;
     return count && other_count && (from < other ? (other - from) / size < count : (from - other) / other_size < other_count);
-}}
-
-static {RESULT} failure(uint32_t code, uint64_t place)
-{{
-    {RESULT} result = {{code, place, 0}};
-    return result;
-}}
+}
 
 /* Returns the byte that is passed for a number. */
 static uint8_t byte(uint32_t number)
-{{
+{
     return number > 255 ? 254 : (uint8_t)number;
-}}
-
-static {RESULT} execute({CLIENT} *client, const uint8_t *line, size_t length, uint8_t *out, size_t out_length)
-{{
-    {RESULT} result = moc_map_apply(client, line, length);
-    return result.code ? result : moc_map_answer(client, out, out_length);
-}}
+}
 
 #define TEXT_OF(number) #number
 #define VERSION(major, minor, patch) TEXT_OF(major) "." TEXT_OF(minor) "." TEXT_OF(patch)
 const char *moc_version(void)
-{{
+{
     return VERSION(MOC_VERSION_MAJOR, MOC_VERSION_MINOR, MOC_VERSION_PATCH);
-}}
+}
 """
 
 # The functions that return the id of a new coverage.
 ID_FUNCTIONS = frozenset(["empty", "full", "from_ranges", "from_cells", "from_uniqs", "read_ascii", "read_json", "read_uniq", "union",
-                          "intersection", "difference", "symmetric", "complement", "degrade", "map_set"])
-# The functions in C that guards call in place of a proved function.
-WRITTEN = {"map_execute": "execute"}
+                          "intersection", "difference", "symmetric", "complement", "degrade", "share", "map_coverage"])
+# The functions that make a text in a store, with a proved function.
+TEXT_FUNCTIONS = frozenset(["write_ascii", "write_json", "write_uniq", "describe", "draw"])
+# The functions of `handles.c` that guards call in place of a proved function.
+WRITTEN = {"store_open": "open_store", "store_close": "close_store", "client_open": "open_client", "client_close": "close_client",
+           "text_free": "free_text", "map_begin": "begin_map", "map_join": "join_map", "map_busy_timeout": "set_timeout",
+           "map_execute": "execute_line", "map_apply": "apply_line", "map_answer": "replies_of"}
+# The functions that wait if a part is held.
+VERBS = ("add", "remove", "claim", "count", "contains")
+WAITING = frozenset(["map_execute", "map_apply", "map_coverage",
+                     *(f"map_{verb}{operand}" for verb in VERBS for operand in ("", "_coverage"))])
 # The functions that need no guard, because they take no pointer.
 TEXTS = ("version", "message")
+# The proved functions that only `handles.c` calls, or whose guards take other arguments.
+PROVED_DECLARATIONS = [f"bool {PROVED}store_open({STORE} *out)", f"void {PROVED}store_close({STORE} store)",
+                       f"bool {PROVED}client_open({CLIENT} *out)", f"void {PROVED}client_close({CLIENT} client)",
+                       f"{RESULT} {PROVED}text({STORE} *store, uint8_t *out, size_t length)",
+                       f"{RESULT} {PROVED}map_answer({CLIENT} *client, uint8_t *out, size_t length)"]
+# The functions of the header without a proved function.
+UNPROVED = frozenset([*TEXTS, "text_free", "map_execute", "map_busy_timeout"])
 
 # The other parts of the header: comments, preprocessor lines, types, and the braces for C++.
 OTHER_PARTS = [re.compile(r"/\*.*?\*/", re.DOTALL), re.compile(r"^#.*", re.MULTILINE),
@@ -94,8 +101,11 @@ FUNCTION = re.compile(r"^(?:MOC_CHECKED )?(const char \*|\w+ )moc_(\w+)\(([^;{}]
 # The arguments that a guard can check.
 NUMBER = re.compile(r"(uint\d+_t) (\w+)")
 POINTER_TO_HANDLE = re.compile(rf"(const )?({STORE}|{CLIENT}) \*(\w+)")
-ARRAY = re.compile(rf"(const )?(?!void |{STORE} |{CLIENT} )(\w+) (?:\*(\w+)|\(\*(\w+)\)\[\d+\])")
+POINTER_TO_TEXT = re.compile(rf"{TEXT} \*(\w+)")
+ARRAY = re.compile(rf"(const )?(?!void |{STORE} |{CLIENT} |{TEXT} )(\w+) (?:\*(\w+)|\(\*(\w+)\)\[\d+\])")
 LENGTH = re.compile(r"size_t (\w+)")
+# The names of the arguments that are ids.
+IDS = ("a", "b")
 
 
 class Function(NamedTuple):
@@ -115,6 +125,19 @@ class Function(NamedTuple):
     name: str
     arguments: list[str]
 
+    def handles(self) -> list[tuple[str, str]]:
+        """Returns the member of a handle, `store` or `client`, and the name of each argument that is a handle."""
+        matches = map(POINTER_TO_HANDLE.fullmatch, self.arguments)
+        return [(match[2].removeprefix("moc_"), match[3]) for match in matches if match]
+
+    def ids(self) -> list[str]:
+        """Returns the names of the arguments that are ids."""
+        return [name for name in IDS if f"uint64_t {name}" in self.arguments]
+
+    def stores(self) -> list[str]:
+        """Returns the name in a guard of each argument that is a store. Ids are of the first one, and a new coverage is in the last one."""
+        return [f"{name}_handle" for kind, name in self.handles() if kind == "store"]
+
 
 class Pointer(NamedTuple):
     """A pointer argument of a function.
@@ -126,11 +149,13 @@ class Pointer(NamedTuple):
     name : str
         Its name.
     length : str
-        The name of the argument that has the length of the array, or an empty text if the argument is a pointer to a handle.
+        The name of the argument that has the length of the array, or an empty text if the argument is a pointer to a handle or a text.
     is_read : bool
-        Whether the function only reads the array.
+        Whether the function only reads what is at the pointer.
     is_bytes : bool
         Whether the elements are bytes, which need no alignment.
+    handle : str
+        The type of the handle, or an empty text.
     """
 
     place: int
@@ -138,21 +163,23 @@ class Pointer(NamedTuple):
     length: str = ""
     is_read: bool = False
     is_bytes: bool = False
+    handle: str = ""
 
     def null_condition(self) -> str:
         """Returns the condition in C that the pointer is null."""
         if self.length:
             return f"!{self.name} && {self.length}"
-        return f"!{self.name} || (IS_ALIGNED({self.name}) && !{self.name}->at)"
+        return f"!{self.name} || (IS_ALIGNED({self.name}) && !{self.name}->at)" if self.handle else f"!{self.name}"
 
     def misaligned_condition(self) -> str:
         """Returns the condition in C that the pointer is not aligned."""
         return f"{self.length} && !IS_ALIGNED({self.name})" if self.length else f"!IS_ALIGNED({self.name})"
 
     def overlap_condition(self, other: Pointer) -> str:
-        """Returns the condition in C that two arguments have a common byte."""
+        """Returns the condition in C that two arguments have a common byte, or are the same handle."""
         extents = (f"{pointer.name}, sizeof *{pointer.name}, {pointer.length or 1}" for pointer in (self, other))
-        return f"overlap({', '.join(extents)})"
+        same = f" || {self.name}->at == {other.name}->at" if self.handle and self.handle == other.handle else ""
+        return f"overlap({', '.join(extents)}){same}"
 
 
 def parse_header(header: str) -> list[Function]:
@@ -167,15 +194,23 @@ def parse_header(header: str) -> list[Function]:
 
 
 def parse_arguments(function: Function) -> tuple[list[Pointer], list[str]]:
-    """Returns the pointers of a function with a result, and the arguments that the guard passes to the proved function."""
+    """Returns the pointers of a function with a result, and the arguments that the guard passes on."""
     pointers, passed = [], []
+    is_written = function.name in WRITTEN
+    ids, stores = function.ids(), function.stores()
     places = iter(enumerate(function.arguments))
     for place, argument in places:
         if match := NUMBER.fullmatch(argument):
-            passed.append(f"byte({match[2]})" if match[1] == "uint32_t" else match[2])
+            if match[2] in ids and not is_written:
+                passed.append(f"proved_id({stores[0]}, {match[2]})")
+            else:
+                passed.append(f"byte({match[2]})" if match[1] == "uint32_t" and match[2] != "milliseconds" else match[2])
         elif match := POINTER_TO_HANDLE.fullmatch(argument):
-            pointers.append(Pointer(place, match[3]))
-            passed.append(f"({match[2]} *){match[3]}" if match[1] else match[3])
+            pointers.append(Pointer(place, match[3], is_read=bool(match[1]), handle=match[2]))
+            passed.append(f"{match[3]}_handle" if is_written else f"&{match[3]}_handle->proved.{match[2].removeprefix('moc_')}")
+        elif match := POINTER_TO_TEXT.fullmatch(argument):
+            pointers.append(Pointer(place, match[1]))
+            passed += [match[1]] if is_written else []
         elif match := ARRAY.fullmatch(argument):
             array, length = match[3] or match[4], LENGTH.fullmatch(next(places, (0, ""))[1])
             if length is None:
@@ -197,51 +232,105 @@ def failures(pointers: list[Pointer]) -> Iterator[tuple[str, str, int]]:
                 yield earlier.overlap_condition(later), "MOC_OVERLAP", later.place
 
 
+def zero_text(pointers: list[Pointer]) -> list[str]:
+    """Returns the lines of a guard that zero the text that the function makes, if the pointer to it is valid."""
+    lines = []
+    for text in pointers:
+        if not text.length and not text.handle:
+            overlaps = "".join(f" && !{other.overlap_condition(text)}" for other in pointers if other is not text)
+            lines += [f"if ({text.name} && IS_ALIGNED({text.name}){overlaps})", f"    *{text.name} = (moc_text){{NULL, 0}};"]
+    return lines
+
+
 def callee(function: Function) -> str:
     """Returns the name of the function that a guard calls."""
     return WRITTEN.get(function.name, f"{PROVED}{function.name}")
 
 
-def proved_argument(argument: str, is_closed: bool) -> str:
-    """Returns the declaration of an argument of a proved function. An order is a byte, and a handle to close is a value."""
+def proved_argument(argument: str) -> str:
+    """Returns the declaration of an argument of a proved function. An order is a byte."""
     if POINTER_TO_HANDLE.fullmatch(argument):
-        return argument.removeprefix("const ").replace("*", "" if is_closed else "*")
+        return argument.removeprefix("const ")
     return re.sub(r"^uint32_t (?=\w)", "uint8_t ", argument)
 
 
 def proved_declaration(function: Function) -> str:
     """Returns the declaration of a proved function."""
-    arguments = ", ".join(proved_argument(argument, function.result == "void") for argument in function.arguments)
-    attribute = NO_NULL if "*" in arguments else ""
-    return f"{function.result} {PROVED}{function.name}({arguments}){attribute};\n"
+    for declaration in PROVED_DECLARATIONS:
+        if f" {PROVED}{function.name}(" in declaration:
+            return declaration
+    arguments = ", ".join(proved_argument(argument) for argument in function.arguments if not POINTER_TO_TEXT.fullmatch(argument))
+    return f"{function.result} {PROVED}{function.name}({arguments})"
+
+
+def proved_declarations(functions: list[Function]) -> list[str]:
+    """Returns the declarations of all proved functions."""
+    others = [proved_declaration(function) for function in functions if function.name not in UNPROVED]
+    return [*PROVED_DECLARATIONS, *(declaration for declaration in others if declaration not in PROVED_DECLARATIONS)]
+
+
+def call_lines(function: Function, passed: list[str]) -> list[str]:
+    """Returns the lines of a guard that enter the handles, call a function and leave the handles. `result` is the result."""
+    handles = function.handles()
+    names = [f"{name}_handle" for _, name in handles]
+    call = f"{callee(function)}({', '.join(passed)})"
+    if function.name in ID_FUNCTIONS:
+        call = f"id_result({call}, {function.stores()[-1]})"
+    if function.name in TEXT_FUNCTIONS:
+        call = f"store_text({call}, {function.stores()[0]}, text)"
+    lines = [f"result = {call};"]
+    if len(names) == 1:
+        lines = [f"enter({names[0]});", *lines]
+    elif names:
+        lines = [f"enter_both({', '.join(names)});", *lines]
+    if function.name in WAITING:
+        lines.append("note_timeout(&wait, client_handle);")
+    return [*lines, *(f"leave({name});" for name in names)]
+
+
+def call_of(function: Function, passed: list[str]) -> list[str]:
+    """Returns the lines of a guard that compute its result if all pointers are valid."""
+    handles = [f"struct handle *{name}_handle = {name}->at;" for _, name in function.handles()]
+    lines = call_lines(function, passed)
+    if function.name in WAITING:
+        body = [f"    {line}" for line in lines]
+        lines = ["struct wait wait = {0};", "do {", *body, "} while (result.code == MOC_BUSY && pause_for_retry(&wait));"]
+    if (ids := function.ids()) and function.name not in WRITTEN:
+        store = function.stores()[0]
+        place = "second" if function.name in ID_FUNCTIONS else "first"
+        wanted = ids[0] if len(ids) == 1 else f"result.{place} == proved_id({store}, {ids[0]}) ? {ids[0]} : {ids[1]}"
+        lines += ["if (result.code == MOC_NO_SUCH_SET)", f"    result.{place} = {wanted};"]
+    return [*handles, f"{RESULT} result;", *lines, "return result;"]
 
 
 def guard_body(function: Function) -> list[str]:
     """Returns the lines of the body of a guard. Raises ValueError for a function that a guard cannot check."""
-    handle = POINTER_TO_HANDLE.fullmatch(", ".join(function.arguments))
+    argument = ", ".join(function.arguments)
+    handle, text = POINTER_TO_HANDLE.fullmatch(argument), POINTER_TO_TEXT.fullmatch(argument)
     if function.result == RESULT:
         pointers, passed = parse_arguments(function)
-        wrapped = "id_result({})" if function.name in ID_FUNCTIONS else "{}"
-        lines = []
+        wrapped = "id_failure({})" if function.name in ID_FUNCTIONS else "{}"
+        lines = zero_text(pointers)
         for condition, code, place in failures(pointers):
             lines += [f"if ({condition})", "    return " + wrapped.format(f"failure({code}, {place})") + ";"]
-        return [*lines, "return " + wrapped.format(f"{callee(function)}({', '.join(passed)})") + ";"]
-    if function.result == "bool" and handle:
+        if not function.handles():
+            return [*lines, f"return {callee(function)}({', '.join(passed)});"]
+        return [*lines, *call_of(function, passed)]
+    if function.result == "bool" and handle and function.name in WRITTEN:
         out = handle[3]
-        return [f"if (!{out} || !IS_ALIGNED({out}))", "    return false;", f"{out}->at = NULL;",
-                f"return {callee(function)}({out});"]
-    if function.result == "void" and handle:
+        return [f"if (!{out} || !IS_ALIGNED({out}))", "    return false;", f"{out}->at = NULL;", f"return {callee(function)}({out});"]
+    if function.result == "void" and handle and function.name in WRITTEN:
         closed = handle[3]
-        return [f"if (!{closed} || !IS_ALIGNED({closed}) || !{closed}->at)", "    return;", f"{handle[2]} last = *{closed};",
-                f"{closed}->at = NULL;", f"{callee(function)}(last);"]
+        return [f"if ({closed} && IS_ALIGNED({closed}) && {closed}->at)", f"    {callee(function)}({closed});"]
+    if function.result == "void" and text and function.name in WRITTEN:
+        return [f"if ({text[1]} && IS_ALIGNED({text[1]}))", f"    {callee(function)}({text[1]});"]
     raise ValueError(f"moc_{function.name}: a guard cannot return {function.result}")
 
 
 def guard_source(function: Function) -> str:
-    """Returns the declaration of the proved function and its guard, in C."""
+    """Returns a guard in C."""
     body = "".join(f"    {line}\n" for line in guard_body(function))
-    declaration = "" if function.name in WRITTEN else proved_declaration(function)
-    return f"\n{declaration}{function.result} moc_{function.name}({', '.join(function.arguments)})\n{{\n{body}}}\n"
+    return f"\n{function.result} moc_{function.name}({', '.join(function.arguments)})\n{{\n{body}}}\n"
 
 
 def message_source() -> str:
@@ -255,15 +344,18 @@ def id_source() -> str:
     """Returns the function that puts the position of an error into `second`, in C."""
     pairs = " || ".join(f"code == MOC_{code.name}" for code in codes.read_codes() if len(code.numbers) > 1)
     return (f"\nstatic bool has_two_numbers(uint32_t code)\n{{\n    return {pairs};\n}}\n"
-            f"\nstatic {RESULT} id_result({RESULT} result)\n{{\n    if (result.code) {{\n"
-            "        bool is_pair = has_two_numbers(result.code);\n"
-            "        result.second = is_pair ? (uint32_t)result.first | result.second << 32 : result.first;\n"
-            "        result.first = UINT64_MAX;\n    }\n    return result;\n}\n")
+            f"\nstatic {RESULT} id_failure({RESULT} result)\n{{\n    bool is_pair = has_two_numbers(result.code);\n"
+            "    result.second = is_pair ? (uint32_t)result.first | result.second << 32 : result.first;\n"
+            "    result.first = UINT64_MAX;\n    return result;\n}\n")
 
 
 def guards_source(functions: list[Function]) -> str:
     """Returns a source in C that has the guards of these functions."""
-    return HEAD + message_source() + id_source() + "".join(guard_source(function) for function in functions if function.name not in TEXTS)
+    with open(HANDLES, encoding="utf-8") as file:
+        handles = file.read()
+    declarations = "".join(f"{line}{NO_NULL if '*' in line else ''};\n" for line in proved_declarations(functions))
+    guards = "".join(guard_source(function) for function in functions if function.name not in TEXTS)
+    return "".join([HEAD, "\n", declarations, id_source(), "\n", handles, HELPERS, message_source(), guards])
 
 
 def main() -> None:

@@ -16,9 +16,9 @@ from generated import read, write_or_print
 
 PYTHON = os.path.join("python", "ploverchaise", "_signatures.py")
 STRUCT = re.compile(r"^typedef struct (\w+) \{\n(.*?)^\}", re.MULTILINE | re.DOTALL)
-# The names in Python of the structs, and of the pointers to handles.
-STRUCTS = {guards.STORE: "StoreHandle", guards.CLIENT: "ClientHandle", guards.RESULT: "Result"}
-POINTERS = {guards.STORE: "STORE", guards.CLIENT: "CLIENT"}
+# The names in Python of the structs, and of the pointers to handles and texts.
+STRUCTS = {guards.STORE: "StoreHandle", guards.CLIENT: "ClientHandle", guards.TEXT: "Text", guards.RESULT: "Result"}
+POINTERS = {guards.STORE: "STORE", guards.CLIENT: "CLIENT", guards.TEXT: "TEXT"}
 # The types of `ctypes` for the numbers of the header.
 NUMBERS = {"uint8_t": "c_uint8", "uint32_t": "c_uint32", "uint64_t": "c_uint64", "size_t": "c_size_t"}
 # The tables, each with the handle that the functions take first.
@@ -50,7 +50,7 @@ def signatures(functions: list[guards.Function], handle: str) -> list[str]:
     lines = []
     for function in functions:
         first = function.arguments[0].removeprefix("const ").split()[0]
-        if function.result == guards.RESULT and (first if first in POINTERS else "") == handle:
+        if function.result == guards.RESULT and (first if first in (guards.STORE, guards.CLIENT) else "") == handle:
             types = [argument_type(argument) for argument in function.arguments[bool(handle):]]
             lines.append(f'    "{function.name}": ({", ".join(types)}{"," * (len(types) == 1)}),')
     return lines

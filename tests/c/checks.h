@@ -17,7 +17,7 @@ static void check(int line, const char *text, bool holds)
 }
 #define CHECK(condition) check(__LINE__, #condition, condition)
 
-static bool is(moc_result result, uint32_t code, uint64_t first, uint64_t second)
+static inline bool is(moc_result result, uint32_t code, uint64_t first, uint64_t second)
 {
     return result.code == code && result.first == first && result.second == second;
 }

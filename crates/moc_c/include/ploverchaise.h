@@ -1,26 +1,27 @@
 /* ploverchaise.h: sky coverages (MOC 2.0) and numbers of HEALPix cells, for C99 and C++. docs/C.md explains how to build and link.
 
-   A store has coverages, each with an id. A call returns a result: MOC_OK with a value, or the code of an error with its position. A
-   call that fails leaves the store unchanged. Threads that change one coverage at the same time share a map, and each has a client of
-   it.
+   A store has coverages, each with an id. A call returns a result: MOC_OK with a value, or the code of an error with its position. A call
+   that fails leaves the store unchanged. Threads that change one coverage at the same time share a map, and each has a client of it.
+
+   Any thread may use any store and any client. A call waits until no other call uses the same store or client. So threads that must work
+   side by side have a store each, or a client each. A fork waits until no other thread is in a call with a store or a client, and the child
+   may use all of them. Calls that open or close wait for such a fork.
 
    The caller must ensure the following, which nothing checks:
    - A store that is not zeroed was opened by `moc_store_open`, and was not closed by `moc_store_close` through a copy of it. Only these
-     calls read or write its content. The same holds for a client, `moc_client_open` and `moc_client_close`. A store or client that is
-     opened again without a close is never freed.
-   - An array is a pointer and a length in elements, and has as many elements. During a call, no other thread changes its arguments, or
-     reads what it writes.
-   - A store is in one call at a time, also if the call takes a `const` store, and so is a client. Threads may pass them on by a lock, or
-     by the start or end of a thread. Clients of one map need no lock between them.
-   - No call is made from a signal handler, or in the forked child of a process with threads.
-   - malloc, realloc and free belong to one allocator, and its blocks are aligned as C requires.
+     calls read or write its content, and no other call uses the store when it is closed. The same holds for a client, `moc_client_open` and
+     `moc_client_close`. A store or client that is opened again without a close is never freed.
+   - An array is a pointer and a length in elements, and has as many elements. During a call, no other thread changes its arrays, or reads
+     what it writes.
+   - No call is made from a signal handler, and no signal handler forks. A thread in a call is not cancelled asynchronously.
+   - malloc, calloc, realloc and free belong to one allocator, and its blocks are aligned as C requires.
 
    All other arguments are allowed. An invalid id, order, cell or length gets its code. An order or a number of clients above 255 is
-   reported as 254. A number that is not a pixel is in no coverage. An invalid pointer is reported before any other error, and nothing is
-   then read or written. A null pointer gets MOC_NULL, and so does a pointer to a store or client that is zeroed, as after a failed open
-   or a close. Otherwise a pointer that is not aligned for its type gets MOC_MISALIGNED. Otherwise a store, a client or an array that is
-   not `const` gets MOC_OVERLAP if it overlaps another argument; a `const` store counts as one that is not. An array of length 0 may be
-   at any pointer, and overlaps nothing. */
+   reported as 254. A number that is not a pixel is in no coverage. An invalid pointer is reported before any other error; nothing is
+   then read, and nothing but a text is written. A null pointer gets MOC_NULL, and so does a pointer to a store or client that is zeroed,
+   as after a failed open or a close. Otherwise a pointer that is not aligned for its type gets MOC_MISALIGNED. Otherwise what is not
+   `const` gets MOC_OVERLAP if it overlaps another argument, and so does a store or a client that is a copy of another argument. An array
+   of length 0 may be at any pointer, and overlaps nothing. */
 #ifndef PLOVERCHAISE_H
 #define PLOVERCHAISE_H
 
@@ -41,8 +42,12 @@ extern "C" {
 #define MOC_MAX_ORDER 29
 #define MOC_PIXEL_COUNT (UINT64_C(12) << 58)
 
-/* As an order: no order. */
+/* As an order: no order. As a timeout: no limit. */
 #define MOC_NO_ORDER UINT32_C(255)
+#define MOC_NO_TIMEOUT UINT32_MAX
+
+/* The greatest number of clients of a map. */
+#define MOC_MAX_CLIENTS 64
 
 /* A compiler warns if the result of such a function is not used. */
 #ifdef __GNUC__
@@ -66,6 +71,13 @@ typedef struct moc_result {
     uint32_t code;
     uint64_t first, second;
 } moc_result;
+
+/* A text in memory of `malloc`, which `moc_text_free` frees. A 0 follows its last byte. `length` does not count the 0. A call that makes a
+   text ignores what `text` was before, and zeroes it if the call fails, unless the pointer to it is invalid. */
+typedef struct moc_text {
+    char *bytes;
+    size_t length;
+} moc_text;
 
 /* The pixels of order 29 from `from` up to, not including, `to`, by their nested indices. */
 typedef struct moc_range {
@@ -164,9 +176,9 @@ enum {
     MOC_LINE_PART_TOO_LARGE = 62,
 
     /* A client handle */
-    /* the handle has no client */
+    /* the client has no map */
     MOC_NO_MAP = 70,
-    /* the handle has a client already */
+    /* the client has a map already */
     MOC_CLIENT_IN_USE = 71,
     /* the number of clients is not 1 to 64; first: the number of clients */
     MOC_BAD_COUNT = 72,
@@ -198,10 +210,11 @@ bool moc_store_open(moc_store *out);
 /* Closes a store with all its coverages, and zeroes it. Does nothing if it is zeroed, or if the pointer is null or not aligned. */
 void moc_store_close(moc_store *store);
 
-/* ---- Making coverages. Each function stores a coverage and returns its id as `first`. Ids are 0, 1, 2 and so on, and no id is used
-   twice. For an error, `first` is UINT64_MAX, which is not an id, and `second` is what the code states of `first`. If a code has two
-   numbers, `second` is `(uint32_t)first | second << 32` of them. MOC_MEMORY if an allocation fails. n cells or ranges, also those of a
-   text, take O(n log n), or O(n) if they are ascending. A set operation is linear in the ranges of its operands. */
+/* ---- Making coverages. Each function stores a coverage and returns its id as `first`. 0 is not an id, and no store uses an id twice. An
+   id of another store gets MOC_NO_SUCH_SET, unless 65,534 stores or clients were opened between the two stores. For an error, `first` is
+   UINT64_MAX, which is not an id, and `second` is what the code states of `first`. If a code has two numbers, `second` is
+   `(uint32_t)first | second << 32` of them. MOC_MEMORY if an allocation fails. n cells or ranges, also those of a text, take O(n log n),
+   or O(n) if they are ascending. A set operation is linear in the ranges of its operands. */
 
 /* The empty coverage. */
 MOC_CHECKED moc_result moc_empty(moc_store *store);
@@ -231,6 +244,10 @@ MOC_CHECKED moc_result moc_complement(moc_store *store, uint64_t a);
 /* The coverage degraded to an order: all pixels of each cell of the order in which it has a pixel. MOC_NO_SUCH_SET, then
    MOC_NO_SUCH_ORDER. */
 MOC_CHECKED moc_result moc_degrade(moc_store *store, uint64_t a, uint32_t order);
+
+/* The coverage of an id of `from`, in another store `to`. The stores share its ranges, so that n ranges take O(n / 128). MOC_NO_SUCH_SET.
+   */
+MOC_CHECKED moc_result moc_share(const moc_store *from, uint64_t a, moc_store *to);
 
 /* Frees the coverage with an id, which is not used again. MOC_NO_SUCH_SET. */
 moc_result moc_free(moc_store *store, uint64_t a);
@@ -272,25 +289,23 @@ MOC_CHECKED moc_result moc_cells(const moc_store *store, uint64_t a, uint64_t *o
    MOC_BUFFER_TOO_SHORT, with nothing written, if `length` is less than 30. */
 MOC_CHECKED moc_result moc_cell_count_by_order(const moc_store *store, uint64_t a, uint64_t *out, size_t length);
 
-/* ---- Coverages as texts. Each function makes a text, which the store keeps until the next one, and returns its length as `first`. Then
-   `moc_text` copies it. Texts do not end with a 0. If a call fails, the last text is kept. MOC_MEMORY if an allocation fails. One pass over
-   the ranges for each order that can have cells, up to two more, and linear in the text. */
+/* ---- Coverages as texts. Each function makes a text; `first` is its length. MOC_MEMORY if an allocation fails. One pass over the ranges
+   for each order that can have cells, up to two more, and linear in the text. The store keeps a copy of its last text. */
 
 /* The coverage in a text format, with a line feed at the end, or after each number of a list. `stated` is the order that the text
    states, or MOC_NO_ORDER; MOC 2.0 requires it if a coverage was made of deeper cells than it needs. MOC_NO_SUCH_SET, then
    MOC_NO_SUCH_ORDER, then MOC_TOO_COARSE. */
-MOC_CHECKED moc_result moc_write_ascii(moc_store *store, uint64_t a, uint32_t stated);
-MOC_CHECKED moc_result moc_write_json(moc_store *store, uint64_t a, uint32_t stated);
-MOC_CHECKED moc_result moc_write_uniq(moc_store *store, uint64_t a);
+MOC_CHECKED moc_result moc_write_ascii(moc_store *store, uint64_t a, uint32_t stated, moc_text *text);
+MOC_CHECKED moc_result moc_write_json(moc_store *store, uint64_t a, uint32_t stated, moc_text *text);
+MOC_CHECKED moc_result moc_write_uniq(moc_store *store, uint64_t a, moc_text *text);
 /* The statistics of the coverage, one per line, as `moc describe` prints them. `deepest` is the deepest order that its text named, or
    MOC_NO_ORDER. MOC_NO_SUCH_SET, then MOC_NO_SUCH_ORDER. */
-MOC_CHECKED moc_result moc_describe(moc_store *store, uint64_t a, uint32_t deepest);
+MOC_CHECKED moc_result moc_describe(moc_store *store, uint64_t a, uint32_t deepest, moc_text *text);
 /* A picture of the coverage in SVG, as `moc draw` makes it. MOC_NO_SUCH_SET. In addition, O(log n) for each cell of order 7 that the
    coverage meets. */
-MOC_CHECKED moc_result moc_draw(moc_store *store, uint64_t a);
-/* Copies the last text, or nothing before the first one, to the front of `out`; `first` is its length. MOC_BUFFER_TOO_SHORT, with nothing
-   written, if `length` is less. */
-MOC_CHECKED moc_result moc_text(const moc_store *store, uint8_t *out, size_t length);
+MOC_CHECKED moc_result moc_draw(moc_store *store, uint64_t a, moc_text *text);
+/* Frees a text, and zeroes it. Does nothing if it is zeroed, or if the pointer is null or not aligned. */
+void moc_text_free(moc_text *text);
 
 /* ---- Numbers of cells, as whole arrays: the value for a number is at the same position. The functions need no store, allocate nothing,
    and take O(1) for each number. MOC_NO_SUCH_ORDER, then MOC_LENGTHS_DIFFER, then MOC_NO_SUCH_CELL or MOC_NOT_UNIQ; what was written is
@@ -312,49 +327,59 @@ MOC_CHECKED moc_result moc_touching(uint32_t order, const uint64_t *cells, size_
    UINT64_MAX if there is none. */
 MOC_CHECKED moc_result moc_neighbours(uint32_t order, const uint64_t *cells, size_t count, uint64_t (*out)[8], size_t length);
 
-/* ---- A map that threads share. It has twelve parts, one for each base pixel, which up to 64 clients change and query at the same time.
-   MOC_MEMORY if an allocation fails. To begin a map and to store its coverage takes O(n) for n ranges, and to join a map O(1). A line takes
-   the time to read its operands, and at most one pass over the ranges of the parts for each command. An answer is linear in its text. */
+/* ---- A map that threads share. It has twelve parts, one for each base pixel, which up to MOC_MAX_CLIENTS clients change and query at the
+   same time. MOC_MEMORY if an allocation fails. To begin a map and to store its coverage takes O(n) for n ranges, and to join a map O(1).
+   A line takes the time to read its operands, and at most one pass over the ranges of the parts for each command. A reply is linear in its
+   text.
 
-/* Opens a client without a map at `out`, and returns true; or returns false, as `moc_store_open`. */
+   A call that needs a part that another client holds waits until the timeout of its client. Then it fails with MOC_BUSY, and the map is
+   unchanged. While it waits, other threads may use the client. */
+
+/* Opens a client without a map at `out`, and returns true; or returns false, as `moc_store_open`. Its timeout is 0: its calls do not
+   wait. */
 bool moc_client_open(moc_client *out);
-/* Closes a client, and zeroes it. Does nothing if it is zeroed, or if the pointer is null or not aligned. The clients that could still join
-   through it are closed too. The map ends with its last client. */
+/* Closes a client, and zeroes it. Does nothing if it is zeroed, or if the pointer is null or not aligned. Another client can then join the
+   map with its number. The map ends with its last client. */
 void moc_client_close(moc_client *client);
 
-/* Begins a map with the coverage of an id, which stays in the store, for 1 to 64 clients. The client becomes one of them; `moc_map_join`
-   gives the others to other clients. `first` is the number of the client, from 0. MOC_CLIENT_IN_USE, then MOC_NO_SUCH_SET, then
-   MOC_BAD_COUNT. */
-MOC_CHECKED moc_result moc_map_begin(moc_client *client, moc_store *store, uint64_t a, uint32_t clients);
-/* Makes `other`, which may be sent to another thread, the next client of the map; `first` is its number. Only the client that began the map
-   can give further clients. MOC_CLIENT_IN_USE of the other client, then MOC_NO_MAP, then MOC_NO_CLIENT. */
+/* Begins a map with the coverage of an id, which stays in the store, for 1 to MOC_MAX_CLIENTS clients. The client becomes one of them;
+   `first` is its number, which is the number of clients less 1. MOC_CLIENT_IN_USE, then MOC_NO_SUCH_SET, then MOC_BAD_COUNT. */
+MOC_CHECKED moc_result moc_map_begin(moc_client *client, const moc_store *store, uint64_t a, uint32_t clients);
+/* Makes `other` a client of the map of `client`; `first` is its number, which no open client has. MOC_CLIENT_IN_USE of the other client,
+   then MOC_NO_MAP, then MOC_NO_CLIENT if all clients of the map are open. */
 MOC_CHECKED moc_result moc_map_join(moc_client *client, moc_client *other);
+/* Sets for how many milliseconds later calls of a client wait for parts. 0: they do not wait. MOC_NO_TIMEOUT: they wait until the parts are
+   free. */
+moc_result moc_map_busy_timeout(moc_client *client, uint32_t milliseconds);
 
-/* Executes the commands of a line, separated by `;`, as `moc run` does: all of them in one atomic step, or none. Does not wait: if another
-   client holds a part that the commands read or change, the map is unchanged, MOC_BUSY. MOC_NO_MAP, then MOC_LINE_TOO_MANY_COMMANDS, then
-   another MOC_LINE_.. for the first invalid command. The line ends without a 0 and without a line feed. The client keeps the replies to the
-   last executed line, for `moc_map_answer`. */
+/* Executes the commands of a line, separated by `;`, as `moc run` does: all of them in one atomic step, or none. The replies are those that
+   `moc run` writes, with a line feed; `first` is their length. MOC_NO_MAP, then MOC_LINE_TOO_MANY_COMMANDS, then another MOC_LINE_.. for
+   the first invalid command, then MOC_BUSY; the map is unchanged then. The line ends without a 0 and without a line feed. After MOC_MEMORY
+   the line may have been executed. */
+MOC_CHECKED moc_result moc_map_execute(moc_client *client, const uint8_t *line, size_t length, moc_text *replies);
+/* Executes a line without making its replies. After MOC_MEMORY the map is unchanged. */
 MOC_CHECKED moc_result moc_map_apply(moc_client *client, const uint8_t *line, size_t length);
-/* Writes the replies to the last executed line to the front of `out`, as `moc run` writes them, ended by a line feed; nothing before the
-   first line. `first` is the length. MOC_BUFFER_TOO_SHORT, with nothing written, if `length` is less; the call may be repeated. */
-MOC_CHECKED moc_result moc_map_answer(moc_client *client, uint8_t *out, size_t length);
-/* Does both: executes a line, and writes its replies. An error of `moc_map_apply` is returned, and nothing is written. After
-   MOC_BUFFER_TOO_SHORT the line was executed, and `moc_map_answer` writes its replies; after MOC_MEMORY it may have been executed. A
-   buffer of 32 bytes for each command suffices for all replies but `cover`. */
-MOC_CHECKED moc_result moc_map_execute(moc_client *client, const uint8_t *line, size_t length, uint8_t *out, size_t out_length);
-/* Commands without a line: on the cells of an order with these nested indices, in any order. Each is one atomic step that does not wait,
-   as a line of one command, and leaves the replies to the last line as they are. `first` is the number of pixels of order 29 that were
-   added or removed; for a claim, the number of its pixels that the map had, which is 0 if the claim succeeded; for a count, the number of
-   pixels that the map has in the cells. MOC_NO_MAP, then MOC_NO_SUCH_ORDER, then MOC_NO_SUCH_CELL, then MOC_BUSY; the map is unchanged
-   then. Usually O(log n) for one cell in a part of n ranges. A cell that touches ranges in several blocks of 1 to 128 takes O(n), and so
-   does removing. */
+/* The replies to the last line that the client executed; empty before the first line. `first` is their length. */
+MOC_CHECKED moc_result moc_map_answer(moc_client *client, moc_text *replies);
+/* Commands without a line, on the cells of an order with these nested indices, in any order. Each is one atomic step, as a line of one
+   command, and leaves the replies to the last line as they are. `first` is the number of pixels of order 29 that were added or removed;
+   for a claim, the number of its pixels that the map had, which is 0 if the claim succeeded; for a count, the number of pixels that the map
+   has in the cells; for `contains`, 1 if the map has all pixels of the cells, and 0 if not. MOC_NO_MAP, then MOC_NO_SUCH_ORDER, then
+   MOC_NO_SUCH_CELL, then MOC_BUSY; the map is unchanged then. Usually O(log n) for one cell in a part of n ranges. It takes O(n) if
+   the cell touches ranges in several blocks of 1 to 128, or if a block would be empty or would fit into one block with a neighbour. */
 MOC_CHECKED moc_result moc_map_add(moc_client *client, uint32_t order, const uint64_t *cells, size_t count);
 MOC_CHECKED moc_result moc_map_remove(moc_client *client, uint32_t order, const uint64_t *cells, size_t count);
 MOC_CHECKED moc_result moc_map_claim(moc_client *client, uint32_t order, const uint64_t *cells, size_t count);
 MOC_CHECKED moc_result moc_map_count(moc_client *client, uint32_t order, const uint64_t *cells, size_t count);
-/* Stores a copy of the map's coverage under a new id, as the functions that make coverages. MOC_NO_MAP; MOC_BUSY if another client holds
-   any part. */
-MOC_CHECKED moc_result moc_map_set(moc_client *client, moc_store *store);
+MOC_CHECKED moc_result moc_map_contains(moc_client *client, uint32_t order, const uint64_t *cells, size_t count);
+/* The same commands on the coverage of an id. MOC_NO_MAP, then MOC_NO_SUCH_SET, then MOC_BUSY; the map is unchanged then. */
+MOC_CHECKED moc_result moc_map_add_coverage(moc_client *client, const moc_store *store, uint64_t a);
+MOC_CHECKED moc_result moc_map_remove_coverage(moc_client *client, const moc_store *store, uint64_t a);
+MOC_CHECKED moc_result moc_map_claim_coverage(moc_client *client, const moc_store *store, uint64_t a);
+MOC_CHECKED moc_result moc_map_count_coverage(moc_client *client, const moc_store *store, uint64_t a);
+MOC_CHECKED moc_result moc_map_contains_coverage(moc_client *client, const moc_store *store, uint64_t a);
+/* Stores a copy of the map's coverage under a new id, as the functions that make coverages. MOC_NO_MAP, then MOC_BUSY. */
+MOC_CHECKED moc_result moc_map_coverage(moc_client *client, moc_store *store);
 
 #ifdef __cplusplus
 }

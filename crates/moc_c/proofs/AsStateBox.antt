@@ -17,5 +17,5 @@ E = record { row = ClientState.the_row; laws = client_state.the_row_laws; al = r
 abbrev pub FromParts : Slot 0
 FromParts = plain (λ _. BoxParts.the_row ClientState.the_row Heap.the_row ghosts)
 
-abbrev pub FromSeat : Slot 0
-FromSeat = plain (λ _. ClientHandle.the_row)
+abbrev pub FromHandle : Slot 0
+FromHandle = plain (λ _. ClientHandle.the_row)

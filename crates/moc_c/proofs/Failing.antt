@@ -28,8 +28,8 @@ abbrev is_index : ℕ → ℕ → Bool
 is_index order x = nat_lt x (cell_count order)
 
 -- the set of cells that have this error, if they have one
-abbrev numbers_say : Option CallError → ℕ → List ℕ → Result NumberSet CallError
-numbers_say f order xs = option_map_or (λ e. Err e) f (Ok (pixels_of (map (cell_number order) xs)))
+abbrev numbers_or_error : Option CallError → ℕ → List ℕ → Result NumberSet CallError
+numbers_or_error f order xs = option_map_or (λ e. Err e) f (Ok (pixels_of (map (cell_number order) xs)))
 
 index_true : (order x : ℕ) → x < cell_count order → is_index order x ≡ true
 index_true order x lt = grind (arith, nat_tests)
@@ -107,12 +107,12 @@ uniqs_end xs ls i o same end h is =
 
 -- ---- sets from arrays
 
-pub cells_said : (order : ℕ) (xs : List ℕ) (i : ℕ) (a : NumberSet) → order ≤ 29 → length xs ≤ i → ((k : ℕ) → k < i → get_or xs k 0 < cell_count order)
+pub cells_below_count : (order : ℕ) (xs : List ℕ) (i : ℕ) (a : NumberSet) → order ≤ 29 → length xs ≤ i → ((k : ℕ) → k < i → get_or xs k 0 < cell_count order)
     → a ≡ pixels_of (map (cell_number order) xs) → set_of_cells_or_error order xs ≡ Ok a
-cells_said order xs i a le end h is =
-    ap (λ f. numbers_say f order xs) (numbers_left order xs [] le refl ∙ cells_none order xs (λ k lt. h k (omega arith))) ∙ ap (λ (b : NumberSet). Ok b) (sym is)
+cells_below_count order xs i a le end h is =
+    ap (λ f. numbers_or_error f order xs) (numbers_left order xs [] le refl ∙ cells_none order xs (λ k lt. h k (omega arith))) ∙ ap (λ (b : NumberSet). Ok b) (sym is)
 
-pub cells_unsaid : (order : ℕ) (xs : List ℕ) (i : ℕ) → order ≤ 29 → i < length xs → ((k : ℕ) → k < i → get_or xs k 0 < cell_count order)
+pub cell_out_of_range : (order : ℕ) (xs : List ℕ) (i : ℕ) → order ≤ 29 → i < length xs → ((k : ℕ) → k < i → get_or xs k 0 < cell_count order)
     → cell_count order ≤ get_or xs i 0 → set_of_cells_or_error order xs ≡ Err (error.NoSuchCell i)
-cells_unsaid order xs i le lt h fails =
-    ap (λ f. numbers_say f order xs) (numbers_left order xs [] le refl ∙ cells_some order xs i lt h fails)
+cell_out_of_range order xs i le lt h fails =
+    ap (λ f. numbers_or_error f order xs) (numbers_left order xs [] le refl ∙ cells_some order xs i lt h fails)

@@ -23,9 +23,9 @@ IsFilling old all before left out at =
     (all ≡ before ++ left) × (length all ≤ length out) × (at ≡ length before) × (take at out ≡ ranges_from before)
     × (drop at out ≡ drop at old)
 
-pub has_room : (old : List Range) (all before left rest : List (ℕ × ℕ)) (out : List Range) (at : ℕ) (x : ℕ × ℕ)
+pub has_capacity : (old : List Range) (all before left rest : List (ℕ × ℕ)) (out : List Range) (at : ℕ) (x : ℕ × ℕ)
     → IsFilling old all before left out at → left ≡ x ∷ rest → at < length out
-has_room old all before left rest out at x f is =
+has_capacity old all before left rest out at x f is =
     let sum : length all ≡ length before + length left = ap length f.0 ∙ length-append before left in
     let one : length left ≡ suc (length rest) = ap length is in omega (arith, f.1, f.2)
 
@@ -36,13 +36,13 @@ filling_more old all before left rest out at x f is = (
   f.0 ∙ ap (λ ys. before ++ ys) is ∙ sym (append_assoc before (x ∷ []) rest),
   omega (arith, f.1, length-set out at (range x)),
   ap (λ n. n + 1) f.2 ∙ sym (length-append before (x ∷ [])),
-  take_more_set out at (range x) (has_room old all before left rest out at x f is) ∙ ap (λ ys. ys ++ range x ∷ []) f.3 ∙ sym (map-append range before (x ∷ [])),
-  same_rest old out at (range x) (has_room old all before left rest out at x f is) f.4,
+  take_more_set out at (range x) (has_capacity old all before left rest out at x f is) ∙ ap (λ ys. ys ++ range x ∷ []) f.3 ∙ sym (map-append range before (x ∷ [])),
+  same_rest old out at (range x) (has_capacity old all before left rest out at x f is) f.4,
 )
 
-pub filled : (all before left : List (ℕ × ℕ)) (old out : List Range) (at : ℕ) (o : CallResult) → IsFilling old all before left out at → left ≡ [] → o ≡ number_result (length all)
+pub result_of_filled : (all before left : List (ℕ × ℕ)) (old out : List Range) (at : ℕ) (o : CallResult) → IsFilling old all before left out at → left ≡ [] → o ≡ number_result (length all)
     → Fills (ranges_from all) old out o
-filled all before left old out at o f none is =
+result_of_filled all before left old out at o f none is =
     let whole : all ≡ before = f.0 ∙ ap (λ ys. before ++ ys) none ∙ append-nil before in
     let count : length (ranges_from all) ≡ length all = length-map all range in
     let place : length (ranges_from all) ≡ at = count ∙ ap length whole ∙ sym f.2 in

@@ -29,9 +29,9 @@ none_left o xs i a le =
     ap (λ ys. set.union a (pixels_of (map (cell_number o) ys))) (drop_all i xs le) ∙ union-empty a
 
 -- the set of one cell
-pub one_alone : (o x : ℕ) (a : NumberSet) → a ≡ span o x → a ≡ pixels_of (map (cell_number o) (x ∷ []))
+pub pixels_of_one_cell : (o x : ℕ) (a : NumberSet) → a ≡ span o x → a ≡ pixels_of (map (cell_number o) (x ∷ []))
 unfolding pixels_of
-one_alone o x a is = is ∙ sym (union-empty (span o x))
+pixels_of_one_cell o x a is = is ∙ sym (union-empty (span o x))
 
 pub one_below : (x m : ℕ) → x < m → (k : ℕ) → k < 1 → get_or (x ∷ []) k 0 < m
 one_below x m below zero lt = below

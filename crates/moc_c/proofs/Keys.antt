@@ -31,17 +31,17 @@ text_of_set m n k w h = map.same_map nat_cmp_total map.nat_cmp-IsAntisymmetric _
     ∙ sym (map.get-insert nat_cmp_total (map.from_entries m.entries) k w q ∙ ap (cond (eq_by_cmp nat_cmp q k) (Some w)) (get_entries m q)))
 
 -- removing a value from the tree removes it from the map
-pub taken_out : {X : Type 0} (m n : BTreeMap ℕ X) (k : ℕ) → ((q : ℕ) → tree.get nat_cmp n q ≡ cond (is_at (nat_cmp k) q) None (tree.get nat_cmp m q))
+pub get_after_removal : {X : Type 0} (m n : BTreeMap ℕ X) (k : ℕ) → ((q : ℕ) → tree.get nat_cmp n q ≡ cond (is_at (nat_cmp k) q) None (tree.get nat_cmp m q))
     → map.from_entries {R = nat_cmp} n.entries ≡ map.remove (map.from_entries m.entries) k
-taken_out m n k h = map.same_map nat_cmp_total map.nat_cmp-IsAntisymmetric _ _ (λ q.
+get_after_removal m n k h = map.same_map nat_cmp_total map.nat_cmp-IsAntisymmetric _ _ (λ q.
     get_entries n q ∙ h q ∙ ap (λ b. cond b None (tree.get nat_cmp m q)) ((eq_by_cmp_equiv nat_cmp_total).symm k q)
     ∙ sym (map.get-remove nat_cmp_total (map.from_entries m.entries) k q ∙ ap (cond (eq_by_cmp nat_cmp q k) None) (get_entries m q)))
 
 pub none_at_first : (next : ℕ) → IsEmptyFrom next map.empty
 none_at_first next = λ id le. map.get-empty nat_cmp id
 
-pub none_after_put : (sets : map.FinMap nat_cmp NumberSet) (next : ℕ) (a : NumberSet) → IsEmptyFrom next sets → IsEmptyFrom (next + 1) (map.insert sets next a)
-none_after_put sets next a none = λ id le.
+pub empty_after_insert : (sets : map.FinMap nat_cmp NumberSet) (next : ℕ) (a : NumberSet) → IsEmptyFrom next sets → IsEmptyFrom (next + 1) (map.insert sets next a)
+empty_after_insert sets next a none = λ id le.
     map.get-insert nat_cmp_total sets next a id
     ∙ ap (λ b. cond b (Some a) (map.get sets id)) (unsigned_tied id next ∙ ne_eqb id next (omega arith))
     ∙ none id (omega arith)
@@ -64,8 +64,8 @@ remove_none m k none = map.same_map nat_cmp_total map.nat_cmp-IsAntisymmetric _ 
       | false ↦ λ e. refl
     ] refl)
 
-pub freed : (s d e : Contents) (id : ℕ) (found : Bool) (o : CallResult) → s ≡ d → e ≡ without_set s id → found ≡ is_some (set_with_id s id) → found ≡ true → o ≡ success → Frees d e id o
-freed s d e id found o same is told some well =
+pub frees_set : (s d e : Contents) (id : ℕ) (found : Bool) (o : CallResult) → s ≡ d → e ≡ without_set s id → found ≡ is_some (set_with_id s id) → found ≡ true → o ≡ success → Frees d e id o
+frees_set s d e id found o same is told some well =
     rest (set_with_id s id) refl
   where
     rest : (x : Option NumberSet) → set_with_id s id ≡ x → Frees d e id o

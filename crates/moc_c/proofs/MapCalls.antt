@@ -15,8 +15,7 @@ use Rattle.moc_lines.specs.Language.{batch_of, command_of}
 use Rattle.moc_lines.specs.declared.error.LineError.{LineError}
 use Rattle.moc_lines.specs.declared.error.LineError.TheVariants.{Memory}
 use Rattle.moc_c.specs.Answers.{Makes}
-use Rattle.moc_c.specs.Buffers.{set_of_cells_or_error}
-use Rattle.moc_c.specs.Commands.{CallsWithCells, CallsWithSet, command_on, ExecutesCommand}
+use Rattle.moc_c.specs.Commands.{CallsWithSet, ExecutesCommand}
 use Rattle.moc_c.specs.declared.commands.Verb.{Verb}
 use Rattle.moc_c.specs.Contents.{Contents}
 use Rattle.moc_c.specs.Membership.{Membership}
@@ -31,10 +30,10 @@ use Rattle.moc_c.specs.declared.client_state.ClientState.{ClientState}
 
 -- ---- a handle becomes a client
 
-pub begin_taken : (m : Option Membership) (q : Option (List Reply)) (r : Result (NumberSet × ℕ) CallError) (o : CallResult) → is_some m ≡ true → o ≡ result_of error.HandleInUse
+pub handle_in_use_at_begin : (m : Option Membership) (q : Option (List Reply)) (r : Result (NumberSet × ℕ) CallError) (o : CallResult) → is_some m ≡ true → o ≡ result_of error.HandleInUse
     → BeginsMap (record { member = m; replies = q }) (record { member = m; replies = q }) (unless_in_use m r) o
-begin_taken (Some x) q r o some tells = (Err error.HandleInUse, inl refl, (refl, tells))
-begin_taken None q r o some tells = let clash : false ≡ true = some in absurd cc
+handle_in_use_at_begin (Some x) q r o some tells = (Err error.HandleInUse, inl refl, (refl, tells))
+handle_in_use_at_begin None q r o some tells = let clash : false ≡ true = some in absurd cc
 
 unused_handle : {X : Type 0} (m : Option Membership) (r : Result X CallError) → is_some m ≡ false → unless_in_use m r ≡ r
 unused_handle None r none = refl
@@ -48,9 +47,9 @@ joined s t last m n given o is none gives stores =
 
 -- ---- calls
 
-pub applied : (s new : ClientState) (m n : Membership) (line : List ℕ) (cs : List Command) (o : CallResult) → s.member ≡ Some m → batch_of command_of line ≡ Ok cs
+pub applies_commands : (s new : ClientState) (m n : Membership) (line : List ℕ) (cs : List Command) (o : CallResult) → s.member ≡ Some m → batch_of command_of line ≡ Ok cs
     → IsAfter m n → CallsMap s new m n cs o → Applies s new (member_of_handle s) line o
-applied s new m n line cs o is says after calls =
+applies_commands s new m n line cs o is says after calls =
     subst (λ x. Applies s new (ok_or x error.NoMap) line o) (sym is)
     (subst (λ x. ExecutesLine s new m x o) (sym says) (inl (n, after, calls)))
 
@@ -70,15 +69,16 @@ not_parsed s m line e o is reads tells = subst (λ x. Applies s (with_member s m
         let is_same : e ≡ f = cc in
         (unchanged, inl (tells ∙ ap (λ x. result_of (error.Line x)) is_same))
 
-pub refused : (m n : Membership) (cs : List Command) (e : TryError) (o : CallResult) → AfterTryApply m.map cs e (record_of m.client) (record_of n.client)
+pub fails_trying : (m n : Membership) (cs : List Command) (e : TryError) (o : CallResult) → AfterTryApply m.map cs e (record_of m.client) (record_of n.client)
     → o ≡ result_of (try_error e) → FailsTrying m n cs o
-refused m n cs (try.Busy b) o after tells = inl (b, after, tells)
-refused m n cs try.Memory o after tells = inr (after, tells)
+fails_trying m n cs (try.Busy b) o after tells = inl (b, after, tells)
+fails_trying m n cs try.Memory o after tells = inr (after, tells)
 
-pub command_executed : (verb : Verb) (s new : ClientState) (m n : Membership) (order : ℕ) (cells : List ℕ) (a : NumberSet) (o : CallResult) → s.member ≡ Some m
-    → set_of_cells_or_error order cells ≡ Ok a → IsAfter m n → new ≡ with_member s n → ExecutesCommand m n (command_on verb a) o → CallsWithCells verb s new order cells o
-command_executed verb s new m n order cells a o is says after same executed =
-    subst (λ x. CallsWithSet verb s new (ok_or x error.NoMap) (set_of_cells_or_error order cells) o) (sym is)
+-- the command on a set was executed, or failed
+pub called_with_set : (verb : Verb) (s new : ClientState) (m n : Membership) (r : Result NumberSet CallError) (a : NumberSet) (o : CallResult) → s.member ≡ Some m
+    → r ≡ Ok a → IsAfter m n → new ≡ with_member s n → ExecutesCommand m n verb a o → CallsWithSet verb s new (member_of_handle s) r o
+called_with_set verb s new m n r a o is says after same executed =
+    subst (λ x. CallsWithSet verb s new (ok_or x error.NoMap) r o) (sym is)
     (subst (λ x. CallsWithSet verb s new (Ok m) x o) (sym says) (inl (n, after, same, executed)))
 
 -- ---- the set of a map
@@ -94,12 +94,12 @@ sky_reply m n cs r is ends =
     let last = legal_last (start_of m.map) ((record_of m.client).seen ++ ends.between) (call_of m.client cs r) (subst (IsLegal batch_answer (start_of m.map)) ends.seen ends.history.0) in
     (_, last.1 ∙ ap (λ x. (batch_answer last.0 x).1) is)
 
-pub laid : (s : ClientState) (m n : Membership) (store store' : Contents) (a : NumberSet) (o : CallResult) → s.member ≡ Some m → ReadsWholeSky m n (Ok a) → Makes store store' (Ok a) o
+pub writes_whole_set : (s : ClientState) (m n : Membership) (store store' : Contents) (a : NumberSet) (o : CallResult) → s.member ≡ Some m → ReadsWholeSky m n (Ok a) → Makes store store' (Ok a) o
     → StoresMapSet s (with_member s n) store store' (member_of_handle s) o
-laid s m n store store' a o is reads (inl made) =
+writes_whole_set s m n store store' a o is reads (inl made) =
     subst (λ x. StoresMapSet s (with_member s n) store store' (ok_or x error.NoMap) o) (sym is)
     (inl (n, reads.0, refl, inl (a, reads.1, made.1, made.0)))
-laid s m n store store' a o is reads (inr none) =
+writes_whole_set s m n store store' a o is reads (inr none) =
     subst (λ x. StoresMapSet s (with_member s n) store store' (ok_or x error.NoMap) o) (sym is)
     (inl (n, reads.0, refl, inr (inr (unanswered, none.0), none.1)))
   where
@@ -108,11 +108,11 @@ laid s m n store store' a o is reads (inr none) =
     unanswered =
         inr (refl, (Cover a ∷ [], subst (λ k. TakesEffect m.map (call_by k whole_sky (Cover a ∷ [])) (record_of m.client) (record_of n.client)) (sym reads.0.own) reads.1))
 
-pub not_laid : (s : ClientState) (m n : Membership) (store : Contents) (e : TryError) (o : CallResult) → s.member ≡ Some m → ReadsWholeSky m n (Err e) → o ≡ result_of (try_error e)
+pub whole_set_not_written : (s : ClientState) (m n : Membership) (store : Contents) (e : TryError) (o : CallResult) → s.member ≡ Some m → ReadsWholeSky m n (Err e) → o ≡ result_of (try_error e)
     → StoresMapSet s (with_member s n) store store (member_of_handle s) o
-not_laid s m n store e o is (inl after) tells =
+whole_set_not_written s m n store e o is (inl after) tells =
     subst (λ x. StoresMapSet s (with_member s n) store store (ok_or x error.NoMap) o) (sym is)
-    (inl (n, after.0, refl, inr (refused m n whole_sky e o after.1 tells, refl)))
-not_laid s m n store e o is (inr same) tells =
+    (inl (n, after.0, refl, inr (fails_trying m n whole_sky e o after.1 tells, refl)))
+whole_set_not_written s m n store e o is (inr same) tells =
     subst (λ x. StoresMapSet s (with_member s n) store store (ok_or x error.NoMap) o) (sym is)
     (inr ((λ i. record { member = (ap Some same.0 ∙ sym is) i; replies = s.replies }), refl, tells ∙ ap (λ x. result_of (try_error x)) same.1))

@@ -16,8 +16,8 @@ begins_from x [] after = tt
 begins_from x (range ∷ ranges) after = omega arith
 
 -- after the first range are the others
-pub passed_on : (a : NumberSet) (passed f t : ℕ) (rest : List (ℕ × ℕ)) → IsRest a ((f, t) ∷ rest) passed → IsRest a rest t
-passed_on a passed f t rest is = (
+pub rest_after_range : (a : NumberSet) (passed f t : ℕ) (rest : List (ℕ × ℕ)) → IsRest a ((f, t) ∷ rest) passed → IsRest a rest t
+rest_after_range a passed f t rest is = (
   is.0.3,
   begins_from t rest is.0.2,
   λ q behind.
@@ -28,8 +28,8 @@ passed_on a passed f t rest is = (
 )
 
 -- up to its end only the first range has pixels
-pub known_by : (a : NumberSet) (passed f t : ℕ) (rest : List (ℕ × ℕ)) → IsRest a ((f, t) ∷ rest) passed → IsTrueOf a (record { from = passed; start = f; end = t })
-known_by a passed f t rest is q low high =
+pub next_number_of_rest : (a : NumberSet) (passed f t : ℕ) (rest : List (ℕ × ℕ)) → IsRest a ((f, t) ∷ rest) passed → IsTrueOf a (record { from = passed; start = f; end = t })
+next_number_of_rest a passed f t rest is q low high =
     is.2 q low ∙ elim (nat_le f q) as (λ b. nat_le f q ≡ b → in_ranges ((f, t) ∷ rest) q ≡ b) [
       | true ↦ λ e. let le : f ≤ q = grind (arith, nat_tests) in in_first (f, t) rest q le high
       | false ↦ λ e. let lt : q < f = grind (arith, nat_tests) in not_before (f, t) rest is.0 q lt
@@ -40,6 +40,6 @@ begins_somewhere [] = tt
 begins_somewhere (range ∷ ranges) = omega arith
 
 -- all ranges of a set
-pub all_rest : (a : NumberSet) (ranges : List (ℕ × ℕ)) → IsNormal ranges → set_of ranges ≡ a → IsRest a ranges 0
-all_rest a ranges normal is =
+pub rest_from_start : (a : NumberSet) (ranges : List (ℕ × ℕ)) → IsNormal ranges → set_of ranges ≡ a → IsRest a ranges 0
+rest_from_start a ranges normal is =
     (normal, begins_somewhere ranges, λ q low. ap (λ x. set.contains x q) (sym is) ∙ contains-set_of ranges q)

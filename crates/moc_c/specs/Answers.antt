@@ -19,7 +19,7 @@ both (Ok x) (Ok y) = Ok (x, y)
 both (Ok x) (Err e) = Err e
 both (Err e) r = Err e
 
--- the sets with two ids, or the error for the first id that has none
+-- the sets with two ids, or the error for the first id that no set has
 abbrev pub sets_at : Contents → ℕ → ℕ → Result (NumberSet × NumberSet) CallError
 sets_at d a b = both (set_at d a) (set_at d b)
 

@@ -31,7 +31,7 @@ no_client = record { member = None; replies = None }
 abbrev pub with_member : ClientState → Membership → ClientState
 with_member s m = record { member = Some m; replies = s.replies }
 
--- the member of the handle, or the error that it has none
+-- the member of the handle, or the error that the handle has no member
 abbrev pub member_of_handle : ClientState → Result Membership CallError
 member_of_handle s = ok_or s.member error.NoMap
 
@@ -110,7 +110,7 @@ ExecutesLine old new m (Ok cs) o =
     ((n : Membership) × IsAfter m n × CallsMap old new m n cs o) ⊎ ((new ≡ old) × (o ≡ memory))
 ExecutesLine old new m (Err e) o = (new ≡ old) × ((o ≡ result_of (error.Line e)) ⊎ (o ≡ memory))
 
--- as `ExecutesLine` for the member of a handle; or the handle has none
+-- as `ExecutesLine` for the member of a handle; or the handle has no member
 abbrev pub Applies : ClientState → ClientState → Result Membership CallError → List ℕ → CallResult → Type 0
 Applies old new (Ok m) line o = ExecutesLine old new m (batch_of command_of line) o
 Applies old new (Err e) line o = (new ≡ old) × (o ≡ result_of e)

@@ -27,10 +27,10 @@ fn convert(conversion: Conversion, order: u8, numbers: &[u64], out: &mut [u64]) 
         return CallResult::of(CallError::LengthsDiffer);
     }
     for (at, number) in numbers.iter().enumerate() {
-        let Some(told) = conversion.of(order, *number) else {
+        let Some(converted) = conversion.of(order, *number) else {
             return CallResult::of(CallError::NoSuchCell { at });
         };
-        out[at] = told;
+        out[at] = converted;
     }
     CallResult::success()
 }

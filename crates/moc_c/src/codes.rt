@@ -114,10 +114,10 @@ pub(crate) const LINE_CLIENT_TOO_LARGE: u32 = 61;
 /// The code if a part number of a schedule is above 11.
 pub(crate) const LINE_PART_TOO_LARGE: u32 = 62;
 
-/// The code if the handle has no client.
+/// The code if the client has no map.
 pub(crate) const NO_MAP: u32 = 70;
 
-/// The code if the handle has a client already.
+/// The code if the client has a map already.
 pub(crate) const CLIENT_IN_USE: u32 = 71;
 
 /// The code if the number of clients is not 1 to 64.

@@ -1,19 +1,26 @@
-//! Commands on the cells of an array, without a line of text.
+//! Commands on the cells of an array or on a set of a store, without a line of text.
 ghost use Rattle.std.specs.Prelude.{◌≡◌};
-ghost use Rattle.moc_c.specs.Commands.{CallsWithCells, command_on, number_of_reply};
-ghost use Rattle.moc_c.specs.declared.commands.Verb.TheVariants.{Add, Claim, Count, Remove};
+ghost use Rattle.std.specs.FinSet as set;
+ghost use Rattle.moc_c.specs.Answers.{set_at};
+ghost use Rattle.moc_c.specs.Commands.{CallsWithCells, CallsWithSet, command_on, ExecutesCommand, number_of_reply};
+ghost use Rattle.moc_c.specs.Commands.{value_of_reply};
+ghost use Rattle.moc_c.specs.Sharing.{IsAfter, member_of_handle};
+ghost use Rattle.moc_c.specs.declared.commands.Verb.TheVariants.{Add, Claim, Contains, Count, Remove};
 
 use crate::arrays::set_of_cells;
 use crate::call_result::CallResult;
 use crate::client_handle::ClientHandle;
 use crate::client_state::ClientState;
 use crate::error::CallError;
+use crate::member::Member;
+use crate::store::Store;
+use crate::table::CoverageTable;
 use moc_parts::{Command, Operand, Reply};
 use moc_ranges::Coverage;
 use moc_sphere::Order;
 use std::alloc::Global;
 
-/// What a command does with a set of cells.
+/// What a command does with a set.
 #[derive(Clone, Copy)]
 pub enum Verb {
     /// Adds the set.
@@ -24,6 +31,8 @@ pub enum Verb {
     Claim,
     /// Counts the pixels that the map has in common with the set.
     Count,
+    /// Tests whether the map has all pixels of the set.
+    Contains,
 }
 
 impl Verb {
@@ -36,7 +45,18 @@ impl Verb {
             Verb::Add => Command::Add(operand),
             Verb::Remove => Command::Remove(operand),
             Verb::Claim => Command::Claim(operand),
-            Verb::Count => Command::Count(operand),
+            Verb::Count | Verb::Contains => Command::Count(operand),
+        }
+    }
+
+    /// Returns the value of the reply to the command on a set with this number of pixels.
+    fn value_of_reply(self, pixels: u64, reply: &Reply) -> u64
+        ensures { result ≡ value_of_reply self pixels reply.now }
+    {
+        let number = number_of_reply(reply);
+        match self {
+            Verb::Contains => u64::from(number == pixels),
+            _ => number,
         }
     }
 }
@@ -51,8 +71,22 @@ fn number_of_reply(reply: &Reply) -> u64
     }
 }
 
+impl Member {
+    /// Executes a command on a set, and returns the value of its reply.
+    fn execute(&mut self, verb: Verb, set: Coverage) -> CallResult
+        ensures after { IsAfter self.old self.new }
+        ensures executed { ExecutesCommand self.old self.new verb set result }
+    {
+        let pixels = set.count();
+        match self.answer(&verb.command(set)) {
+            Ok(reply) => CallResult::number(verb.value_of_reply(pixels, &reply)),
+            Err(error) => CallResult::of(CallError::from(error)),
+        }
+    }
+}
+
 impl ClientState {
-    /// Executes a command on the cells of an order with these indices, and returns the number of its reply.
+    /// Executes a command on the cells of an order with these indices, and returns the value of its reply.
     fn answer_cells(&mut self, alloc: Global, verb: Verb, order: u8, cells: &[u64]) -> CallResult
         ensures { CallsWithCells verb self.old self.new order cells.now result }
     {
@@ -62,13 +96,26 @@ impl ClientState {
         let Some(order) = Order::new(order) else {
             return CallResult::of(CallError::NoSuchOrder { order });
         };
-        let set = match set_of_cells(alloc, order, cells) {
+        match set_of_cells(alloc, order, cells) {
+            Ok(set) => member.execute(verb, set),
+            Err(error) => CallResult::of(error),
+        }
+    }
+
+    /// Executes a command on the set at an id, and returns the value of its reply.
+    fn answer_set(&mut self, alloc: Global, verb: Verb, table: &CoverageTable, a: u64) -> CallResult
+        ensures { CallsWithSet verb self.old self.new (member_of_handle self.old) (set_at table.now a) result }
+    {
+        let Some(member) = &mut self.member else {
+            return CallResult::of(CallError::NoMap);
+        };
+        let set = match table.set(a) {
             Ok(set) => set,
             Err(error) => return CallResult::of(error),
         };
-        match member.answer(&verb.command(set)) {
-            Ok(reply) => CallResult::number(number_of_reply(&reply)),
-            Err(error) => CallResult::of(CallError::from(error)),
+        match set.try_copy(alloc) {
+            Ok(set) => member.execute(verb, set),
+            Err(_) => CallResult::of(CallError::Memory),
         }
     }
 }
@@ -82,7 +129,8 @@ impl ClientState {
 ///
 /// # Complexity
 /// Usually O(log n) for one cell in a part of n ranges. O(n) if the cell touches ranges in several blocks of the part's
-/// list. If another set shares the list, as after `moc_map_set`, the list is copied first, which shares its blocks.
+/// list. If another set shares the list, as after `moc_map_coverage`, the list is copied first, which shares its
+/// blocks.
 #[unsafe(no_mangle)]
 pub extern "C" fn moc_map_add(
     alloc: Global,
@@ -98,7 +146,8 @@ pub extern "C" fn moc_map_add(
 }
 
 /// Removes the cells of an order with these nested indices from the map. Returns the number of pixels that were
-/// removed. As `moc_map_add`, but O(n) for a cell that has pixels of the map.
+/// removed. As `moc_map_add`, but O(n) also if a block of the list would be empty, or would fit into one block with a
+/// neighbour.
 #[unsafe(no_mangle)]
 pub extern "C" fn moc_map_remove(
     alloc: Global,
@@ -113,8 +162,8 @@ pub extern "C" fn moc_map_remove(
         .answer_cells(alloc, Verb::Remove, order, cells)
 }
 
-/// Adds the cells of an order with these nested indices to the map if it has none of their pixels. Returns the number
-/// of their pixels that the map has, and 0 if the claim succeeded. As `moc_map_add`.
+/// Adds the cells of an order with these nested indices to the map if no pixel of them is in the map. Returns the
+/// number of their pixels that are in the map, and 0 if the claim succeeded. As `moc_map_add`.
 #[unsafe(no_mangle)]
 pub extern "C" fn moc_map_claim(
     alloc: Global,
@@ -143,4 +192,122 @@ pub extern "C" fn moc_map_count(
     client_handle
         .client_state()
         .answer_cells(alloc, Verb::Count, order, cells)
+}
+
+/// Returns 1 if the map has all pixels of the cells of an order with these nested indices, and 0 if not. As
+/// `moc_map_count`.
+#[unsafe(no_mangle)]
+pub extern "C" fn moc_map_contains(
+    alloc: Global,
+    client_handle: &mut ClientHandle,
+    order: u8,
+    cells: &[u64],
+) -> CallResult
+    ensures { CallsWithCells Contains client_handle.old.contents client_handle.new.contents order cells.now result }
+{
+    client_handle
+        .client_state()
+        .answer_cells(alloc, Verb::Contains, order, cells)
+}
+
+/// Adds the set at an id of a store to the map. Returns the number of pixels that were added. Does not wait, and keeps
+/// the replies to the last line.
+///
+/// # Errors
+/// Fails if the handle has no client, or if the id has no set. Fails if another client holds a part that the set meets,
+/// or part 0 if the set is empty, or if an allocation fails. The map is unchanged then.
+///
+/// # Complexity
+/// The set is copied, which shares its ranges. Then a constant number of passes over its ranges and over those of the
+/// parts that it meets. A set of one range in one part is added as by `moc_map_add`.
+#[unsafe(no_mangle)]
+pub extern "C" fn moc_map_add_coverage(
+    alloc: Global,
+    client_handle: &mut ClientHandle,
+    store: &mut Store,
+    a: u64,
+) -> CallResult
+    ensures call { CallsWithSet Add client_handle.old.contents client_handle.new.contents
+        (member_of_handle client_handle.old.contents) (set_at store.old.contents a) result }
+    ensures same { store.new.contents ≡ store.old.contents }
+{
+    let table = store.table();
+    client_handle
+        .client_state()
+        .answer_set(alloc, Verb::Add, table, a)
+}
+
+/// Removes the set at an id of a store from the map. Returns the number of pixels that were removed. As
+/// `moc_map_add_coverage`.
+#[unsafe(no_mangle)]
+pub extern "C" fn moc_map_remove_coverage(
+    alloc: Global,
+    client_handle: &mut ClientHandle,
+    store: &mut Store,
+    a: u64,
+) -> CallResult
+    ensures call { CallsWithSet Remove client_handle.old.contents client_handle.new.contents
+        (member_of_handle client_handle.old.contents) (set_at store.old.contents a) result }
+    ensures same { store.new.contents ≡ store.old.contents }
+{
+    let table = store.table();
+    client_handle
+        .client_state()
+        .answer_set(alloc, Verb::Remove, table, a)
+}
+
+/// Adds the set at an id of a store to the map if the map has none of its pixels. Returns the number of its pixels that
+/// the map has, and 0 if the claim succeeded. As `moc_map_add_coverage`.
+#[unsafe(no_mangle)]
+pub extern "C" fn moc_map_claim_coverage(
+    alloc: Global,
+    client_handle: &mut ClientHandle,
+    store: &mut Store,
+    a: u64,
+) -> CallResult
+    ensures call { CallsWithSet Claim client_handle.old.contents client_handle.new.contents
+        (member_of_handle client_handle.old.contents) (set_at store.old.contents a) result }
+    ensures same { store.new.contents ≡ store.old.contents }
+{
+    let table = store.table();
+    client_handle
+        .client_state()
+        .answer_set(alloc, Verb::Claim, table, a)
+}
+
+/// Returns the number of pixels that the map has in the set at an id of a store. As `moc_map_add_coverage`, but the map
+/// does not change.
+#[unsafe(no_mangle)]
+pub extern "C" fn moc_map_count_coverage(
+    alloc: Global,
+    client_handle: &mut ClientHandle,
+    store: &mut Store,
+    a: u64,
+) -> CallResult
+    ensures call { CallsWithSet Count client_handle.old.contents client_handle.new.contents
+        (member_of_handle client_handle.old.contents) (set_at store.old.contents a) result }
+    ensures same { store.new.contents ≡ store.old.contents }
+{
+    let table = store.table();
+    client_handle
+        .client_state()
+        .answer_set(alloc, Verb::Count, table, a)
+}
+
+/// Returns 1 if the map has all pixels of the set at an id of a store, and 0 if not. As `moc_map_count_coverage`.
+#[unsafe(no_mangle)]
+pub extern "C" fn moc_map_contains_coverage(
+    alloc: Global,
+    client_handle: &mut ClientHandle,
+    store: &mut Store,
+    a: u64,
+) -> CallResult
+    ensures call { CallsWithSet Contains client_handle.old.contents client_handle.new.contents
+        (member_of_handle client_handle.old.contents) (set_at store.old.contents a) result }
+    ensures same { store.new.contents ≡ store.old.contents }
+{
+    let table = store.table();
+    client_handle
+        .client_state()
+        .answer_set(alloc, Verb::Contains, table, a)
 }

@@ -131,6 +131,19 @@ pub extern "C" fn moc_degrade(alloc: Global, store: &mut Store, a: u64, order: u
     store.table().degrade(alloc, a, order)
 }
 
+/// Stores a set of one store in another store under a new id. The stores share its blocks. O(n / 128) for n ranges, and
+/// O(log n) for n sets in the store. Fails if the id has no set, or if an allocation fails.
+#[unsafe(no_mangle)]
+pub extern "C" fn moc_share(alloc: Global, from: &mut Store, a: u64, to: &mut Store) -> CallResult
+    ensures makes { Makes to.old.contents to.new.contents (set_at from.old.contents a) result }
+    ensures same { from.new.contents ≡ from.old.contents }
+{
+    match from.table().set(a) {
+        Ok(set) => to.table().insert_new(set.try_copy(alloc)),
+        Err(error) => CallResult::of(error),
+    }
+}
+
 /// Frees the set with this id; the id is never used again. O(log n) for n sets in the store. Fails if the id has no
 /// set.
 #[unsafe(no_mangle)]

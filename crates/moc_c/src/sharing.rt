@@ -218,7 +218,7 @@ pub extern "C" fn moc_map_answer(
 /// # Errors
 /// Fails if the handle has no client, if another client holds a part, or if an allocation fails.
 #[unsafe(no_mangle)]
-pub extern "C" fn moc_map_set(
+pub extern "C" fn moc_map_coverage(
     alloc: Global,
     client_handle: &mut ClientHandle,
     store: &mut Store,

@@ -127,7 +127,7 @@ impl CoverageTable {
         }
     }
 
-    /// Returns the coverages with two ids. Fails with the first id that has none. O(log n).
+    /// Returns the coverages with two ids. Fails with the first id that no coverage has. O(log n).
     pub(crate) fn two(&self, a: u64, b: u64) -> Result<(&Coverage, &Coverage), CallError>
         ensures { MatchResult result (λ sets. sets_at self.now a b ≡ Ok (sets.0.now, sets.1.now))
             (λ e. sets_at self.now a b ≡ Err e) }

@@ -1,14 +1,14 @@
 use Rattle.std.proofs.Common.{◌∙◌, ◌∷◌, [], ◌<◌, ap, arith, rules}
 use Rattle.moc_sphere.specs.CellNumber.{CellNumber, cell_count}
 use Rattle.moc_ranges.specs.Cells.{span}
-use Rattle.moc_c.proofs.Failing.{cells_said}
-use Rattle.moc_c.proofs.Gathering.{one_alone, one_below}
+use Rattle.moc_c.proofs.Failing.{cells_below_count}
+use Rattle.moc_c.proofs.Gathering.{pixels_of_one_cell, one_below}
 use Rattle.moc_c.proofs.arrays.set_of_cell.Goals as goal
 
 pub returns : goal.returns
 returns c =
     let below : c.args.index < cell_count c.args.order = search rules in
-    cells_said c.args.order (c.args.index ∷ []) 1 c.in_ok-from_cell.field-0 (search rules) (omega arith)
+    cells_below_count c.args.order (c.args.index ∷ []) 1 c.in_ok-from_cell.field-0 (search rules) (omega arith)
     (one_below c.args.index (cell_count c.args.order) below)
-    (one_alone c.args.order c.args.index c.in_ok-from_cell.field-0
+    (pixels_of_one_cell c.args.order c.args.index c.in_ok-from_cell.field-0
     (c.in_ok-from_cell.ensures ∙ ap (λ (k : CellNumber). span k.order k.index) c.in-Ok.ensures.cell.1))

@@ -3,7 +3,7 @@ use Rattle.std.specs.FinSet as set
 use Rattle.moc_sphere.specs.CellNumber.{cell_count, cell_number}
 use Rattle.moc_ranges.specs.Cells.{pixels_of}
 use Rattle.moc_ranges.specs.Lemmas.{empty-union}
-use Rattle.moc_c.proofs.Failing.{cells_said, cells_unsaid}
+use Rattle.moc_c.proofs.Failing.{cells_below_count, cell_out_of_range}
 use Rattle.moc_c.proofs.Gathering.{one_more, none_left}
 use Rattle.moc_c.proofs.arrays.set_of_cells.Goals as goal
 
@@ -20,9 +20,9 @@ loop-at-preserved c =
 pub returns-in_default-new : goal.returns-in_default-new
 returns-in_default-new c =
     let fails : cell_count c.args.order ≤ get_or c.args.cells.now c.loop-at.at 0 = search rules in
-    inr (cells_unsaid c.args.order c.args.cells.now c.loop-at.at (search rules) c.loop-at-test.true c.loop-at.invariant.1 fails)
+    inr (cell_out_of_range c.args.order c.args.cells.now c.loop-at.at (search rules) c.loop-at-test.true c.loop-at.invariant.1 fails)
 
 pub returns : goal.returns
 returns c =
-    cells_said c.args.order c.args.cells.now c.loop-at.at c.in_ok-build.field-0 (search rules) c.loop-at-test.false c.loop-at.invariant.1
+    cells_below_count c.args.order c.args.cells.now c.loop-at.at c.in_ok-build.field-0 (search rules) c.loop-at-test.false c.loop-at.invariant.1
     (c.in_ok-build.ensures ∙ sym (none_left c.args.order c.args.cells.now c.loop-at.at c.loop-at.builder c.loop-at-test.false) ∙ c.loop-at.invariant.0)

@@ -1,19 +1,19 @@
 use Rattle.std.proofs.Common.{◌≡◌, ◌≤◌, ◌<◌, ◌∷◌, subst, rules}
 use Rattle.moc_c.specs.Private.Lookup.{IsRest}
-use Rattle.moc_c.proofs.Passing.{known_by, passed_on}
+use Rattle.moc_c.proofs.Passing.{next_number_of_rest, rest_after_range}
 use Rattle.moc_c.proofs.lookup.advance.Goals as goal
 
 pub returns-then-pixel-end-clause-rest : goal.returns-then-pixel-end-clause-rest
 returns-then-pixel-end-clause-rest c =
     let is : c.loop-step.rest ≡ (c.in-Some.start, c.in-Some.end) ∷ c.next.new.self = search rules in
-    passed_on c.args.coverage.now c.loop-step.passed c.in-Some.start c.in-Some.end c.next.new.self
+    rest_after_range c.args.coverage.now c.loop-step.passed c.in-Some.start c.in-Some.end c.next.new.self
     (subst (λ r. IsRest c.args.coverage.now r c.loop-step.passed) is c.loop-step.invariant.0)
 
 pub returns-then-pixel-end-clause-known : goal.returns-then-pixel-end-clause-known
 returns-then-pixel-end-clause-known c =
     let is : c.loop-step.rest ≡ (c.in-Some.start, c.in-Some.end) ∷ c.next.new.self = search rules in
     let high : c.args.pixel < c.in-Some.end = search rules in (
-      known_by c.args.coverage.now c.loop-step.passed c.in-Some.start c.in-Some.end c.next.new.self
+      next_number_of_rest c.args.coverage.now c.loop-step.passed c.in-Some.start c.in-Some.end c.next.new.self
           (subst (λ r. IsRest c.args.coverage.now r c.loop-step.passed) is c.loop-step.invariant.0),
       c.loop-step.invariant.1,
       high,
@@ -23,7 +23,7 @@ pub loop-step-preserved : goal.loop-step-preserved
 loop-step-preserved c =
     let is : c.loop-step.rest ≡ (c.in-Some.start, c.in-Some.end) ∷ c.next.new.self = search rules in
     let low : c.in-Some.end ≤ c.args.pixel = search rules in (
-      passed_on c.args.coverage.now c.loop-step.passed c.in-Some.start c.in-Some.end c.next.new.self
+      rest_after_range c.args.coverage.now c.loop-step.passed c.in-Some.start c.in-Some.end c.next.new.self
           (subst (λ r. IsRest c.args.coverage.now r c.loop-step.passed) is c.loop-step.invariant.0),
       low,
     )

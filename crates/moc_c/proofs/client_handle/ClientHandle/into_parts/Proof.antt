@@ -24,7 +24,7 @@ use denote.Triple.Table.{entered}
 use denote.Triple.Walked.{says, Stays, stay_dropped, walk_of, ends_at, Goes-dropped, walk_Meets}
 use Rattle.std_alloc.proofs.BoxSteps.Form.{D, B, word, box_typed}
 use Rattle.std_alloc.proofs.BoxSteps.Steps.{box_out, box_in}
-use Rattle.moc_c.proofs.AsStateBox.{E, FromSeat as From}
+use Rattle.moc_c.proofs.AsStateBox.{E, FromHandle as From}
 use Rattle.moc_c.specs.contracts.client_handle.ClientHandle.into_parts as F
 use Rattle.moc_c.specs.contracts.client_handle.ClientHandle.into_parts.Key.{name as #self}
 use Rattle.moc_c.proofs.client_handle.ClientHandle.into_parts.Statement as stated

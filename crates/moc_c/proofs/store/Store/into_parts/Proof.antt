@@ -24,7 +24,7 @@ use denote.Triple.Table.{entered}
 use denote.Triple.Walked.{says, Stays, stay_dropped, walk_of, ends_at, Goes-dropped, walk_Meets}
 use Rattle.std_alloc.proofs.BoxSteps.Form.{D, B, word, box_typed}
 use Rattle.std_alloc.proofs.BoxSteps.Steps.{box_out, box_in}
-use Rattle.moc_c.proofs.AsBox.{E, FromDesk as From}
+use Rattle.moc_c.proofs.AsBox.{E, FromStore as From}
 use Rattle.moc_c.specs.contracts.store.Store.into_parts as F
 use Rattle.moc_c.specs.contracts.store.Store.into_parts.Key.{name as #self}
 use Rattle.moc_c.proofs.store.Store.into_parts.Statement as stated

@@ -6,10 +6,10 @@ use Rattle.moc_c.specs.CallResults.{memory, numbers_result, result_of_format}
 use Rattle.moc_c.proofs.table.CoverageTable.read.Goals as goal
 
 -- an allocation failure has the same code in each format
-memory_of : (format : Format) → result_of_format (out_of_memory_in format) ≡ memory
-memory_of Ascii = refl
-memory_of Json = refl
-memory_of Uniq = refl
+result_of_out_of_memory : (format : Format) → result_of_format (out_of_memory_in format) ≡ memory
+result_of_out_of_memory Ascii = refl
+result_of_out_of_memory Json = refl
+result_of_out_of_memory Uniq = refl
 
 pub returns-in-Ok-put : goal.returns-in-Ok-put
 returns-in-Ok-put c =
@@ -27,5 +27,5 @@ returns-in-Err-put c =
       out_of_memory_in c.args.format,
       inl refl,
       c.in-Err-put.ensures.unchanged,
-      c.of.ensures ∙ sym (memory_of c.args.format),
+      c.of.ensures ∙ sym (result_of_out_of_memory c.args.format),
     )

@@ -3,12 +3,12 @@ use Rattle.std.specs.Ordering.{nat_cmp}
 use Rattle.std.specs.Option.{is_some}
 use Rattle.std.specs.FinMap as map
 use Rattle.moc_lists.specs.RangeList.{NumberSet}
-use Rattle.moc_c.proofs.Keys.{get_entries, taken_out}
+use Rattle.moc_c.proofs.Keys.{get_entries, get_after_removal}
 use Rattle.moc_c.proofs.table.CoverageTree.remove.Goals as goal
 
 pub returns-clause-removed : goal.returns-clause-removed
 returns-clause-removed c =
-    taken_out c.self.inside.by_id c.remove.new.self c.args.id c.remove.ensures.updates.0
+    get_after_removal c.self.inside.by_id c.remove.new.self c.args.id c.remove.ensures.updates.0
     ∙ ap (λ (m : map.FinMap nat_cmp NumberSet). map.remove m c.args.id) c.self.view_is
 
 pub returns-clause-found : goal.returns-clause-found

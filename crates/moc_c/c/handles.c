@@ -1,0 +1,433 @@
+/* The part of the library for C that is written by hand and not proved: handles with locks, ids with the number of their store, texts,
+   the clients of a map, waiting, and fork. tools/guards.py puts it between the declarations of the proved functions and the guards. A
+   guard checks its pointers before it calls a function of this file.
+
+   Locks are taken in this order: the list of handles, handles by their numbers, the clients of maps. Only a fork takes the lock of a handle
+   after that of the list. */
+#include <pthread.h>
+#include <sched.h>
+#include <stdlib.h>
+#include <string.h>
+#include <time.h>
+
+/* The proved functions have the layouts of these types. */
+_Static_assert(sizeof(moc_store) == sizeof(void *) && sizeof(moc_client) == sizeof(void *), "a handle is a pointer");
+_Static_assert(sizeof(moc_result) == 24 && offsetof(moc_result, first) == 8 && offsetof(moc_result, second) == 16, "a result");
+_Static_assert(sizeof(moc_range) == 16 && offsetof(moc_range, to) == 8, "a range");
+_Static_assert(sizeof(size_t) == 8 && sizeof(bool) == 1, "lengths have 64 bits");
+
+/* ---- Handles */
+
+/* What the handle of a store or a client points to. */
+struct handle {
+    pthread_mutex_t lock;
+    struct handle *previous, *next;
+    uint64_t number;
+    union {
+        moc_store store;
+        moc_client client;
+    } proved;
+    /* Of a client: its map or NULL, its number, whether it has replies, and for how many milliseconds its calls wait. */
+    struct map *map;
+    uint64_t client_number;
+    bool has_replies;
+    uint32_t timeout;
+};
+
+/* A client of a map that no handle has, and its number. */
+struct unused_client {
+    moc_client client;
+    uint64_t number;
+};
+
+/* A map: the number of handles that have its clients, and the other clients. */
+struct map {
+    size_t handle_count, unused_count;
+    struct unused_client unused[];
+};
+
+/* The open handles, in the order of their numbers, and the last number. */
+static struct handle *first_handle, *last_handle;
+static uint64_t handle_number;
+static pthread_mutex_t handles_lock = PTHREAD_MUTEX_INITIALIZER;
+/* The lock of the clients of all maps. */
+static pthread_mutex_t maps_lock = PTHREAD_MUTEX_INITIALIZER;
+
+static moc_result failure(uint32_t code, uint64_t place)
+{
+    moc_result result = {code, place, 0};
+    return result;
+}
+
+/* A fork waits until no other thread is in a call with a handle, so that the child can use all handles. */
+static void before_fork(void)
+{
+    pthread_mutex_lock(&handles_lock);
+    for (struct handle *handle = first_handle; handle; handle = handle->next)
+        pthread_mutex_lock(&handle->lock);
+    pthread_mutex_lock(&maps_lock);
+}
+
+static void after_fork(void)
+{
+    pthread_mutex_unlock(&maps_lock);
+    for (struct handle *handle = first_handle; handle; handle = handle->next)
+        pthread_mutex_unlock(&handle->lock);
+    pthread_mutex_unlock(&handles_lock);
+}
+
+/* Returns whether forks take the locks, which the first call of this function arranges. Returns false if an allocation fails. */
+static bool is_safe_to_fork(void)
+{
+    static bool is_arranged;
+    pthread_mutex_lock(&handles_lock);
+    if (!is_arranged)
+        is_arranged = pthread_atfork(before_fork, after_fork, after_fork) == 0;
+    bool is_safe = is_arranged;
+    pthread_mutex_unlock(&handles_lock);
+    return is_safe;
+}
+
+/* Returns a new handle that is not in the list, or NULL if an allocation fails. */
+static struct handle *new_handle(void)
+{
+    struct handle *handle = is_safe_to_fork() ? calloc(1, sizeof *handle) : NULL;
+    if (handle && pthread_mutex_init(&handle->lock, NULL) != 0) {
+        free(handle);
+        return NULL;
+    }
+    return handle;
+}
+
+static void free_handle(struct handle *handle)
+{
+    pthread_mutex_destroy(&handle->lock);
+    free(handle);
+}
+
+/* Gives a handle the next number, and appends it to the list. */
+static void append_handle(struct handle *handle)
+{
+    pthread_mutex_lock(&handles_lock);
+    handle->number = ++handle_number;
+    handle->previous = last_handle;
+    *(last_handle ? &last_handle->next : &first_handle) = handle;
+    last_handle = handle;
+    pthread_mutex_unlock(&handles_lock);
+}
+
+/* Removes a handle from the list, and zeroes the pointer to it. The caller has the lock of the list. */
+static struct handle *remove_handle(void **at)
+{
+    struct handle *handle = *at;
+    *(handle->previous ? &handle->previous->next : &first_handle) = handle->next;
+    *(handle->next ? &handle->next->previous : &last_handle) = handle->previous;
+    *at = NULL;
+    return handle;
+}
+
+/* Begins a call with a handle. No other thread is in a call with it until `leave`. */
+static void enter(struct handle *handle)
+{
+    pthread_mutex_lock(&handle->lock);
+}
+
+static void leave(struct handle *handle)
+{
+    pthread_mutex_unlock(&handle->lock);
+}
+
+/* Begins a call with two different handles. */
+static void enter_both(struct handle *a, struct handle *b)
+{
+    pthread_mutex_lock(a->number < b->number ? &a->lock : &b->lock);
+    pthread_mutex_lock(a->number < b->number ? &b->lock : &a->lock);
+}
+
+/* Puts a new handle at `out` if its proved part is open, and frees it otherwise. Returns whether it is open. */
+static bool finish_open(struct handle *handle, bool is_open, void **out)
+{
+    if (!is_open) {
+        free_handle(handle);
+        return false;
+    }
+    append_handle(handle);
+    *out = handle;
+    return true;
+}
+
+static bool open_store(moc_store *out)
+{
+    struct handle *handle = new_handle();
+    return handle && finish_open(handle, moc_proved_store_open(&handle->proved.store), &out->at);
+}
+
+static void close_store(moc_store *store)
+{
+    pthread_mutex_lock(&handles_lock);
+    struct handle *handle = remove_handle(&store->at);
+    pthread_mutex_unlock(&handles_lock);
+    moc_proved_store_close(handle->proved.store);
+    free_handle(handle);
+}
+
+/* ---- Ids. The 16 high bits of an id are the number of its store, from 1. The other bits are the id that the proved functions use. */
+
+enum { STORE_SHIFT = 48, STORE_COUNT = 65535 };
+
+static uint64_t store_bits(const struct handle *store)
+{
+    return ((store->number - 1) % STORE_COUNT + 1) << STORE_SHIFT;
+}
+
+/* Returns the id that the proved functions use, or UINT64_MAX, which is not an id, if the id is of another store. */
+static uint64_t proved_id(const struct handle *store, uint64_t id)
+{
+    uint64_t number = id ^ store_bits(store);
+    return number >> STORE_SHIFT ? UINT64_MAX : number;
+}
+
+/* Returns the result of a call that makes a coverage in a store: with the id of the coverage; or with UINT64_MAX, and the position of the
+   error as `second`. */
+static moc_result id_result(moc_result result, struct handle *store)
+{
+    if (result.code == MOC_OK && result.first >> STORE_SHIFT) {
+        (void)moc_proved_free(&store->proved.store, result.first);
+        result = failure(MOC_MEMORY, 0);
+    }
+    if (result.code == MOC_OK) {
+        result.first |= store_bits(store);
+        return result;
+    }
+    return id_failure(result);
+}
+
+/* ---- Texts */
+
+/* Returns a result whose `first` is the length of a new text, for `length` bytes. */
+static moc_result new_text(moc_text *text, uint64_t length)
+{
+    text->bytes = malloc(length + 1);
+    if (!text->bytes)
+        return failure(MOC_MEMORY, 0);
+    text->bytes[length] = 0;
+    text->length = length;
+    return (moc_result){MOC_OK, length, 0};
+}
+
+/* Copies the text that a call has made in a store. */
+static moc_result store_text(moc_result result, struct handle *store, moc_text *text)
+{
+    if (result.code)
+        return result;
+    result = new_text(text, result.first);
+    if (result.code)
+        return result;
+    return moc_proved_text(&store->proved.store, (uint8_t *)text->bytes, text->length);
+}
+
+static void free_text(moc_text *text)
+{
+    free(text->bytes);
+    text->bytes = NULL;
+    text->length = 0;
+}
+
+/* ---- Maps and their clients */
+
+static bool open_client(moc_client *out)
+{
+    struct handle *handle = new_handle();
+    return handle && finish_open(handle, moc_proved_client_open(&handle->proved.client), &out->at);
+}
+
+static void free_map(struct map *map)
+{
+    while (map->unused_count)
+        moc_proved_client_close(map->unused[--map->unused_count].client);
+    free(map);
+}
+
+/* Returns the record of a map with handles for all its clients but one, or NULL if an allocation fails. */
+static struct map *new_map(uint8_t clients)
+{
+    struct map *map = malloc(sizeof *map + clients * sizeof map->unused[0]);
+    if (!map)
+        return NULL;
+    map->handle_count = 1;
+    for (map->unused_count = 0; map->unused_count + 1 < clients; map->unused_count++)
+        if (!moc_proved_client_open(&map->unused[map->unused_count].client)) {
+            free_map(map);
+            return NULL;
+        }
+    return map;
+}
+
+/* Takes the other clients of a new map from its first client. If that fails, which needs more references than memory can have, the map
+   has fewer clients. */
+static void take_clients(struct map *map, moc_client *first)
+{
+    for (size_t i = 0; i < map->unused_count; i++) {
+        moc_result joined = moc_proved_map_join(first, &map->unused[i].client);
+        map->unused[i].number = joined.first;
+        while (joined.code != MOC_OK && map->unused_count > i)
+            moc_proved_client_close(map->unused[--map->unused_count].client);
+    }
+}
+
+/* Begins a map, and keeps its other clients for `join_map`. */
+static moc_result begin_map(struct handle *client, struct handle *store, uint64_t a, uint8_t clients)
+{
+    struct map *map = NULL;
+    if (!client->map && 1 <= clients && clients <= MOC_MAX_CLIENTS && !(map = new_map(clients)))
+        return failure(MOC_MEMORY, 0);
+    moc_result result = moc_proved_map_begin(&client->proved.client, &store->proved.store, proved_id(store, a), clients);
+    if (result.code == MOC_NO_SUCH_SET)
+        result.first = a;
+    if (result.code) {
+        if (map)
+            free_map(map);
+        return result;
+    }
+    take_clients(map, &client->proved.client);
+    client->map = map;
+    client->client_number = result.first;
+    return result;
+}
+
+/* Exchanges the unused client of a handle with a client of a map. */
+static moc_result join_map(struct handle *client, struct handle *other)
+{
+    if (other->map)
+        return failure(MOC_CLIENT_IN_USE, 0);
+    if (!client->map)
+        return failure(MOC_NO_MAP, 0);
+    struct map *map = client->map;
+    moc_client closed = other->proved.client;
+    pthread_mutex_lock(&maps_lock);
+    bool has_client = map->unused_count > 0;
+    if (has_client) {
+        const struct unused_client *last = &map->unused[--map->unused_count];
+        other->proved.client = last->client;
+        other->client_number = last->number;
+        other->map = map;
+        map->handle_count++;
+    }
+    pthread_mutex_unlock(&maps_lock);
+    if (!has_client)
+        return failure(MOC_NO_CLIENT, 0);
+    moc_proved_client_close(closed);
+    return (moc_result){MOC_OK, other->client_number, 0};
+}
+
+/* Gives the client of a handle back to its map. The map ends with its last handle. A fork happens before or after all this. */
+static void close_client(moc_client *client)
+{
+    bool is_last = false;
+    pthread_mutex_lock(&handles_lock);
+    struct handle *handle = remove_handle(&client->at);
+    struct map *map = handle->map;
+    if (map) {
+        pthread_mutex_lock(&maps_lock);
+        map->unused[map->unused_count++] = (struct unused_client){handle->proved.client, handle->client_number};
+        is_last = --map->handle_count == 0;
+        pthread_mutex_unlock(&maps_lock);
+    }
+    pthread_mutex_unlock(&handles_lock);
+    if (!map)
+        moc_proved_client_close(handle->proved.client);
+    if (is_last)
+        free_map(map);
+    free_handle(handle);
+}
+
+static moc_result apply_line(struct handle *client, const uint8_t *line, size_t length)
+{
+    moc_result result = moc_proved_map_apply(&client->proved.client, line, length);
+    client->has_replies |= result.code == MOC_OK;
+    return result;
+}
+
+/* Copies the replies to the last line of a handle. Its client may have replies to lines of an earlier handle. */
+static moc_result replies_of(struct handle *client, moc_text *text)
+{
+    uint8_t buffer[1024];
+    if (!client->has_replies)
+        return new_text(text, 0);
+    moc_result result = moc_proved_map_answer(&client->proved.client, buffer, sizeof buffer);
+    if (result.code && result.code != MOC_BUFFER_TOO_SHORT)
+        return result;
+    bool is_short = result.code == MOC_OK;
+    result = new_text(text, result.first);
+    if (result.code)
+        return result;
+    if (!is_short)
+        return moc_proved_map_answer(&client->proved.client, (uint8_t *)text->bytes, text->length);
+    memcpy(text->bytes, buffer, text->length);
+    return result;
+}
+
+static moc_result execute_line(struct handle *client, const uint8_t *line, size_t length, moc_text *text)
+{
+    moc_result result = apply_line(client, line, length);
+    return result.code ? result : replies_of(client, text);
+}
+
+static moc_result set_timeout(struct handle *client, uint32_t milliseconds)
+{
+    client->timeout = milliseconds;
+    return failure(MOC_OK, 0);
+}
+
+/* ---- Waiting */
+
+/* The failed tries of a call, its timeout, and when the last try begins. */
+struct wait {
+    uint32_t tries, timeout;
+    struct timespec end;
+};
+
+/* Notes the timeout of a client when its call tries first. To set another one does not change a call that waits. */
+static void note_timeout(struct wait *wait, const struct handle *client)
+{
+    if (!wait->tries)
+        wait->timeout = client->timeout;
+}
+
+/* After this many tries a call sleeps, and after this many it sleeps longer. The pauses are in nanoseconds. */
+enum { YIELDING_TRIES = 4, SHORT_TRIES = 64, SHORT_PAUSE = 20000, LONG_PAUSE = 250000 };
+
+static bool is_before(const struct timespec *a, const struct timespec *b)
+{
+    return a->tv_sec < b->tv_sec || (a->tv_sec == b->tv_sec && a->tv_nsec < b->tv_nsec);
+}
+
+/* Pauses after a call that found a part held, and returns true; or returns false if the timeout has passed. At first other threads run;
+   later the thread sleeps. */
+static bool pause_for_retry(struct wait *wait)
+{
+    struct timespec now;
+    if (!wait->timeout)
+        return false;
+    if (wait->timeout != MOC_NO_TIMEOUT) {
+        clock_gettime(CLOCK_MONOTONIC, &now);
+        if (!wait->tries) {
+            wait->end = now;
+            wait->end.tv_sec += wait->timeout / 1000;
+            wait->end.tv_nsec += wait->timeout % 1000 * 1000000L;
+            if (wait->end.tv_nsec >= 1000000000L) {
+                wait->end.tv_nsec -= 1000000000L;
+                wait->end.tv_sec++;
+            }
+        } else if (!is_before(&now, &wait->end)) {
+            return false;
+        }
+    }
+    if (wait->tries < UINT32_MAX)
+        wait->tries++;
+    if (wait->tries <= YIELDING_TRIES)
+        sched_yield();
+    else
+        nanosleep(&(struct timespec){0, wait->tries <= SHORT_TRIES ? SHORT_PAUSE : LONG_PAUSE}, NULL);
+    return true;
+}
