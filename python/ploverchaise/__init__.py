@@ -12,9 +12,9 @@ The proofs are about the library. These modules, which call it, are tested.
 from .cells import get_all_neighbours, neighbours, nest2ring, nest2uniq, nside2order, order2nside, pix2xyf, ring2nest, uniq2nest
 from .errors import MocError
 from .moc import MOC
-from .shared import Client, SharedMap
+from .shared import MapClient, SharedMap
 
 __all__ = [
-    "Client", "MOC", "MocError", "SharedMap", "get_all_neighbours", "neighbours", "nest2ring", "nest2uniq", "nside2order", "order2nside",
+    "MOC", "MapClient", "MocError", "SharedMap", "get_all_neighbours", "neighbours", "nest2ring", "nest2uniq", "nside2order", "order2nside",
     "pix2xyf", "ring2nest", "uniq2nest",
 ]

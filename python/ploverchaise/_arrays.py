@@ -6,6 +6,7 @@ from __future__ import annotations
 
 import operator
 from array import array
+from bisect import bisect_right
 from typing import TYPE_CHECKING, Iterable, Union
 
 if TYPE_CHECKING:
@@ -111,6 +112,26 @@ class PlainArray(Array):
         """Returns the elements at these positions."""
         return PlainArray(array("Q", [self.numbers[position] for position in positions]))
 
+    def value_at(self, position: int) -> str:
+        """Returns the text of an element. The value of an int outside 0 to 2^64 - 1 is not known."""
+        number = self.numbers[position]
+        return "a number outside 0 to 2^64 - 1" if number == INVALID_NUMBER else str(number)
+
+    def flags_of_cells(self, bounds: array, order: int, is_whole: bool):
+        """Returns for each element, a cell of an order, whether the ranges with these bounds contain all or any of its pixels."""
+        starts, ends = bounds[::2], bounds[1::2]
+        shift, count = 2 * (29 - order), 12 * 4**order
+
+        def flag(cell: int) -> bool:
+            first, end = cell << shift, (cell + 1) << shift
+            index = bisect_right(ends, first)
+            if cell >= count or index == len(starts):
+                return False
+            return starts[index] <= first and end <= ends[index] if is_whole else starts[index] < end
+
+        flags = [flag(cell) for cell in self.numbers]
+        return flags[0] if self.is_scalar else flags
+
     def is_worth_sorting(self) -> bool:
         """Returns False: the elements of a list are looked up in the given order."""
         return False
@@ -154,9 +175,11 @@ class NumpyArray(Array):
     def of(cls, numbers) -> NumpyArray:
         """Returns the elements of an array-like object of any shape. Copies them only if the dtype or the layout of the memory requires it.
 
-        Raises TypeError if the dtype is not an integer type. An array without elements may have any dtype."""
+        Raises TypeError if the dtype is not an integer type, or if an entry is masked. An array without elements may have any dtype."""
         import numpy
 
+        if numpy.ma.is_masked(numbers):
+            raise TypeError("the array has masked entries: pass array.compressed(), or array.filled(-1)")
         elements = numpy.asarray(numbers)
         if elements.dtype.kind not in "iu" and elements.size:
             raise TypeError(f"expected an array of integers, not of {elements.dtype}")
@@ -192,6 +215,31 @@ class NumpyArray(Array):
     def take(self, positions) -> NumpyArray:
         """Returns the elements at these positions, as an array with one axis."""
         return NumpyArray(self.numbers[positions], (len(positions),))
+
+    def value_at(self, position: int) -> str:
+        """Returns the text of an element. A negative number was passed with its bits."""
+        number = int(self.numbers[position])
+        return str(number - 2**64 if number >= 2**63 else number)
+
+    def flags_of_cells(self, bounds: array, order: int, is_whole: bool):
+        """Returns for each element, a cell of an order, whether the ranges with these bounds contain all or any of its pixels."""
+        import numpy
+
+        starts, ends = numpy.asarray(bounds[::2]), numpy.asarray(bounds[1::2])
+        is_cell = self.numbers < numpy.uint64(12 * 4**order)
+        shift = numpy.uint64(2 * (29 - order))
+        first = numpy.where(is_cell, self.numbers, numpy.uint64(0)) << shift
+        end = first + (numpy.uint64(1) << shift)
+        index = numpy.searchsorted(ends, first, "right")
+        is_cell &= index < len(starts)
+        index = numpy.where(is_cell, index, 0)
+        if not len(starts):
+            flags = is_cell
+        elif is_whole:
+            flags = is_cell & (starts[index] <= first) & (end <= ends[index])
+        else:
+            flags = is_cell & (starts[index] < end)
+        return flags.reshape(self.shape)[()]
 
     def is_worth_sorting(self) -> bool:
         """Returns whether the array has more than 1,000 elements and is not ascending."""
@@ -231,18 +279,36 @@ class NumpyArray(Array):
         return numpy.moveaxis(self.rows(), -1, 0)
 
 
+def _check_not_lazy(numbers) -> None:
+    """Raises TypeError for an array whose elements are not computed yet, as those of Dask."""
+    if hasattr(numbers, "__dask_graph__"):
+        raise TypeError("the array is not computed yet: call compute() first, or map the call over its blocks")
+
+
 def as_array(numbers: Numbers) -> PlainArray | NumpyArray:
     """Returns the array of an argument: a `NumpyArray` if it implements NumPy's array interface, and a `PlainArray` otherwise.
 
-    Raises TypeError if a number is not an integer."""
+    Raises TypeError if a number is not an integer, if an entry is masked, or if the array is lazy."""
+    _check_not_lazy(numbers)
     return (NumpyArray if hasattr(numbers, "__array__") else PlainArray).of(numbers)
+
+
+def without_masked(numbers):
+    """Returns an argument without its masked entries. Of an array of pairs, a pair is removed if one of its numbers is masked."""
+    if not hasattr(numbers, "mask") or not hasattr(numbers, "compressed"):
+        return numbers
+    import numpy
+
+    return numpy.ma.compress_rows(numbers) if numbers.ndim == 2 else numbers.compressed()
 
 
 def as_pairs(pairs) -> PlainArray | NumpyArray:
     """Returns an array with a row of two elements for each pair of an argument.
 
     Raises ValueError if a NumPy array has another shape than (n, 2) and is not empty, or if an item has not two elements. Raises TypeError
-    if an item is not iterable, or if a number is not an integer."""
+    if an item is not iterable, or if a number is not an integer. A pair with a masked number is left out."""
+    _check_not_lazy(pairs)
+    pairs = without_masked(pairs)
     if hasattr(pairs, "__array__"):
         numbers = NumpyArray.of(pairs)
         if len(numbers) and numbers.shape[1:] != (2,):

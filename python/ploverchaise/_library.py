@@ -1,22 +1,22 @@
 """Loads the library with ctypes, and calls its functions.
 
-One store has all coverages of the process, because both operands of a set operation must be in the same store. A lock protects the store,
-which may be in one call at a time. During a call, ctypes lets other threads of Python run. They may also call functions that need no store.
+Each coverage has a store of its own. The library has a lock for each store and each client, and no Python code runs while a lock is held.
+A call that may take long uses a copy of the coverage in a temporary store, so that no other call waits for it. A copy shares the ranges of
+the coverage. During a call, ctypes lets other threads of Python run.
 
-A finalizer of a coverage only queues its id, so that it neither waits for the lock nor loses an exception of a signal handler. The next call
-with the store frees the queued ids.
+The library closes handles and frees texts without Python code. So an exception that a signal handler raises is never lost in a finalizer.
 """
 from __future__ import annotations
 
 import ctypes
 import os
-import threading
-from collections import deque
+from collections.abc import Callable, Iterator
 from ctypes import c_bool
+from typing import Any
 
 from ._arrays import Array
-from ._codes import BUFFER_TOO_SHORT, KINDS
-from ._signatures import CLIENT, CLIENT_CALLS, ID_CALLS, NUMBER_CALLS, STORE, STORE_CALLS, ClientHandle, Result, StoreHandle
+from ._codes import KINDS
+from ._signatures import CLIENT, CLIENT_CALLS, ID_CALLS, NUMBER_CALLS, STORE, STORE_CALLS, TEXT, ClientHandle, Result, StoreHandle, Text
 from .errors import MEMORY, MocError
 
 NO_ORDER = 255
@@ -35,7 +35,7 @@ def _library_path() -> str:
     return chosen or default
 
 
-def declare_function(library, name, result, *arguments):
+def declare_function(library: ctypes.CDLL, name: str, result: Any, *arguments: Any) -> Callable[..., Any]:
     """Returns the function `moc_NAME` of a library, with the type of its result and the types of its arguments."""
     function = getattr(library, f"moc_{name}")
     function.argtypes, function.restype = arguments, result
@@ -43,28 +43,18 @@ def declare_function(library, name, result, *arguments):
 
 
 library = ctypes.CDLL(_library_path())
-_store_functions = {name: declare_function(library, name, Result, STORE, *types) for name, types in STORE_CALLS.items()}
-_client_functions = {name: declare_function(library, name, Result, CLIENT, *types) for name, types in CLIENT_CALLS.items()}
-_number_functions = {name: declare_function(library, name, Result, *types) for name, types in NUMBER_CALLS.items()}
+store_functions = {name: declare_function(library, name, Result, STORE, *types) for name, types in STORE_CALLS.items()}
+client_functions = {name: declare_function(library, name, Result, CLIENT, *types) for name, types in CLIENT_CALLS.items()}
+number_functions = {name: declare_function(library, name, Result, *types) for name, types in NUMBER_CALLS.items()}
+_store_open = declare_function(library, "store_open", c_bool, STORE)
 _client_open = declare_function(library, "client_open", c_bool, CLIENT)
-_client_close = declare_function(library, "client_close", None, CLIENT)
 
-_store = StoreHandle()
-_store_pointer = ctypes.byref(_store)
-if not declare_function(library, "store_open", c_bool, STORE)(_store_pointer):
-    raise MemoryError
-
-# The lock is reentrant, because a finalizer or a signal handler may run in the thread that holds it, and call the store. It does not run
-# during a call of the library.
-_lock = threading.RLock()
-# The process forks only while no other thread calls the store.
-os.register_at_fork(before=_lock.acquire, after_in_parent=_lock.release, after_in_child=_lock.release)
-# The ids of deleted coverages, which the next call with the store frees.
-deleted_ids: deque[int] = deque()
-# The length of the buffer for a text before its length is known.
-_TEXT_LENGTH = 256
-# The number of texts that the process has requested. The store keeps the last text.
-_text_count = 0
+# Python calls a method of this type with the object, and runs no Python code for it.
+_method = ctypes.pythonapi.PyInstanceMethod_New
+_method.argtypes, _method.restype = [ctypes.py_object], ctypes.py_object
+setattr(StoreHandle, "__del__", _method(declare_function(library, "store_close", None, STORE)))
+setattr(ClientHandle, "__del__", _method(declare_function(library, "client_close", None, CLIENT)))
+setattr(Text, "__del__", _method(declare_function(library, "text_free", None, TEXT)))
 
 
 def check_result(result: Result, name: str = "") -> Result:
@@ -79,18 +69,18 @@ def check_result(result: Result, name: str = "") -> Result:
     MocError
         For any other error.
     """
+    if not result.code:
+        return result
     if result.code == MEMORY:
         raise MemoryError("no memory is left for a coverage")
-    if result.code and name in ID_CALLS:
+    if name in ID_CALLS:
         if len(KINDS[result.code].place) > 1:
             raise MocError(result.code, result.second & 0xFFFFFFFF, result.second >> 32)
         raise MocError(result.code, result.second, 0)
-    if result.code:
-        raise MocError(result.code, result.first, result.second)
-    return result
+    raise MocError(result.code, result.first, result.second)
 
 
-def _c_arguments(arguments):
+def c_arguments(*arguments: Any) -> Iterator[Any]:
     """Returns an iterator over arguments for C: arrays and bytes become an address and a length. The caller keeps their memory alive."""
     for argument in arguments:
         if isinstance(argument, Array):
@@ -101,77 +91,39 @@ def _c_arguments(arguments):
             yield argument
 
 
-def _free_deleted() -> None:
-    """Frees the coverages of the queue. The caller has the lock. An id is removed after its coverage is freed, so that an exception of a
-    signal handler loses none. To free an id again has no effect."""
-    free = _store_functions["free"]
-    while deleted_ids:
-        free(_store_pointer, deleted_ids[0])
-        deleted_ids.popleft()
-
-
-def call_with_store(name: str, *arguments) -> Result:
-    """Calls `moc_NAME` with the store, and returns its result. Raises as `check_result`."""
-    function, converted = _store_functions[name], tuple(_c_arguments(arguments))
-    with _lock:
-        _free_deleted()
-        result = function(_store_pointer, *converted)
-    return check_result(result, name)
-
-
-def call_without_handle(name: str, *arguments) -> None:
-    """Calls `moc_NAME`, which takes neither the store nor a client handle. Raises as `check_result`."""
-    check_result(_number_functions[name](*_c_arguments(arguments)))
+def open_store() -> StoreHandle:
+    """Returns a new store. Raises MemoryError if an allocation fails."""
+    store = StoreHandle()
+    if not _store_open(store):
+        raise MemoryError("no memory is left for a coverage")
+    return store
 
 
 def open_client() -> ClientHandle:
-    """Returns a new client handle without a map. Raises MemoryError if an allocation fails."""
-    handle = ClientHandle()
-    if not _client_open(ctypes.byref(handle)):
-        raise MemoryError("no memory is left for a handle")
-    return handle
+    """Returns a new client without a map. Raises MemoryError if an allocation fails."""
+    client = ClientHandle()
+    if not _client_open(client):
+        raise MemoryError("no memory is left for a client")
+    return client
 
 
-def _close_client(handle: ClientHandle, close=_client_close, byref=ctypes.byref) -> None:
-    """Closes a client handle. The default arguments exist also at the end of the process, when modules may be deleted."""
-    close(byref(handle))
+def call_with_store(name: str, store: StoreHandle, *arguments: Any) -> Result:
+    """Calls `moc_NAME` with a store and arguments for C, and returns its result. Raises as `check_result`."""
+    return check_result(store_functions[name](store, *arguments), name)
 
 
-ClientHandle.__del__ = _close_client
+def call_with_client(name: str, client: ClientHandle, *arguments: Any) -> Result:
+    """Calls `moc_NAME` with a client, and returns its result. Raises as `check_result`."""
+    return check_result(client_functions[name](client, *c_arguments(*arguments)), name)
 
 
-def call_with_client(name: str, handle: ClientHandle, *arguments) -> Result:
-    """Calls `moc_NAME` with a client handle, and returns its result. The handle must not be in another call. Raises as `check_result`."""
-    converted = (ctypes.byref(it) if isinstance(it, ClientHandle) else it for it in _c_arguments(arguments))
-    return check_result(_client_functions[name](ctypes.byref(handle), *converted))
+def call_without_handle(name: str, *arguments: Any) -> None:
+    """Calls `moc_NAME`, which takes neither a store nor a client. Raises as `check_result`."""
+    check_result(number_functions[name](*c_arguments(*arguments)), name)
 
 
-def call_with_client_and_store(name: str, handle: ClientHandle, *arguments) -> Result:
-    """Calls `moc_NAME` with a client handle and the store, and returns its result. Raises as `check_result`."""
-    function, pointer = _client_functions[name], ctypes.byref(handle)
-    with _lock:
-        _free_deleted()
-        result = function(pointer, _store_pointer, *arguments)
-    return check_result(result, name)
-
-
-def make_text(name: str, *arguments) -> str:
-    """Returns the text that `moc_NAME` makes in the store. Raises as `check_result`.
-
-    The text is made and copied while the lock is held. Both are repeated if the buffer is too short, or if a signal handler has made
-    another text in between."""
-    global _text_count
-    make, copy = _store_functions[name], _store_functions["text"]
-    length = _TEXT_LENGTH
-    while True:
-        buffer = ctypes.create_string_buffer(length)
-        with _lock:
-            _free_deleted()
-            _text_count += 1
-            number = _text_count
-            made = make(_store_pointer, *arguments)
-            copied = copy(_store_pointer, buffer, length)
-            is_own = number == _text_count
-        length = check_result(made).first
-        if is_own and copied.code != BUFFER_TOO_SHORT:
-            return buffer.raw[:check_result(copied).first].decode("utf-8")
+def text_of(call: Callable[..., Result], *arguments: Any) -> str:
+    """Returns the text that a call makes. The call takes the arguments, and then the text that it makes. Raises as `call`."""
+    text = Text()
+    call(*arguments, text)
+    return bytes((ctypes.c_char * text.length).from_address(text.bytes)).decode("utf-8")

@@ -24,8 +24,15 @@ class Result(ctypes.Structure):
     _fields_ = [("code", c_uint32), ("first", c_uint64), ("second", c_uint64)]
 
 
+class Text(ctypes.Structure):
+    """`moc_text`."""
+
+    _fields_ = [("bytes", c_void_p), ("length", c_size_t)]
+
+
 STORE = ctypes.POINTER(StoreHandle)
 CLIENT = ctypes.POINTER(ClientHandle)
+TEXT = ctypes.POINTER(Text)
 
 # The functions of a store, each with the types of its arguments after the store.
 STORE_CALLS: dict[str, tuple[Any, ...]] = {
@@ -43,6 +50,7 @@ STORE_CALLS: dict[str, tuple[Any, ...]] = {
     "symmetric": (c_uint64, c_uint64),
     "complement": (c_uint64,),
     "degrade": (c_uint64, c_uint32),
+    "share": (c_uint64, STORE),
     "free": (c_uint64,),
     "count": (c_uint64,),
     "count_common": (c_uint64, c_uint64),
@@ -57,26 +65,32 @@ STORE_CALLS: dict[str, tuple[Any, ...]] = {
     "ranges": (c_uint64, c_void_p, c_size_t),
     "cells": (c_uint64, c_void_p, c_size_t),
     "cell_count_by_order": (c_uint64, c_void_p, c_size_t),
-    "write_ascii": (c_uint64, c_uint32),
-    "write_json": (c_uint64, c_uint32),
-    "write_uniq": (c_uint64,),
-    "describe": (c_uint64, c_uint32),
-    "draw": (c_uint64,),
-    "text": (c_void_p, c_size_t),
+    "write_ascii": (c_uint64, c_uint32, TEXT),
+    "write_json": (c_uint64, c_uint32, TEXT),
+    "write_uniq": (c_uint64, TEXT),
+    "describe": (c_uint64, c_uint32, TEXT),
+    "draw": (c_uint64, TEXT),
 }
 
 # The functions of a client handle, each with the types of its arguments after the handle.
 CLIENT_CALLS: dict[str, tuple[Any, ...]] = {
     "map_begin": (STORE, c_uint64, c_uint32),
     "map_join": (CLIENT,),
+    "map_busy_timeout": (c_uint32,),
+    "map_execute": (c_void_p, c_size_t, TEXT),
     "map_apply": (c_void_p, c_size_t),
-    "map_answer": (c_void_p, c_size_t),
-    "map_execute": (c_void_p, c_size_t, c_void_p, c_size_t),
+    "map_answer": (TEXT,),
     "map_add": (c_uint32, c_void_p, c_size_t),
     "map_remove": (c_uint32, c_void_p, c_size_t),
     "map_claim": (c_uint32, c_void_p, c_size_t),
     "map_count": (c_uint32, c_void_p, c_size_t),
-    "map_set": (STORE,),
+    "map_contains": (c_uint32, c_void_p, c_size_t),
+    "map_add_coverage": (STORE, c_uint64),
+    "map_remove_coverage": (STORE, c_uint64),
+    "map_claim_coverage": (STORE, c_uint64),
+    "map_count_coverage": (STORE, c_uint64),
+    "map_contains_coverage": (STORE, c_uint64),
+    "map_coverage": (STORE,),
 }
 
 # The functions without a store and a client handle, each with the types of its arguments.
@@ -106,5 +120,6 @@ ID_CALLS = frozenset([
     "symmetric",
     "complement",
     "degrade",
-    "map_set",
+    "share",
+    "map_coverage",
 ])

@@ -3,7 +3,7 @@ from __future__ import annotations
 
 import operator
 
-from ._codes import BUSY, KINDS, MEMORY, NO_SUCH_ORDER
+from ._codes import BUSY, KINDS, MEMORY, NO_SUCH_CELL, NO_SUCH_ORDER, TOO_COARSE
 
 
 class MocError(ValueError):
@@ -23,22 +23,30 @@ class MocError(ValueError):
         - In JSON, it is the position of the name, in byte order of the names, and the position of the item in its array. Both count from 0.
         - In an argument with numbers or ranges, it is the position of the number or range, from 0. An array with several axes is flattened.
         - For `NoSuchOrder` it is the order, and for `Busy` the base pixel and the number of the other client.
+
+    detail : str
+        The value and its bounds, if the package knows them. Empty for most errors.
     """
 
-    def __init__(self, code: int, *numbers: int) -> None:
+    def __init__(self, code: int, *numbers: int, detail: str = "") -> None:
         kind = KINDS[code]
-        self.code, self.name, self.place = code, kind.name, numbers[:len(kind.place)]
+        self.code, self.name, self.place, self.detail = code, kind.name, numbers[:len(kind.place)], detail
         position = ", ".join(f"{word} {number}" for word, number in zip(kind.place, self.place))
-        super().__init__(f"{kind.name}: {kind.meaning}" + (f" ({position})" if position else ""))
+        super().__init__(f"{kind.name}: {kind.meaning}" + (f" ({position})" if position else "") + (f": {detail}" if detail else ""))
         self._numbers = numbers
 
     def __reduce__(self):
-        return MocError, (self.code, *self._numbers)
+        return _error, (self.code, self._numbers, self.detail)
+
+
+def _error(code: int, numbers: tuple[int, ...], detail: str) -> MocError:
+    """Returns an error that was pickled."""
+    return MocError(code, *numbers, detail=detail)
 
 
 def check_order(order: int) -> int:
     """Returns an order as an int. Raises MocError `NoSuchOrder` if it is not 0 to 29, and TypeError if it is not an integer."""
     order = operator.index(order)
     if not 0 <= order <= 29:
-        raise MocError(NO_SUCH_ORDER, order)
+        raise MocError(NO_SUCH_ORDER, order, detail="orders are 0 to 29")
     return order

@@ -3,12 +3,14 @@ from __future__ import annotations
 
 import json
 import operator
+import os
 from array import array
 from typing import TYPE_CHECKING, Iterable
 
-from ._arrays import Array, Numbers, PlainArray, as_array, as_pairs
-from ._library import NO_ORDER, call_with_store, deleted_ids, make_text
-from .errors import MocError, check_order
+from ._arrays import Array, Numbers, PlainArray, as_array, as_pairs, without_masked
+from ._library import NO_ORDER, c_arguments, call_with_store, open_store, store_functions, text_of
+from ._signatures import Result, StoreHandle
+from .errors import NO_SUCH_CELL, TOO_COARSE, MocError, check_order
 
 if TYPE_CHECKING:
     import numpy
@@ -20,6 +22,7 @@ PIXEL_COUNT = 12 * 4**29
 _MIN_RANGES_FOR_SORTING = 2000
 # The functions of the library that parse a text, by the name of its format.
 _PARSERS = {"ascii": "read_ascii", "json": "read_json", "uniq": "read_uniq"}
+_free = store_functions["free"]
 
 
 class MOC:
@@ -28,8 +31,7 @@ class MOC:
     `MOC()` is the empty set. Two MOCs are equal if they have the same pixels. A MOC does not keep the MOC order that a text states. A MOC
     is true if it is not empty.
 
-    Any thread may use any MOC. Calls wait for each other, because one store has all MOCs of a process. A call raises MemoryError if an
-    allocation fails.
+    Any thread may use any MOC. Threads run side by side while the library computes. A call raises MemoryError if an allocation fails.
 
     A MOC is stored as sorted ranges of pixels. If its description does not state otherwise, a method takes time that is linear in the
     number of ranges of its operands. A set operation with several MOCs combines them one after the other.
@@ -43,30 +45,41 @@ class MOC:
     [True, False]
     """
 
-    __slots__ = ("_id", "__weakref__")
+    __slots__ = ("_store", "_id", "_hash", "__weakref__")
+    # The store that has only this coverage, and the id of the coverage in it.
+    _store: StoreHandle
     _id: int
+    # The hash, after the first time that it is needed.
+    _hash: int
 
     def __init__(self) -> None:
-        self._id = call_with_store("empty").first
-
-    def __del__(self, queue=deleted_ids.append) -> None:
-        try:
-            coverage_id = self._id
-        except AttributeError:
-            # The store did not return an id.
-            return
-        queue(coverage_id)
+        self._store = open_store()
+        self._id = call_with_store("empty", self._store).first
 
     @classmethod
     def _from_call(cls, function: str, *arguments) -> MOC:
-        """Returns the coverage that a function of the library stores."""
-        return cls._from_id(call_with_store(function, *arguments).first)
+        """Returns the coverage that a function of the library makes."""
+        store = open_store()
+        return cls._in_store(store, call_with_store(function, store, *c_arguments(*arguments)).first)
 
     @classmethod
-    def _from_id(cls, coverage_id: int) -> MOC:
-        """Returns the coverage with an id that the store just returned. The MOC frees it."""
+    def _in_store(cls, store: StoreHandle, coverage_id: int) -> MOC:
+        """Returns the only coverage of a store."""
         moc = cls.__new__(cls)
-        moc._id = coverage_id
+        moc._store, moc._id = store, coverage_id
+        return moc
+
+    def _copy_to(self, store: StoreHandle) -> int:
+        """Copies the coverage to a store, and returns its id there. Takes O(n / 128) for n ranges."""
+        return call_with_store("share", self._store, self._id, store).first
+
+    def _make(self, function: str, *others: MOC, order: tuple[int, ...] = ()) -> MOC:
+        """Returns the coverage that a function makes of this MOC, other MOCs, and an order."""
+        store = open_store()
+        ids = [moc._copy_to(store) for moc in (self, *others)]
+        moc = type(self)._in_store(store, call_with_store(function, store, *ids, *order).first)
+        for copied in ids:
+            _free(store, copied)
         return moc
 
     # Constructors
@@ -120,7 +133,32 @@ class MOC:
         """
         if format not in _PARSERS:
             raise ValueError(f"format must be one of {', '.join(_PARSERS)}, not {format}")
+        if isinstance(value, os.PathLike):
+            raise TypeError("expected a text, not a path: use MOC.load for a file")
         return cls._from_call(_PARSERS[format], value.encode() if isinstance(value, str) else bytes(memoryview(value)))
+
+    @classmethod
+    def load(cls, path: str | os.PathLike[str], format: str = "ascii") -> MOC:
+        """Parses a file, as `from_string` parses a text.
+
+        Parameters
+        ----------
+        path : str or path-like
+            The path of the file.
+        format : {"ascii", "json", "uniq"}
+            The format of `from_string`. FITS files can be read with mocpy.
+
+        Raises
+        ------
+        OSError
+            If the file cannot be read.
+        MocError
+            As in `from_string`.
+        ValueError
+            If the format is unknown.
+        """
+        with open(path, "rb") as file:
+            return cls.from_string(file.read(), format)
 
     @classmethod
     def from_json(cls, json_moc: dict[str, list[int]] | str | bytes) -> MOC:
@@ -129,14 +167,16 @@ class MOC:
         Parameters
         ----------
         json_moc : dict, str or bytes
-            A text, or a dict with a list of nested numbers for each order. The orders are its keys, as str.
+            A text, or a dict with a list or an array of nested numbers for each order. The orders are its keys, as str or int.
 
         Raises
         ------
         MocError
             As in `from_string`.
         """
-        return cls.from_string(json.dumps(json_moc) if isinstance(json_moc, dict) else json_moc, "json")
+        if isinstance(json_moc, dict):
+            json_moc = json.dumps({str(order): [operator.index(cell) for cell in cells] for order, cells in json_moc.items()})
+        return cls.from_string(json_moc, "json")
 
     @classmethod
     def from_ranges(cls, ranges: Iterable[tuple[int, int]] | numpy.ndarray) -> MOC:
@@ -188,7 +228,7 @@ class MOC:
         Parameters
         ----------
         ipix : int, iterable of int, or array-like of integers
-            The nested numbers of the cells, in any order.
+            The nested numbers of the cells, in any order. Masked entries are left out.
         depth : int, iterable of int, or array-like of integers
             The order of all cells, or the order of each cell.
         max_depth : int
@@ -206,8 +246,19 @@ class MOC:
         if hasattr(depth, "__iter__"):
             moc = cls._from_cells_of_orders(as_array(ipix), as_array(depth))
         else:
-            moc = cls._from_call("from_cells", check_order(depth), as_array(ipix))
+            moc = cls._from_cells(check_order(depth), as_array(without_masked(ipix)))
         return moc if max_depth == 29 else moc.degrade_to_order(max_depth)
+
+    @classmethod
+    def _from_cells(cls, order: int, cells: Array) -> MOC:
+        """Returns the set of the pixels in any of the cells of an order. An error has the number that is not a cell."""
+        try:
+            return cls._from_call("from_cells", order, cells)
+        except MocError as error:
+            if error.code != NO_SUCH_CELL:
+                raise
+            number, place = cells.value_at(error.place[0]), error.place
+        raise MocError(NO_SUCH_CELL, *place, detail=f"{number} is not a cell of order {order}, which are 0 to {12 * 4**order - 1}")
 
     @classmethod
     def _from_cells_of_orders(cls, cells: Array, orders: Array) -> MOC:
@@ -218,9 +269,9 @@ class MOC:
         for order in map(check_order, sorted(set(orders.numbers.tolist()))):
             positions = orders.positions_of(order)
             try:
-                moc |= cls._from_call("from_cells", order, cells.take(positions))
+                moc |= cls._from_cells(order, cells.take(positions))
             except MocError as error:
-                raise MocError(error.code, *(int(positions[index]) for index in error.place)) from None
+                raise MocError(error.code, *(int(positions[index]) for index in error.place), detail=error.detail) from None
         return moc
 
     @classmethod
@@ -230,14 +281,36 @@ class MOC:
         Parameters
         ----------
         uniq : int, iterable of int, or array-like of integers
-            The NUNIQ numbers of the cells, in any order.
+            The NUNIQ numbers of the cells, in any order. Masked entries are left out.
 
         Raises
         ------
         MocError
             `NotUniq` with the position of the first number that is not a NUNIQ number.
         """
-        return cls._from_call("from_uniqs", as_array(uniq))
+        return cls._from_call("from_uniqs", as_array(without_masked(uniq)))
+
+    @classmethod
+    def union_all(cls, mocs: Iterable[MOC]) -> MOC:
+        """Returns the pixels that are in any of the MOCs, which are united in pairs.
+
+        Takes O(n log m) for m MOCs with n ranges together, which is less than `union` takes for many MOCs.
+
+        Parameters
+        ----------
+        mocs : iterable of MOC
+            The MOCs. Without any, the result is the empty set.
+
+        Raises
+        ------
+        TypeError
+            If an item is not a MOC.
+        """
+        level = [cls(), *mocs]
+        while len(level) > 1:
+            pairs = zip(level[::2], level[1::2])
+            level = [first.union(second) for first, second in pairs] + level[len(level) // 2 * 2:]
+        return level[0]
 
     # Set operations
 
@@ -247,7 +320,7 @@ class MOC:
         for other in others:
             if not isinstance(other, MOC):
                 raise TypeError(f"expected a MOC, not {type(other).__name__}")
-            moc = MOC._from_call(operation, moc._id, other._id)
+            moc = moc._make(operation, other)
         return moc
 
     def union(self, *others: MOC) -> MOC:
@@ -292,7 +365,7 @@ class MOC:
 
     def complement(self) -> MOC:
         """Returns the pixels of the sky that are not in this MOC."""
-        return MOC._from_call("complement", self._id)
+        return self._make("complement")
 
     def degrade_to_order(self, new_order: int) -> MOC:
         """Returns all pixels of each cell of an order that has a pixel in this MOC.
@@ -307,7 +380,31 @@ class MOC:
         MocError
             `NoSuchOrder` if the order is not 0 to 29.
         """
-        return MOC._from_call("degrade", self._id, check_order(new_order))
+        return self._make("degrade", order=(check_order(new_order),))
+
+    def issubset(self, other: MOC) -> bool:
+        """Returns whether every pixel of this MOC is in another one. Raises TypeError if the other is not a MOC."""
+        return bool(self._query_pair("covers", other, is_reversed=True))
+
+    def issuperset(self, other: MOC) -> bool:
+        """Returns whether every pixel of another MOC is in this one. Raises TypeError if the other is not a MOC."""
+        return self.covers(other)
+
+    def isdisjoint(self, other: MOC) -> bool:
+        """Returns whether two MOCs have no pixel in common. Raises TypeError if the other is not a MOC."""
+        return not self.meets(other)
+
+    def __le__(self, other: MOC) -> bool:
+        return self.issubset(other) if isinstance(other, MOC) else NotImplemented
+
+    def __lt__(self, other: MOC) -> bool:
+        return self.issubset(other) and self != other if isinstance(other, MOC) else NotImplemented
+
+    def __ge__(self, other: MOC) -> bool:
+        return self.covers(other) if isinstance(other, MOC) else NotImplemented
+
+    def __gt__(self, other: MOC) -> bool:
+        return self.covers(other) and self != other if isinstance(other, MOC) else NotImplemented
 
     def __or__(self, other: MOC) -> MOC:
         return self.union(other) if isinstance(other, MOC) else NotImplemented
@@ -327,14 +424,23 @@ class MOC:
     # Queries
 
     def _query(self, function: str, *arguments) -> int:
-        """Returns the value that a function of the library returns for this MOC."""
-        return call_with_store(function, self._id, *arguments).first
+        """Returns the value that a function returns for this MOC. The function takes O(log n) for n ranges."""
+        return call_with_store(function, self._store, self._id, *arguments).first
 
-    def _query_pair(self, function: str, other: MOC) -> int:
-        """Returns the value that a function of the library returns for two MOCs. Raises TypeError if the other one is not a MOC."""
+    def _long_query(self, function: str, *arguments) -> Result:
+        """Returns the result of a function for this MOC. The function uses a copy of the MOC, so that no other call waits for it."""
+        store = open_store()
+        return call_with_store(function, store, self._copy_to(store), *c_arguments(*arguments))
+
+    def _query_pair(self, function: str, other: MOC, is_reversed: bool = False) -> int:
+        """Returns the value that a function returns for two MOCs, or for the other one and then this one.
+
+        Raises TypeError if the other one is not a MOC."""
         if not isinstance(other, MOC):
             raise TypeError(f"expected a MOC, not {type(other).__name__}")
-        return self._query(function, other._id)
+        store = open_store()
+        first, second = (other, self) if is_reversed else (self, other)
+        return call_with_store(function, store, first._copy_to(store), second._copy_to(store)).first
 
     def count(self) -> int:
         """Returns the number of pixels."""
@@ -357,7 +463,7 @@ class MOC:
     def cell_count_by_order(self) -> list[int]:
         """Returns the number of cells of each order, from order 0 to order 29. The cells are those that `cells` returns."""
         counts = PlainArray(array("Q", bytes(8 * 30)))
-        call_with_store("cell_count_by_order", self._id, counts)
+        self._long_query("cell_count_by_order", counts)
         return counts.numbers.tolist()
 
     @property
@@ -368,7 +474,7 @@ class MOC:
     @property
     def max_order(self) -> int:
         """The least order at which the set is a union of cells, or 0 for the empty set. In mocpy, it is the order that was stated."""
-        return self._query("deepest_order")
+        return self._long_query("deepest_order").first
 
     def empty(self) -> bool:
         """Returns whether the MOC has no pixels."""
@@ -394,36 +500,52 @@ class MOC:
         """
         return bool(self._query_pair("covers", other))
 
-    def contains(self, pixels: Numbers):
-        """Returns for each pixel whether the MOC contains it. Takes O(log n) for each pixel and n ranges, and less if pixels are ascending.
+    def contains(self, cells: Numbers, depth: int = 29):
+        """Returns for each cell whether the MOC contains all its pixels. By default the cells are pixels, which are cells of order 29.
 
-        A large array that is not ascending is sorted in pieces before it is looked up, if the MOC has many ranges.
+        Takes O(log n) for each cell and n ranges, and less for pixels that are ascending. A large array of pixels that is not ascending is
+        sorted in pieces before it is looked up, if the MOC has many ranges. For other orders, one pass over the ranges is added.
 
         Parameters
         ----------
-        pixels : int, iterable of int, or array-like of integers
-            The pixels of order 29, by their nested numbers. No MOC contains a number that is not a pixel.
+        cells : int, iterable of int, or array-like of integers
+            The cells, by their nested numbers. No MOC contains a number that is not a cell of the order.
+        depth : int
+            The order of the cells, 0 to 29.
 
         Returns
         -------
         bool, list of bool, or ndarray of bool
-            The results, in the shape of `pixels`.
+            The results, in the shape of `cells`.
 
         Raises
         ------
+        MocError
+            `NoSuchOrder` if the order is not 0 to 29.
         TypeError
-            If a number is not an integer.
+            If a number is not an integer, or if an entry is masked.
         """
-        numbers = as_array(pixels)
+        if type(cells) is int and depth == 29:
+            return cells in self
+        if check_order(depth) == 29:
+            return self._contains_pixels(as_array(cells))
+        return as_array(cells).flags_of_cells(self._bounds(), depth, is_whole=True)
+
+    def intersects_cells(self, cells: Numbers, depth: int):
+        """Returns for each cell whether the MOC contains any of its pixels. Parameters, results and errors are those of `contains`."""
+        return as_array(cells).flags_of_cells(self._bounds(), check_order(depth), is_whole=False)
+
+    def _contains_pixels(self, numbers: Array):
+        """Returns for each pixel whether the MOC contains it."""
         flags = numbers.new_output("B")
         if self.range_count() > _MIN_RANGES_FOR_SORTING and numbers.is_worth_sorting():
             for positions in numbers.sorted_chunks():
                 chunk = numbers.take(positions)
                 chunk_flags = chunk.new_output("B")
-                call_with_store("contains_all", self._id, chunk, chunk_flags)
+                self._long_query("contains_all", chunk, chunk_flags)
                 flags.put(positions, chunk_flags)
         else:
-            call_with_store("contains_all", self._id, numbers, flags)
+            self._long_query("contains_all", numbers, flags)
         return flags.booleans()
 
     def __contains__(self, what: int | MOC) -> bool:
@@ -437,7 +559,25 @@ class MOC:
         return bool(self._query_pair("same", other)) if isinstance(other, MOC) else NotImplemented
 
     def __hash__(self) -> int:
-        return hash(self._bounds().tobytes())
+        try:
+            return self._hash
+        except AttributeError:
+            self._hash = hash(self._bounds().tobytes())
+            return self._hash
+
+    def __copy__(self) -> MOC:
+        return self
+
+    def __deepcopy__(self, memo: object) -> MOC:
+        return self
+
+    def __sizeof__(self) -> int:
+        """Returns the size of the object and of its ranges in bytes. Other MOCs may share the ranges."""
+        return 1024 + 16 * self.range_count()
+
+    def __dask_tokenize__(self) -> tuple[str, bytes]:
+        """Returns the value by which Dask recognizes equal MOCs."""
+        return "ploverchaise.MOC", self._bounds().tobytes()
 
     def __bool__(self) -> bool:
         return not self.empty()
@@ -448,7 +588,7 @@ class MOC:
         """Returns the first pixel of each range and the number after its last pixel, ascending."""
         bounds = PlainArray(array("Q", bytes(16 * self.range_count())))
         bounds.width = 2
-        call_with_store("ranges", self._id, bounds)
+        self._long_query("ranges", bounds)
         return bounds.numbers
 
     def _uniqs(self) -> array[int]:
@@ -457,7 +597,7 @@ class MOC:
         while True:
             uniqs = PlainArray(array("Q", bytes(8 * size)))
             try:
-                count = call_with_store("cells", self._id, uniqs).first
+                count = self._long_query("cells", uniqs).first
             except MocError as error:
                 if error.name != "BufferTooShort":
                     raise
@@ -480,19 +620,46 @@ class MOC:
 
     @property
     def to_depth29_ranges(self) -> numpy.ndarray:
-        """The ranges that `ranges` returns, as an array of uint64 with the shape (n, 2). Raises ImportError if NumPy is not installed."""
+        """The ranges that `ranges` returns, as an array of int64 with the shape (n, 2). Raises ImportError if NumPy is not installed."""
         import numpy
 
-        return numpy.asarray(self._bounds()).reshape(-1, 2)
+        return numpy.asarray(self._bounds()).view("int64").reshape(-1, 2)
 
     @property
     def uniq_hpx(self) -> numpy.ndarray:
-        """The NUNIQ numbers of the cells that `cells` returns, as an ascending array of uint64.
+        """The NUNIQ numbers of the cells that `cells` returns, as an ascending array of int64.
 
         Raises ImportError if NumPy is not installed."""
         import numpy
 
-        return numpy.asarray(self._uniqs())
+        return numpy.asarray(self._uniqs()).view("int64")
+
+    def flatten(self, order: int | None = None) -> numpy.ndarray:
+        """Returns the cells of one order that make up the MOC, as an ascending array of int64 with their nested numbers.
+
+        Linear in the number of cells, which can be large: a base pixel has 4^order cells.
+
+        Parameters
+        ----------
+        order : int, optional
+            The order of the cells. By default it is `max_order`, the least order that suffices.
+
+        Raises
+        ------
+        MocError
+            `NoSuchOrder` if the order is not 0 to 29; `TooCoarse` if the MOC is not a union of cells of the order.
+        ImportError
+            If NumPy is not installed.
+        """
+        import numpy
+
+        chosen = self.max_order if order is None else check_order(order)
+        if chosen < self.max_order:
+            raise MocError(TOO_COARSE)
+        bounds = numpy.asarray(self._bounds()).view("int64") >> 2 * (29 - chosen)
+        starts, lengths = bounds[::2], bounds[1::2] - bounds[::2]
+        positions = numpy.arange(lengths.sum()) - numpy.repeat(lengths.cumsum() - lengths, lengths)
+        return numpy.repeat(starts, lengths) + positions
 
     # Texts and pictures
 
@@ -517,12 +684,37 @@ class MOC:
             If the format is unknown.
         """
         if format == "uniq":
-            text = make_text("write_uniq", self._id)
+            text = text_of(self._long_query, "write_uniq")
         elif format in _PARSERS:
-            text = make_text(f"write_{format}", self._id, NO_ORDER if max_order is None else check_order(max_order))
+            text = text_of(self._long_query, f"write_{format}", NO_ORDER if max_order is None else check_order(max_order))
         else:
             raise ValueError(f"format must be one of {', '.join(_PARSERS)}, not {format}")
         return text.removesuffix("\n")
+
+    def save(self, path: str | os.PathLike[str], format: str = "ascii", *, max_order: int | None = None, overwrite: bool = False) -> None:
+        """Writes the text of `to_string` to a file, with a line feed at the end.
+
+        Parameters
+        ----------
+        path : str or path-like
+            The path of the file.
+        format, max_order
+            The parameters of `to_string`.
+        overwrite : bool
+            Whether to replace a file that exists.
+
+        Raises
+        ------
+        FileExistsError
+            If the file exists and `overwrite` is false.
+        OSError
+            If the file cannot be written.
+        MocError, ValueError
+            As in `to_string`; the file is then unchanged.
+        """
+        text = self.to_string(format, max_order=max_order)
+        with open(path, "w" if overwrite else "x", encoding="ascii") as file:
+            file.write(text + "\n" if text else "")
 
     def serialize(self, format: str = "json") -> dict[str, list[int]] | str:
         """Returns the MOC as a dict or as an ASCII text.
@@ -547,13 +739,13 @@ class MOC:
 
         These lines are followed by the number of cells of each order that has any. They are the lines of `moc describe` without the first
         one, which has the MOC order of a text. Takes the time of `to_string`."""
-        return make_text("describe", self._id, NO_ORDER).removesuffix("\n").partition("\n")[2]
+        return text_of(self._long_query, "describe", NO_ORDER).removesuffix("\n").partition("\n")[2]
 
     def draw(self) -> str:
         """Returns a picture in SVG, as `moc draw` writes it: the HEALPix projection with north up and east to the left.
 
         Takes the time of `to_string`, and O(log n) for each cell of order 7 that has a pixel in this MOC of n ranges."""
-        return make_text("draw", self._id)
+        return text_of(self._long_query, "draw")
 
     def _repr_svg_(self) -> str:
         """Returns the picture that a notebook displays."""

@@ -122,12 +122,61 @@ class WithNumpy(TestCase):
         self.assertEqual(moc, MOC.from_healpix_cells(cells.tolist(), 8))
         self.assertEqual(moc, MOC.from_healpix_cells(cells, numpy.full(2000, 8)))
         ranges, uniq = moc.to_depth29_ranges, moc.uniq_hpx
-        self.assertArray(ranges, moc.ranges(), "uint64")
-        self.assertArray(uniq, [4**(order + 1) + cell for order, cell in moc.cells()], "uint64")
+        self.assertArray(ranges, moc.ranges(), "int64")
+        self.assertArray(uniq, [4**(order + 1) + cell for order, cell in moc.cells()], "int64")
         self.assertEqual(MOC.from_depth29_ranges(29, ranges), moc)
         self.assertEqual(MOC.from_uniq(uniq), moc)
         self.assertEqual((MOC().to_depth29_ranges.shape, MOC().uniq_hpx.shape), ((0, 2), (0,)))
         self.assertEqual(MOC.from_ranges(MOC().to_depth29_ranges), MOC())
+
+    def test_masked_entries(self) -> None:
+        cells = numpy.ma.masked_equal([100, 101, 0], 0)
+        self.assertEqual(str(MOC.from_healpix_cells(cells, 9)), "9/100-101")
+        self.assertEqual(MOC.from_uniq(numpy.ma.masked_equal([4, 0, 5], 0)), MOC.from_string("0/0-1"))
+        self.assertEqual(MOC.from_ranges(numpy.ma.masked_equal([[0, 4], [7, 9]], 7)), MOC.from_ranges([(0, 4)]))
+        self.assertEqual(str(MOC.from_healpix_cells(numpy.ma.array([3, 4]), 9)), "9/3-4")
+        with self.assertRaises(TypeError):
+            MOC.full().contains(cells)
+        with self.assertRaises(TypeError):
+            nest2ring(16, cells)
+
+    def test_lazy_arrays(self) -> None:
+        class Lazy:
+            """An array that is not computed yet, as those of Dask."""
+
+            def __dask_graph__(self) -> None:
+                """Is never called."""
+
+        lazy: Any = Lazy()
+        calls: list[Any] = [MOC.full().contains, MOC.from_uniq, MOC.from_ranges]
+        for call in calls:
+            with self.assertRaisesRegex(TypeError, "compute"):
+                call(lazy)
+        with self.assertRaisesRegex(TypeError, "compute"):
+            MOC.from_healpix_cells(lazy, 3)
+
+    def test_cells_of_an_order(self) -> None:
+        for order in (0, 3, 7, 20):
+            moc = MOC.from_string("3/1-30 5/2000-2100 8/70000 29/5")
+            below = 12 * 4**order
+            cells = numpy.array([*range(min(below, 800)), *random_cells(order, 200), -1, below, below - 1])
+            sets = [MOC.from_healpix_cells(cell, order) if 0 <= cell < below else None for cell in cells.tolist()]
+            whole = [cell is not None and moc.covers(cell) for cell in sets]
+            partly = [cell is not None and moc.meets(cell) for cell in sets]
+            self.assertArray(moc.contains(cells, order), whole, "bool")
+            self.assertArray(moc.intersects_cells(cells, order), partly, "bool")
+            self.assertEqual((moc.contains(cells.tolist(), order), moc.intersects_cells(cells.tolist(), order)), (whole, partly))
+        self.assertArray(MOC().contains(numpy.array([0, 1]), 1), [False, False], "bool")
+
+    def test_cells_as_one_array(self) -> None:
+        cells = numpy.unique(random_cells(6, 3000))
+        moc = MOC.from_healpix_cells(cells, 6)
+        self.assertArray(moc.flatten(6), cells, "int64")
+        self.assertArray(moc.flatten(7), (4 * cells[:, None] + numpy.arange(4)).reshape(-1), "int64")
+        self.assertArray(MOC.from_string("1/0-3").flatten(), [0], "int64")
+        self.assertArray(MOC().flatten(), [], "int64")
+        self.assertFault("TooCoarse", (), moc.flatten, 5)
+        self.assertFault("NoSuchOrder", (30,), moc.flatten, 30)
 
     def test_contains_and_search(self) -> None:
         for count in (0, 1, 30, 30_000):

@@ -41,7 +41,7 @@ class Header(TestCase):
 
     def test_functions_are_those_of_the_header(self) -> None:
         store, handle = _signatures.STORE, _signatures.CLIENT
-        handles = {"moc_store": store, "moc_client": handle}
+        handles = {"moc_store": store, "moc_client": handle, "moc_text": _signatures.TEXT}
         types: dict[str, Any] = {**handles, "uint32_t": ctypes.c_uint32, "uint64_t": ctypes.c_uint64, "size_t": ctypes.c_size_t}
         declared = dict(re.findall(r"\bmoc_result moc_(\w+)\(([^;]*)\);", read_header()))
         imported: dict[str, tuple[Any, ...]] = {**{name: (store, *kinds) for name, kinds in _signatures.STORE_CALLS.items()},
@@ -79,10 +79,10 @@ class InvalidArguments(TestCase):
     """Arguments that the package never passes."""
 
     def call(self, name: str, *arguments: Any) -> tuple[int, int, int]:
-        """Calls a function of the library, and returns its result. An error of a call that returns an id has its position as the first
-        number, where the call returns no id."""
-        store = (_library._store_pointer,) if name in _signatures.STORE_CALLS else ()
-        functions = _library._store_functions if store else _library._number_functions
+        """Calls a function of the library with the store of the set, and returns its result. An error of a call that returns an id has its
+        position as the first number, where the call returns no id."""
+        store = (self.moc._store,) if name in _signatures.STORE_CALLS else ()
+        functions = _library.store_functions if store else _library.number_functions
         result = functions[name](*store, *arguments)
         if result.code and name in _signatures.ID_CALLS:
             self.assertEqual(result.first, NO_ID, name)
@@ -99,6 +99,10 @@ class InvalidArguments(TestCase):
                 arguments.append(1)
             elif kind is ctypes.c_uint32:
                 arguments.append(order)
+            elif kind is _signatures.TEXT:
+                arguments.append(_signatures.Text())
+            elif kind is _signatures.STORE:
+                arguments.append(_library.open_store())
             else:
                 arguments.append(self.moc._id if set_id is None else set_id)
         return arguments
@@ -107,12 +111,10 @@ class InvalidArguments(TestCase):
         self.moc = MOC.from_string("1/1-2 4 2/12-14 21 23 25")
 
     def test_identifiers_without_a_set(self) -> None:
-        freed = MOC()
-        stale = freed._id
-        del freed
-        # The next call with the store frees the coverage.
-        MOC()
-        for set_id in (stale, NO_ID):
+        code, stale, _ = self.call("empty")
+        self.assertEqual((code, self.call("free", stale)[0]), (0, 0))
+        # The last two are the id of another store, and 0.
+        for set_id in (stale, NO_ID, MOC()._id, 0):
             for name, types in _signatures.STORE_CALLS.items():
                 if types[:1] == (ctypes.c_uint64,):
                     with self.subTest(name=name, set_id=set_id):
@@ -121,11 +123,10 @@ class InvalidArguments(TestCase):
             self.assertEqual(self.call(name, self.moc._id, NO_ID), (NO_SUCH_SET, NO_ID, 0))
 
     def test_identifiers_are_not_reused(self) -> None:
-        first = MOC()
-        set_id = first._id
-        del first
-        self.assertNotEqual(MOC()._id, set_id)
-        self.assertEqual(self.call("free", set_id), (NO_SUCH_SET, set_id, 0))
+        _, first, _ = self.call("empty")
+        self.assertEqual(self.call("free", first), (0, 0, 0))
+        self.assertEqual(self.call("empty"), (0, first + 1, 0))
+        self.assertEqual(self.call("free", first), (NO_SUCH_SET, first, 0))
 
     def test_invalid_orders(self) -> None:
         for name, types in {**_signatures.STORE_CALLS, **_signatures.NUMBER_CALLS}.items():
@@ -161,20 +162,15 @@ class InvalidArguments(TestCase):
             self.assertEqual(self.call(name, set_id, make_array(*[7] * 64), length), (0, length, 0), name)
         # The set has nine cells in five ranges.
         self.assertEqual([self.call(name, set_id, None, 0)[1] for name in ("cells", "ranges")], [9, 5])
-        code, length, _ = self.call("write_ascii", set_id, _library.NO_ORDER)
-        self.assertEqual((code, length), (0, len("1/1-2 4 2/12-14 21 23 25\n")))
-        self.assertEqual(self.call("text", buffer, length - 1), (BUFFER_TOO_SHORT, length, 0))
-        self.assertEqual(list(buffer), [7] * 64)
-        self.assertEqual(self.call("text", buffer, length), (0, length, 0))
 
     def test_empty_arrays(self) -> None:
         none = make_array()
         for name in CONVERSIONS:
             self.assertEqual(self.call(name, 1, none, 0, none, 0), (0, 0, 0))
         self.assertEqual(self.call("uniq_to_nest", none, 0, none, 0, none, 0), (0, 0, 0))
-        empty = MOC()
+        _, empty, _ = self.call("empty")
         for name in ("ranges", "cells"):
-            self.assertEqual(self.call(name, empty._id, none, 0), (0, 0, 0))
+            self.assertEqual(self.call(name, empty, none, 0), (0, 0, 0))
         self.assertEqual(self.call("contains_all", self.moc._id, none, 0, none, 0), (0, 0, 0))
 
     def test_null_pointers(self) -> None:
@@ -185,10 +181,10 @@ class InvalidArguments(TestCase):
                     arguments[place] = None
                     with self.subTest(name=name, argument=place):
                         self.assertEqual(self.call(name, *arguments), (NULL, place + (name in _signatures.STORE_CALLS), 0))
-        handles = (_signatures.STORE, _signatures.CLIENT)
-        for name, call in {**_library._store_functions, **_library._client_functions}.items():
+        handles = (_signatures.STORE, _signatures.CLIENT, _signatures.TEXT)
+        for name, call in {**_library.store_functions, **_library.client_functions}.items():
             with self.subTest(name=name):
-                result = call(*(None if kind in handles else 0 for kind in call.argtypes))
+                result = call(*(None if kind in handles else 0 for kind in getattr(call, "argtypes")))
                 self.assertEqual((result.code, result.first, result.second), (NULL, NO_ID if name in _signatures.ID_CALLS else 0, 0))
 
     def test_misaligned_pointers(self) -> None:

@@ -2,12 +2,15 @@
 from __future__ import annotations
 
 import copy
+import operator
+import pathlib
 import pickle
+import tempfile
 import xml.etree.ElementTree
 from collections.abc import Callable, Iterator
 from typing import Any
 
-from ploverchaise import MOC, nest2ring
+from ploverchaise import MOC, MocError, nest2ring
 
 from .common import BASE, NUMBERS, PIXELS, TestCase, random_cells, sorted_ranges
 
@@ -41,6 +44,8 @@ class Examples(TestCase):
         moc = MOC.from_json('{"10":[],"2":[5],"1":[1]}')
         self.assertEqual(moc.to_string("json", max_order=10), '{"1":[1],"10":[]}')
         self.assertEqual(moc, MOC.from_json({"2": [5], "1": [1]}))
+        keys: Any = {2: [5], 1: range(1, 2)}
+        self.assertEqual(moc, MOC.from_json(keys))
         self.assertEqual(moc.serialize(), {"1": [1]})
         self.assertEqual(moc.serialize("str"), "1/1")
 
@@ -50,6 +55,70 @@ class Examples(TestCase):
         self.assertEqual(moc.to_string("uniq").split("\n"), ["17", "18", "20", "76", "77", "78", "85", "87", "89"])
         self.assertEqual(MOC.from_uniq([17, 18, 20, 76, 77, 78, 85, 87, 89]), moc)
         self.assertEqual(MOC().to_string("uniq"), "")
+
+    def test_protocol_of_sets(self) -> None:
+        small, large, other = MOC.from_string("1/4"), MOC.from_string("0/0-1"), MOC.from_string("0/2")
+        self.assertTrue(small <= large and small < large and large >= small and large > small and small <= small and small >= small)
+        self.assertFalse(large <= small or small < small or small > small or large < small or other <= large or other >= large)
+        self.assertEqual((small.issubset(large), large.issubset(small), large.issuperset(small)), (True, False, True))
+        self.assertEqual((small.isdisjoint(other), small.isdisjoint(large)), (True, False))
+        number: Any = 5
+        for method in (MOC.isdisjoint, MOC.issubset, MOC.issuperset, operator.le, operator.lt, operator.ge, operator.gt):
+            with self.assertRaises(TypeError):
+                method(small, number)
+
+    def test_union_of_many(self) -> None:
+        cells = random_cells(9, 333)
+        self.assertEqual(MOC.union_all(MOC.from_healpix_cells(cell, 9) for cell in cells), MOC.from_healpix_cells(cells, 9))
+        self.assertEqual((MOC.union_all([]), MOC.union_all([MOC.full()])), (MOC(), MOC.full()))
+        invalid: Any = [MOC(), 3]
+        with self.assertRaises(TypeError):
+            MOC.union_all(invalid)
+
+    def test_copies_and_subclasses(self) -> None:
+        class Survey(MOC):
+            """A subclass."""
+
+        moc = Survey.from_string("0/0 1/4")
+        self.assertIs(copy.deepcopy(moc), moc)
+        self.assertIs(copy.copy(moc), moc)
+        for result in (moc | MOC.full(), ~moc, moc.degrade_to_order(0), Survey.union_all([moc])):
+            self.assertIs(type(result), Survey)
+        self.assertEqual((hash(moc), hash(moc)), (hash(MOC.from_string("0/0 1/4")),) * 2)
+        self.assertGreater(MOC.from_healpix_cells(range(0, 2000, 2), 9).__sizeof__(), 16_000)
+        self.assertEqual(moc.__dask_tokenize__(), MOC.from_string("1/0-4").__dask_tokenize__())
+        self.assertNotEqual(moc.__dask_tokenize__(), MOC().__dask_tokenize__())
+
+    def test_files(self) -> None:
+        moc = MOC.from_string("0/0 1/4 8/")
+        with tempfile.TemporaryDirectory() as folder:
+            path = pathlib.Path(folder, "moc.txt")
+            for format, text in (("ascii", "0/0 1/4\n"), ("json", '{"0":[0],"1":[4]}\n'), ("uniq", "4\n20\n")):
+                moc.save(path, format, overwrite=True)
+                self.assertEqual((path.read_text(), MOC.load(path, format)), (text, moc))
+            moc.save(str(path), max_order=8, overwrite=True)
+            self.assertEqual(path.read_text(), "0/0 1/4 8/\n")
+            with self.assertRaises(FileExistsError):
+                MOC().save(path)
+            self.assertFault("TooCoarse", (), moc.save, path, max_order=0, overwrite=True)
+            self.assertEqual(path.read_text(), "0/0 1/4 8/\n")
+            value: Any = path
+            with self.assertRaisesRegex(TypeError, "MOC.load"):
+                MOC.from_string(value)
+
+    def test_errors_have_values(self) -> None:
+        with self.assertRaises(MocError) as caught:
+            MOC.from_healpix_cells([5, 48], 1)
+        self.assertEqual(caught.exception.detail, "48 is not a cell of order 1, which are 0 to 47")
+        self.assertTrue(str(caught.exception).endswith("(place 1): 48 is not a cell of order 1, which are 0 to 47"))
+        again = pickle.loads(pickle.dumps(caught.exception))
+        self.assertEqual((str(again), again.place, again.detail), (str(caught.exception), (1,), caught.exception.detail))
+        with self.assertRaises(MocError) as caught:
+            MOC.from_healpix_cells([5, 700, 3], [1, 2, 1])
+        self.assertEqual((caught.exception.place, caught.exception.detail), ((1,), "700 is not a cell of order 2, which are 0 to 191"))
+        with self.assertRaises(MocError) as caught:
+            MOC.full().degrade_to_order(30)
+        self.assertEqual(caught.exception.detail, "orders are 0 to 29")
 
     def test_ranges_are_merged(self) -> None:
         moc = MOC.from_ranges([(4, 8), (8, 9), (0, 4)])

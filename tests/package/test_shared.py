@@ -1,11 +1,11 @@
 """Shared maps, which threads change at the same time."""
 from __future__ import annotations
 
-import threading
+import signal
 from typing import Any
 from unittest import mock
 
-from ploverchaise import MOC, Client, MocError, SharedMap, _library
+from ploverchaise import MOC, MapClient, MocError, SharedMap, _library
 
 from .common import BASE, TestCase
 
@@ -59,11 +59,16 @@ class OneThread(TestCase):
         clients = [shared.client() for _ in range(63)]
         self.assertEqual(sorted(client.number for client in clients) + [63], list(range(64)))
         self.assertFault("NoClient", (), shared.client)
-        # A client that is deleted is not replaced.
-        del clients
+        # A client that is deleted makes room for another one with its number, which has no replies.
+        numbers = [client.number for client in clients[:3]]
+        clients[2].apply("count 0/0")
+        for number in numbers:
+            del clients[0]
+            clients.append(shared.client())
+            self.assertEqual((clients[-1].number, clients[-1].answer()), (number, ""))
         self.assertFault("NoClient", (), shared.client)
         with self.assertRaises(TypeError):
-            Client()
+            MapClient()
 
     def test_a_map_lives_with_its_clients(self) -> None:
         shared = SharedMap(MOC.full(), 1)
@@ -72,25 +77,34 @@ class OneThread(TestCase):
         self.assertEqual(client.apply("keep 0/3 ; read 0/0-11"), f"changed {11 * BASE} ; cover 0/3")
         self.assertEqual(str(client.moc()), "0/3")
 
-    def test_a_call_within_a_call(self) -> None:
-        client = SharedMap().client()
-        with client._call(), self.assertRaises(RuntimeError):
-            client.apply("invert")
-        self.assertEqual(client.apply("count 0/0"), "total 0")
-
     def test_handles_without_and_with_a_client(self) -> None:
         free, other = _library.open_client(), _library.open_client()
         used = getattr(SharedMap(clients=1)._client, "_handle")
-        calls: list[tuple[str, tuple[Any, ...]]] = [("map_apply", (b"invert",)), ("map_join", (other,))]
+        moc = MOC()
+        calls: list[tuple[str, tuple[Any, ...]]] = [("map_apply", (b"invert",)), ("map_join", (other,)), ("map_coverage", (moc._store,)),
+                                                    ("map_add", (0, None, 0)), ("map_add_coverage", (moc._store, moc._id))]
         for name, arguments in calls:
             self.assertFault("NoMap", (), _library.call_with_client, name, free, *arguments)
-        self.assertFault("NoMap", (), _library.call_with_client_and_store, "map_set", free)
         self.assertFault("ClientInUse", (), _library.call_with_client, "map_join", free, used)
-        self.assertFault("ClientInUse", (), _library.call_with_client_and_store, "map_begin", used, 2**64 - 1, 65)
-        self.assertFault("NoSuchSet", (2**64 - 1,), _library.call_with_client_and_store, "map_begin", free, 2**64 - 1, 65)
-        moc = MOC()
-        for clients in (0, 65, 255):
-            self.assertFault("BadCount", (clients,), _library.call_with_client_and_store, "map_begin", free, moc._id, clients)
+        self.assertFault("ClientInUse", (), _library.call_with_client, "map_begin", used, moc._store, 2**64 - 1, 65)
+        self.assertFault("NoSuchSet", (2**64 - 1,), _library.call_with_client, "map_begin", free, moc._store, 2**64 - 1, 65)
+        for clients in (0, 65, 254):
+            self.assertFault("BadCount", (clients,), _library.call_with_client, "map_begin", free, moc._store, moc._id, clients)
+
+    def test_a_call_in_a_signal_handler(self) -> None:
+        """Checks that a signal handler can use the client that its thread uses."""
+        client, replies = SharedMap(MOC.from_string("0/0")).client(), []
+        before = signal.signal(signal.SIGALRM, lambda *_: replies.append(client.apply("count 0/0")))
+        signal.setitimer(signal.ITIMER_REAL, 0.0005, 0.0005)
+        try:
+            for _ in range(100_000):
+                self.assertEqual(client.apply("near 0 0"), "near yes")
+                if len(replies) > 300:
+                    break
+        finally:
+            signal.setitimer(signal.ITIMER_REAL, 0)
+            signal.signal(signal.SIGALRM, before)
+        self.assertEqual(set(replies), {f"total {BASE}"})
 
 
 class Threads(TestCase):
@@ -99,7 +113,7 @@ class Threads(TestCase):
     def test_lines_are_atomic_and_complete(self) -> None:
         shared = SharedMap(clients=THREADS)
 
-        def work(client: Client) -> None:
+        def work(client: MapClient) -> None:
             for turn in range(TURNS):
                 self.assertEqual(client.apply(f"claim 9/{client.number * TURNS + turn}"), "claimed")
                 client.apply("add 3/100 ; add 3/400 ; add 3/700" if turn % 2 else "remove 3/100 ; remove 3/400 ; remove 3/700")
@@ -130,23 +144,21 @@ class Threads(TestCase):
         for call, arguments in calls:
             # The list ends after about five seconds. Then the call ends with another error.
             busy = [MocError(74, 3, 5)] * 5000
-            with mock.patch("ploverchaise.shared.call_with_client", side_effect=busy) as line, \
-                    mock.patch("ploverchaise.shared.call_with_client_and_store", side_effect=busy) as read:
+            with mock.patch("ploverchaise.shared.call_with_client", side_effect=busy) as tries:
                 self.assertFault("Busy", (3, 5), call, *arguments, timeout=0)
-                self.assertEqual(line.call_count + read.call_count, 1)
+                self.assertEqual(tries.call_count, 1)
                 self.assertFault("Busy", (3, 5), call, *arguments, timeout=0.02)
-                self.assertGreater(line.call_count + read.call_count, 2)
+                self.assertGreater(tries.call_count, 2)
 
-    def test_a_set_is_read_under_the_lock_of_the_store(self) -> None:
-        client = SharedMap().client()
-        sets: list[MOC] = []
-        thread = threading.Thread(target=lambda: sets.append(client.moc()))
-        with _library._lock:
-            thread.start()
-            thread.join(0.2)
-            self.assertEqual(sets, [])
-        thread.join()
-        self.assertEqual(sets, [MOC()])
+    def test_clients_are_made_and_deleted_by_many_threads(self) -> None:
+        shared = SharedMap(clients=THREADS)
+
+        def work(number: int) -> None:
+            for turn in range(TURNS):
+                self.assertEqual(shared.client().apply(f"claim 9/{number * TURNS + turn}"), "claimed")
+
+        self.run_threads(range(THREADS), work)
+        self.assertEqual(shared.moc().count(), THREADS * TURNS * 4**20)
 
     def test_busy_is_reported(self) -> None:
         error = MocError(74, 3, 5)

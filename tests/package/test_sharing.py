@@ -2,18 +2,24 @@
 from __future__ import annotations
 
 import gc
+import io
+import logging
 import multiprocessing
 import os
 import signal
+import sys
 import threading
+import time
 import weakref
 from typing import Any
 
-from ploverchaise import MOC, MocError, _library, nest2ring, ring2nest
+from ploverchaise import MOC, MapClient, MocError, SharedMap, nest2ring, ring2nest
 
 from .common import TestCase, random_cells, sorted_ranges
 
 THREADS, TURNS = 8, 1500
+# The number of exceptions that signal handlers raise.
+ROUNDS = 1000
 # The maximal growth of the memory of the process while sets are made and freed, because the allocator keeps some memory.
 MAX_GROWTH_KIB = 20_000
 
@@ -30,7 +36,7 @@ def text_and_count(moc: MOC) -> tuple[str, int]:
 
 
 class Threads(TestCase):
-    """Many threads with one store."""
+    """Many threads."""
 
     def test_sets_of_many_threads(self) -> None:
         common = MOC.from_string("3/0-99")
@@ -72,24 +78,13 @@ class Threads(TestCase):
 class DeletedSets(TestCase):
     """Sets that are deleted."""
 
-    def test_their_identifiers_are_invalid(self) -> None:
-        moc = MOC.from_string("0/0")
-        set_id = moc._id
-        self.assertEqual(_library.call_with_store("count", set_id).first, 4**29)
-        del moc
-        gc.collect()
-        with self.assertRaises(MocError) as caught:
-            _library.call_with_store("count", set_id)
-        self.assertEqual((caught.exception.name, caught.exception.place), ("NoSuchSet", (set_id,)))
-
     def test_in_a_cycle_of_references(self) -> None:
         cycle: list[Any] = [MOC.from_string("0/0")]
         cycle.append(cycle)
-        set_id, reference = cycle[0]._id, weakref.ref(cycle[0])
+        reference = weakref.ref(cycle[0])
         del cycle
         gc.collect()
         self.assertIsNone(reference())
-        self.assertRaises(MocError, _library.call_with_store, "count", set_id)
 
     def test_their_memory_is_freed(self) -> None:
         moc = MOC.from_healpix_cells(range(0, 40_000, 2), 8)
@@ -113,25 +108,30 @@ class Processes(TestCase):
             self.assertEqual(pool.map(text_and_count, sets), [text_and_count(moc) for moc in sets])
             self.assertEqual(pool.map(MOC.complement, sets), [~moc for moc in sets])
 
-    def test_a_fork_waits_for_the_store(self) -> None:
-        """Checks that no call is running at a fork, while another thread calls: in the child the lock is free."""
-        moc, ended = MOC.from_healpix_cells(range(0, 4000, 2), 8), threading.Event()
+    def test_a_fork_waits_for_calls(self) -> None:
+        """Checks that no call is running at a fork, while other threads call: the child can use all MOCs and maps."""
+        moc, shared = MOC.from_healpix_cells(range(0, 4000, 2), 8), SharedMap(MOC.from_string("0/0"))
+        expected, ended = str(moc), threading.Event()
 
-        def work() -> None:
+        def work(client: MapClient) -> None:
             while not ended.is_set():
                 moc.complement()
+                client.apply("invert ; invert")
 
-        thread = threading.Thread(target=work)
-        thread.start()
+        threads = [threading.Thread(target=work, args=(shared.client(),)) for _ in range(2)]
+        for thread in threads:
+            thread.start()
         try:
-            for _ in range(10):
+            for _ in range(20):
                 child = os.fork()
                 if child == 0:
-                    os._exit(0 if _library._lock.acquire(timeout=10) else 1)
+                    signal.alarm(20)
+                    os._exit(0 if str(moc) == expected and str(shared.moc(timeout=0)) == "0/0" else 1)
                 self.assertEqual(os.waitpid(child, 0)[1], 0)
         finally:
             ended.set()
-            thread.join()
+            for thread in threads:
+                thread.join()
 
     def test_threads_of_a_forked_process(self) -> None:
         """Checks that the lock is free in a child, so that its other threads can call."""
@@ -147,7 +147,7 @@ class Processes(TestCase):
 
 
 class Signals(TestCase):
-    """A signal handler that calls while another call runs."""
+    """Signal handlers that call, or that raise exceptions."""
 
     def test_texts_are_whole(self) -> None:
         long, short = MOC.from_healpix_cells(range(0, 2000, 2), 8), MOC.from_string("0/0")
@@ -164,3 +164,103 @@ class Signals(TestCase):
             signal.setitimer(signal.ITIMER_REAL, 0)
             signal.signal(signal.SIGALRM, before)
         self.assertEqual(set(texts), {"0/0"})
+
+    def test_no_exception_and_no_set_is_lost(self) -> None:
+        """Raises 1,000 exceptions in signal handlers while MOCs are made and deleted. Each of them arrives, and no memory is kept."""
+
+        def interrupt(*_: object) -> None:
+            raise KeyboardInterrupt
+
+        a, b = MOC.from_healpix_cells(range(0, 40_000, 2), 8), MOC.from_healpix_cells(range(0, 40_000, 3), 8)
+        shared = SharedMap(a).client()
+        lost: list[str] = []
+        before, hook = signal.signal(signal.SIGALRM, interrupt), sys.unraisablehook
+        sys.unraisablehook = lambda unraisable: lost.append(unraisable.exc_type.__name__)
+        arrived, start = 0, 0
+        try:
+            for turn in range(ROUNDS):
+                if turn == ROUNDS // 5:
+                    start = used_memory()
+                try:
+                    signal.setitimer(signal.ITIMER_REAL, 0.0005 + turn % 97 * 5e-5)
+                    end = time.monotonic() + 10
+                    while time.monotonic() < end and not lost:
+                        _ = [a | b | ~a, str(MOC.from_string("0/0")), shared.moc().count(), SharedMap(b).client(), a == b]
+                except KeyboardInterrupt:
+                    arrived += 1
+                if lost:
+                    break
+        finally:
+            signal.setitimer(signal.ITIMER_REAL, 0)
+            signal.signal(signal.SIGALRM, before)
+            sys.unraisablehook = hook
+        self.assertEqual((arrived, lost), (ROUNDS, []))
+        self.assertLess(used_memory() - start, MAX_GROWTH_KIB)
+
+
+class Waiting(TestCase):
+    """Calls that wait, or do not wait, for others."""
+
+    def test_a_long_call_holds_no_other_call(self) -> None:
+        """Checks that small calls end while a long call with the same MOC runs."""
+        cells = random_cells(29, 300_000)
+        ended: list[float] = []
+        big, small = MOC.from_healpix_cells(cells, 29), MOC.from_string("0/0")
+
+        def work() -> None:
+            for _ in range(3):
+                big.to_string()
+            ended.append(time.monotonic())
+
+        thread = threading.Thread(target=work)
+        thread.start()
+        for _ in range(20):
+            self.assertEqual((big & small) | small, small)
+            big.count()
+        last = time.monotonic()
+        thread.join()
+        self.assertLess(last, ended[0])
+
+    def test_finalizers_that_call(self) -> None:
+        """Checks that threads do not block each other, while garbage with finalizers is collected in calls, and logging calls `str`."""
+        log = logging.getLogger("ploverchaise.test")
+        handler = logging.StreamHandler(io.StringIO())
+        log.addHandler(handler)
+        log.propagate = False
+        shared, moc, other = SharedMap(MOC.from_string("3/1-30")), MOC.from_string("3/1-30"), MOC.from_string("4/7-90")
+        end = time.monotonic() + 3
+
+        class Garbage:
+            """An object in a cycle whose finalizer logs, such as an unclosed connection."""
+
+            def __init__(self) -> None:
+                self.me = self
+
+            def __del__(self) -> None:
+                log.warning("not closed")
+
+        class Late:
+            """A value whose text needs the map."""
+
+            def __str__(self) -> str:
+                return shared.apply("count 3/1")
+
+        def make_garbage(_: int) -> None:
+            while time.monotonic() < end:
+                Garbage()
+                self.assertEqual((moc | other).count(), moc.count() + other.count() - moc.count_common(other))
+                shared.apply("count 0/0")
+
+        def report(_: int) -> None:
+            while time.monotonic() < end:
+                log.warning("now %s %s", Late(), moc)
+                handler.setStream(io.StringIO())
+
+        threads = [threading.Thread(target=work, args=(0,), daemon=True) for work in (make_garbage, make_garbage, report, report)]
+        for thread in threads:
+            thread.start()
+        for thread in threads:
+            thread.join(30)
+        # Garbage that is collected later logs nothing.
+        log.disabled = True
+        self.assertEqual([thread.is_alive() for thread in threads], [False] * 4)
