@@ -8,8 +8,12 @@
 
    An implementation runs for SECONDS, by default 1, in five turns with the others. A line has the median of its calls per second, and per
    second of processor time, which depends less on the load of the machine. Then it has percentiles of the time of a count and of a change
-   in microseconds, and the number of BUSY results for each call. The library gets the cell of a call in an array ("cells"), or a line of text
-   ("lines"). A line `ratio` has the calls per processor second of both, divided by those of twelve mutexes.
+   in microseconds. The library gets the cell of a call in an array ("cells"), or a line of text ("lines"), and waits for the parts that
+   other threads hold. A line `ratio` has the calls per processor second of both, divided by those of twelve mutexes.
+
+   Then one thread counts all pixels, which needs all base pixels at the same time, while the others make calls on base pixels of their own.
+   A line has the number of these counts, and percentiles and the maximum of their times in microseconds, for the library and for twelve
+   mutexes that are all locked.
 
    All implementations get the same calls. If the replies that one thread gets have another sum for another implementation, the exit status
    is 1. */
@@ -242,8 +246,6 @@ public:
         return ranges_.apply(operation);
     }
 
-    std::uint64_t busy_count() const { return 0; }
-
 private:
     Mutex mutex_;
     RangeVector ranges_;
@@ -272,7 +274,18 @@ public:
         return part.ranges.apply(operation);
     }
 
-    std::uint64_t busy_count() const { return 0; }
+    /* Returns the number of all pixels, at a time at which no part changes. */
+    std::uint64_t count_all(unsigned)
+    {
+        std::uint64_t pixels = 0;
+        for (Part &part : parts_)
+            part.mutex.lock();
+        for (const Part &part : parts_)
+            pixels += part.ranges.count({0, MOC_PIXEL_COUNT});
+        for (Part &part : parts_)
+            part.mutex.unlock();
+        return pixels;
+    }
 
 private:
     struct alignas(64) Part {
@@ -298,9 +311,11 @@ public:
             fail("moc_store_open", MOC_MEMORY);
         moc_result set = moc_from_ranges(&store, start.data(), start.size());
         require_success(set, "moc_from_ranges");
-        for (Client &client : clients_)
+        for (Client &client : clients_) {
             if (!moc_client_open(&client.handle))
                 fail("moc_client_open", MOC_MEMORY);
+            require_success(moc_map_busy_timeout(&client.handle, MOC_NO_TIMEOUT), "moc_map_busy_timeout");
+        }
         moc_client *first = &clients_[0].handle;
         require_success(moc_map_begin(first, &store, set.first, threads), "moc_map_begin");
         for (unsigned thread = 1; thread < threads; ++thread)
@@ -317,44 +332,13 @@ public:
     SharedMap(const SharedMap &) = delete;
     SharedMap &operator=(const SharedMap &) = delete;
 
-    std::uint64_t busy_count() const
-    {
-        std::uint64_t sum = 0;
-        for (const Client &client : clients_)
-            sum += client.busy_count;
-        return sum;
-    }
-
 protected:
-    /* Makes a call with the handle of a thread until it is not BUSY, and returns the result. */
-    template <class Call> moc_result call_until_free(unsigned thread, Call call)
-    {
-        Client &client = clients_[thread];
-        moc_result result = call(&client.handle);
-        for (unsigned attempt = 0; result.code == MOC_BUSY; ++attempt) {
-            ++client.busy_count;
-            wait(attempt);
-            result = call(&client.handle);
-        }
-        require_success(result, "a call of the map");
-        return result;
-    }
+    moc_client *client(unsigned thread) { return &clients_[thread].handle; }
 
 private:
     struct alignas(64) Client {
         moc_client handle{};
-        std::uint64_t busy_count = 0;
     };
-
-    /* Waits before a call is repeated, as docs/C.md recommends. */
-    static void wait(unsigned attempt)
-    {
-        constexpr unsigned MAX_YIELDS = 16;
-        if (attempt < MAX_YIELDS)
-            std::this_thread::yield();
-        else
-            std::this_thread::sleep_for(std::chrono::microseconds(50));
-    }
 
     std::vector<Client> clients_;
 };
@@ -367,7 +351,18 @@ public:
     std::uint64_t apply(unsigned thread, Operation operation)
     {
         auto *call = CALLS[static_cast<std::size_t>(operation.action)];
-        return call_until_free(thread, [&](moc_client *client) { return call(client, ORDER, &operation.cell, 1); }).first;
+        moc_result result = call(client(thread), ORDER, &operation.cell, 1);
+        require_success(result, "a command of the map");
+        return result.first;
+    }
+
+    /* Returns the number of all pixels, at a time at which no part changes. */
+    std::uint64_t count_all(unsigned thread)
+    {
+        static constexpr std::array<std::uint64_t, PARTS> ALL{0, 1, 2, 3, 4, 5, 6, 7, 8, 9, 10, 11};
+        moc_result result = moc_map_count(client(thread), 0, ALL.data(), ALL.size());
+        require_success(result, "moc_map_count");
+        return result.first;
     }
 
 private:
@@ -383,13 +378,14 @@ public:
 
     std::uint64_t apply(unsigned thread, Operation operation)
     {
-        std::array<char, 64> line, reply;
+        std::array<char, 64> line;
         std::size_t length = write_line(line, operation);
         const auto *bytes = reinterpret_cast<const std::uint8_t *>(line.data());
-        auto *out = reinterpret_cast<std::uint8_t *>(reply.data());
-        moc_result answer = call_until_free(
-            thread, [&](moc_client *client) { return moc_map_execute(client, bytes, length, out, reply.size()); });
-        return parse_reply(reply.data(), reply.data() + answer.first);
+        moc_text reply;
+        require_success(moc_map_execute(client(thread), bytes, length, &reply), "moc_map_execute");
+        std::uint64_t number = parse_reply(reply.bytes, reply.bytes + reply.length);
+        moc_text_free(&reply);
+        return number;
     }
 
 private:
@@ -447,7 +443,6 @@ struct Tally {
 /* The measurements of an implementation in all turns. */
 struct Result {
     Tally tally;
-    std::uint64_t busy_count = 0;
     std::vector<double> calls_per_second, calls_per_processor_second;
 };
 
@@ -504,7 +499,6 @@ template <class Implementation> void measure(const Setting &setting, Result &res
     }
     result.calls_per_second.push_back(static_cast<double>(calls) / duration.count());
     result.calls_per_processor_second.push_back(static_cast<double>(calls) / processor_time);
-    result.busy_count += set.busy_count();
 }
 
 double median(std::vector<double> numbers)
@@ -536,7 +530,7 @@ void print_result(const char *name, const Setting &setting, Result &result)
     std::printf(" %9.0f %9.0f", median(result.calls_per_second), median(result.calls_per_processor_second));
     print_percentiles(result.tally.count_times);
     print_percentiles(result.tally.change_times);
-    std::printf(" %7.4f\n", static_cast<double>(result.busy_count) / static_cast<double>(result.tally.calls));
+    std::putchar('\n');
 }
 
 /* Times all implementations, and prints their lines. Returns whether the sums of their compared replies are equal. */
@@ -564,6 +558,33 @@ bool compare(const Setting &setting)
     return sum == lines.tally.reply_sum && sum == mutex.tally.reply_sum && sum == shared_mutex.tally.reply_sum && sum == twelve.tally.reply_sum;
 }
 
+/* Times counts of all pixels by one thread, while the others make calls on base pixels of their own, and prints a line. */
+template <class Implementation> void measure_whole_counts(const char *name, const Setting &setting)
+{
+    Implementation set(StartCoverage(setting.range_count).ranges(), setting.threads + 1);
+    std::vector<std::thread> threads;
+    std::atomic<bool> is_ended{false};
+    for (unsigned thread = 0; thread < setting.threads; ++thread)
+        threads.emplace_back([&, thread] { run_thread(set, thread, setting, is_ended); });
+    std::vector<Clock::duration> times;
+    Clock::time_point end = Clock::now() + std::chrono::duration_cast<Clock::duration>(TURNS * setting.duration);
+    while (Clock::now() < end) {
+        Clock::time_point start = Clock::now();
+        if (set.count_all(setting.threads) == 0)
+            fail("a count of all pixels", 0);
+        times.push_back(Clock::now() - start);
+        std::this_thread::sleep_for(std::chrono::microseconds(100));
+    }
+    is_ended = true;
+    for (std::thread &thread : threads)
+        thread.join();
+    print_setting(name, setting);
+    std::printf(" %9zu", times.size());
+    print_percentiles(times);
+    std::printf(" %9.0f\n", std::chrono::duration<double, std::micro>(times.back()).count());
+    std::fflush(stdout);
+}
+
 } // namespace
 
 int main(int argc, char **argv)
@@ -574,14 +595,18 @@ int main(int argc, char **argv)
         std::fprintf(stderr, "usage: service [SECONDS [THREADS]], with 1 to %u threads\n", PARTS);
         return 2;
     }
-    std::printf("%-12s %6s %7s %5s %9s %9s %29s %29s %7s\n", "", "ranges", "threads", "parts", "calls/s", "per cpu s",
-                "count p50 p99 p99.9", "change p50 p99 p99.9", "busy");
+    std::printf("%-12s %6s %7s %5s %9s %9s %29s %29s\n", "", "ranges", "threads", "parts", "calls/s", "per cpu s",
+                "count p50 p99 p99.9", "change p50 p99 p99.9");
     bool is_equal = true;
     for (std::uint64_t range_count : {UINT64_C(12000), UINT64_C(240000)}) {
         is_equal &= compare({range_count, 1, Pattern::all_parts, duration});
         for (Pattern pattern : {Pattern::own_parts, Pattern::all_parts})
             is_equal &= compare({range_count, static_cast<unsigned>(threads), pattern, duration});
     }
+    std::printf("\n%-12s %6s %7s %5s %9s %29s %9s\n", "", "ranges", "threads", "parts", "counts", "p50 p99 p99.9", "max");
+    Setting others{12000, static_cast<unsigned>(threads) - (threads > 1), Pattern::own_parts, duration};
+    measure_whole_counts<CellCalls>("cells", others);
+    measure_whole_counts<TwelveMutexes>("12 mutexes", others);
     if (!is_equal)
         std::fprintf(stderr, "service: the implementations have different replies\n");
     return is_equal ? 0 : 1;
