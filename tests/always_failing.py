@@ -97,6 +97,10 @@ BODIES = [
     Body("moc_script", "schedule", "play", OUT_OF_MEMORY_AT_LINE, "script_tests"),
     Body("moc_script", "crews", "crew", "Err(RunError::Memory { line: 0 })", "script_tests"),
     Body("moc_script", "crews", "crew", "Err(RunError::Spawn)", "script_tests"),
+    Body("moc_lines", "answer", "answer_commands", OUT_OF_MEMORY, "script_tests"),
+    Body("moc_text", "ascii/writing", "push_ascii", "Err(OutOfMemory)", "coverage_tests"),
+    Body("moc_ranges", "coverage/removing", "remove_range", OUT_OF_MEMORY, "coverage_tests"),
+    Body("moc_ranges", "coverage/removing", "remove_all", OUT_OF_MEMORY, "coverage_tests"),
 ]
 
 

@@ -7,13 +7,14 @@ Half of the defects violate no contract, so a test has to detect them. What dete
 - test: the named test, or any test of the named crate, fails without proofs.
 - script: the named script of this folder fails with the program that is built from the defective crates.
 - package: the tests of the Python package fail with the defective package and the library that `./moc library` built.
+- library: the tests of the library for C fail with the library that is linked with the defect.
 - nothing: nothing detects the defect today. The script checks that the prover accepts the crate.
 
 usage: tests/plants.py [--list] [--of-the-day] [NAME]..
 
-A test takes at least half a minute of processor time, the package as long, and a script about ten minutes. `--of-the-day` selects every
-third defect that a test or the package detects, and another third on each day of the year; CI uses this option. The last line printed is
-`N passed, M failed`."""
+A test takes at least half a minute of processor time, the package as long, a library or a script about ten minutes. `--of-the-day` selects
+every third defect that a test or the package detects, and another third on each day of the year; CI uses this option. The last line printed
+is `N passed, M failed`."""
 from __future__ import annotations
 
 import argparse
@@ -146,14 +147,36 @@ DEFECTS = [
     Defect("cells_of_several_orders_are_not_degraded", "", "python/ploverchaise/moc.py",
            "            moc = cls._from_cells_of_orders(as_array(ipix), as_array(depth))",
            "            return cls._from_cells_of_orders(as_array(ipix), as_array(depth))", "package"),
-    Defect("forked_child_keeps_the_lock", "", "python/ploverchaise/_library.py",
-           "after_in_parent=_lock.release, after_in_child=_lock.release)", "after_in_parent=_lock.release)", "package"),
-    Defect("call_with_handle_and_store_takes_no_lock", "", "python/ploverchaise/_library.py",
-           "    with _lock:\n        _free_deleted()\n        result = function(pointer, _store_pointer, *arguments)\n",
-           "    _free_deleted()\n    result = function(pointer, _store_pointer, *arguments)\n", "package"),
+    Defect("deleted_sets_run_python_code", "", "python/ploverchaise/_library.py",
+           'setattr(StoreHandle, "__del__", _method(declare_function(library, "store_close", None, STORE)))',
+           '_close_store = declare_function(library, "store_close", None, STORE)\n'
+           'setattr(StoreHandle, "__del__", lambda store: _close_store(store))', "package"),
     Defect("generators_are_sorted", "", "python/ploverchaise/_arrays.py",
            "numbers if isinstance(numbers, (list, tuple, range, array)) else list(numbers)",
            "numbers if isinstance(numbers, (list, tuple, range, array)) else sorted(numbers)", "package"),
+    # the part of the library for C that is not proved
+    Defect("forked_child_keeps_the_locks", "moc_c", "c/handles.c",
+           "pthread_atfork(before_fork, after_fork, after_fork)", "pthread_atfork(before_fork, after_fork, NULL)", "library"),
+    Defect("calls_take_no_lock", "moc_c", "c/handles.c",
+           "static void enter(struct handle *handle)\n{\n    pthread_mutex_lock(&handle->lock);",
+           "static void enter(struct handle *handle)\n{\n    (void)pthread_mutex_trylock(&handle->lock);", "library"),
+    Defect("closed_clients_are_lost", "moc_c", "c/handles.c",
+           "map->unused[map->unused_count++] = (struct unused_client){handle->proved.client, handle->client_number};",
+           "moc_proved_client_close(handle->proved.client);", "library"),
+    Defect("timeouts_never_end", "moc_c", "c/handles.c",
+           "} else if (!is_before(&now, &wait->end)) {", "} else if (!is_before(&now, &wait->end) && wait->timeout > 9999) {", "library"),
+    Defect("timeouts_of_999_milliseconds_end_early", "moc_c", "c/handles.c",
+           "if (wait->end.tv_nsec >= 1000000000L) {", "if (wait->end.tv_nsec >= 9000000000L) {", "library"),
+    Defect("two_handles_are_locked_in_the_order_of_the_arguments", "moc_c", "c/handles.c",
+           "    pthread_mutex_lock(a->number < b->number ? &a->lock : &b->lock);\n"
+           "    pthread_mutex_lock(a->number < b->number ? &b->lock : &a->lock);",
+           "    pthread_mutex_lock(&a->lock);\n    pthread_mutex_lock(&b->lock);", "library"),
+    Defect("timeout_is_read_again_while_a_call_waits", "moc_c", "c/handles.c",
+           "    if (!wait->tries)\n        wait->timeout", "    wait->timeout", "library"),
+    Defect("clients_do_not_wait", "moc_c", "c/handles.c", "    if (!wait->timeout)\n", "    if (wait->timeout)\n", "library"),
+    Defect("ids_have_no_store", "moc_c", "c/handles.c",
+           "return ((store->number - 1) % STORE_COUNT + 1) << STORE_SHIFT;",
+           "return (store->number ? 1ull : 0) << STORE_SHIFT;", "library"),
 ]
 
 
@@ -210,7 +233,7 @@ def detect(defect: Defect, folder: str) -> tuple[bool, str]:
     if defect.detector in ("prove", "nothing"):
         is_proved, output = check_proofs(defect, folder)
         return is_proved is (defect.detector == "nothing"), output or "proved"
-    top = copy_repository(folder, defect.detector == "script")
+    top = copy_repository(folder, defect.detector in ("script", "library"))
     if not insert_defect(top, defect):
         return False, "the correct code is not in the file exactly once"
     if defect.detector == "script":
@@ -221,6 +244,9 @@ def detect(defect: Defect, folder: str) -> tuple[bool, str]:
         environment = {name: value for name, value in os.environ.items() if name != "MOC"}
         status, output = run([sys.executable, f"tests/{defect.where}.py"], top, environment)
         return status == 1, output.splitlines()[0][:160]
+    if defect.detector == "library":
+        status, output = run([sys.executable, "tests/library.py"], top)
+        return status == 1 and "not built" not in output, output.splitlines()[0][:160]
     if defect.detector == "package":
         status, output = run([sys.executable, "tests/python.py"], top)
         failed = re.findall(r"^(?:FAIL|ERROR): (\w+)", output, re.MULTILINE)
