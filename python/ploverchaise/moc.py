@@ -5,7 +5,7 @@ import json
 import operator
 import os
 from array import array
-from typing import TYPE_CHECKING, Iterable
+from typing import TYPE_CHECKING, Any, Iterable
 
 from ._arrays import Array, Numbers, PlainArray, as_array, as_pairs, without_masked
 from ._library import NO_ORDER, c_arguments, call_with_store, open_store, store_functions, text_of
@@ -138,27 +138,30 @@ class MOC:
         return cls._from_call(_PARSERS[format], value.encode() if isinstance(value, str) else bytes(memoryview(value)))
 
     @classmethod
-    def load(cls, path: str | os.PathLike[str], format: str = "ascii") -> MOC:
-        """Parses a file, as `from_string` parses a text.
+    def load(cls, path: str | os.PathLike[str], format: str | None = None) -> MOC:
+        """Reads a file, which may be compressed with gzip.
 
         Parameters
         ----------
         path : str or path-like
             The path of the file.
-        format : {"ascii", "json", "uniq"}
-            The format of `from_string`. FITS files can be read with mocpy.
+        format : {"ascii", "json", "uniq", "fits"}, optional
+            The format of `from_string`, or `fits` for a FITS table of MOC 1.0, 1.1 or 2.0. By default it is recognized by the content.
 
         Raises
         ------
         OSError
-            If the file cannot be read.
+            If the file cannot be read, or is compressed and damaged.
         MocError
             As in `from_string`.
         ValueError
-            If the format is unknown.
+            If the format is unknown, or the file is a FITS file without a sky coverage.
+        ImportError
+            If the file is a FITS file, and astropy is not installed.
         """
-        with open(path, "rb") as file:
-            return cls.from_string(file.read(), format)
+        from ._files import load
+
+        return load(cls, path, format)
 
     @classmethod
     def from_json(cls, json_moc: dict[str, list[int]] | str | bytes) -> MOC:
@@ -273,6 +276,37 @@ class MOC:
             except MocError as error:
                 raise MocError(error.code, *(int(positions[index]) for index in error.place), detail=error.detail) from None
         return moc
+
+    @classmethod
+    def from_lonlat(cls, lon: Any, lat: Any, depth: int) -> MOC:
+        """Returns the cells of an order that contain positions.
+
+        Parameters
+        ----------
+        lon, lat : float, sequence of float, array-like, or Quantity
+            Right ascensions and declinations (ICRS) in degrees, or with a unit of astropy. A position with a masked entry is left out.
+        depth : int
+            The order of the cells, 0 to 29.
+
+        Raises
+        ------
+        ValueError
+            If a longitude is not finite, or a latitude is not -90 to 90, with the index of the position.
+        MocError
+            `NoSuchOrder` if the order is not 0 to 29.
+        ImportError
+            If neither astropy-healpix nor healpy is installed.
+        """
+        from ._positions import cells_of_catalogue
+
+        return cls.from_healpix_cells(cells_of_catalogue(lon, lat, depth), depth)
+
+    @classmethod
+    def from_skycoords(cls, skycoords: Any, depth: int) -> MOC:
+        """Returns the cells of an order that contain the positions of a `SkyCoord` of any frame. Raises as `from_lonlat`."""
+        from ._positions import positions_of
+
+        return cls.from_lonlat(*positions_of(skycoords), depth)
 
     @classmethod
     def from_uniq(cls, uniq: Numbers) -> MOC:
@@ -531,6 +565,38 @@ class MOC:
             return self._contains_pixels(as_array(cells))
         return as_array(cells).flags_of_cells(self._bounds(), depth, is_whole=True)
 
+    def contains_lonlat(self, lon: Any, lat: Any) -> Any:
+        """Returns for each position whether the MOC contains its pixel.
+
+        Parameters
+        ----------
+        lon, lat : float, sequence of float, array-like, or Quantity
+            Right ascensions and declinations (ICRS) in degrees, or with a unit of astropy.
+
+        Returns
+        -------
+        bool, list of bool, or ndarray of bool
+            The results, in the shape of the positions. They are an array if `lon` or `lat` is one.
+
+        Raises
+        ------
+        ValueError
+            If a longitude is not finite, or a latitude is not -90 to 90, with the index of the position.
+        TypeError
+            If an entry is masked.
+        ImportError
+            If neither astropy-healpix nor healpy is installed.
+        """
+        from ._positions import flags_of_positions
+
+        return flags_of_positions(self.contains, lon, lat)
+
+    def contains_skycoords(self, skycoords: Any) -> Any:
+        """Returns for each position of a `SkyCoord` of any frame whether the MOC contains its pixel. Raises as `contains_lonlat`."""
+        from ._positions import positions_of
+
+        return self.contains_lonlat(*positions_of(skycoords))
+
     def intersects_cells(self, cells: Numbers, depth: int):
         """Returns for each cell whether the MOC contains any of its pixels. Parameters, results and errors are those of `contains`."""
         return as_array(cells).flags_of_cells(self._bounds(), check_order(depth), is_whole=False)
@@ -691,15 +757,19 @@ class MOC:
             raise ValueError(f"format must be one of {', '.join(_PARSERS)}, not {format}")
         return text.removesuffix("\n")
 
-    def save(self, path: str | os.PathLike[str], format: str = "ascii", *, max_order: int | None = None, overwrite: bool = False) -> None:
-        """Writes the text of `to_string` to a file, with a line feed at the end.
+    def save(self, path: str | os.PathLike[str], format: str | None = None, *, max_order: int | None = None,
+             overwrite: bool = False) -> None:
+        """Writes a file. A text is that of `to_string`, with a line feed at the end. A FITS file has a table of MOC 2.0.
 
         Parameters
         ----------
         path : str or path-like
-            The path of the file.
-        format, max_order
-            The parameters of `to_string`.
+            The path of the file. If it ends with `.gz`, the file is compressed with gzip.
+        format : {"ascii", "json", "uniq", "fits", "fits-range"}, optional
+            The format of the text, or `fits` for a table of NUNIQ numbers, or `fits-range` for a table of ranges. By default it is that of
+            the suffix `.fits`, `.fit`, `.fts`, `.json` or `.uniq`, and `ascii` for other names.
+        max_order : int, optional
+            The MOC order that the file states, as in `to_string`. A FITS file states the deepest order of the cells by default.
         overwrite : bool
             Whether to replace a file that exists.
 
@@ -711,10 +781,12 @@ class MOC:
             If the file cannot be written.
         MocError, ValueError
             As in `to_string`; the file is then unchanged.
+        ImportError
+            If the format is that of a FITS file, and astropy is not installed.
         """
-        text = self.to_string(format, max_order=max_order)
-        with open(path, "w" if overwrite else "x", encoding="ascii") as file:
-            file.write(text + "\n" if text else "")
+        from ._files import save
+
+        save(self, path, format, max_order, overwrite)
 
     def serialize(self, format: str = "json") -> dict[str, list[int]] | str:
         """Returns the MOC as a dict or as an ASCII text.
@@ -746,6 +818,39 @@ class MOC:
 
         Takes the time of `to_string`, and O(log n) for each cell of order 7 that has a pixel in this MOC of n ranges."""
         return text_of(self._long_query, "draw")
+
+    def plot(self, ax: Any = None, *, center: Any = None, radius: float | None = None, label: str | None = None, **style: Any) -> Any:
+        """Draws the MOC with matplotlib, on the whole sky or on a part of it.
+
+        Parameters
+        ----------
+        ax : Axes, optional
+            The axes of an earlier call, any other Mollweide axes of matplotlib, or any `WCSAxes` of astropy, such as those of an image.
+            Without it, the function makes a figure.
+        center : (float, float) or SkyCoord, optional
+            The position in the middle of a new figure of a part of the sky, in degrees (ICRS). Without it, a new figure has the whole sky.
+        radius : float, optional
+            The distance in degrees from the center to the sides of the figure, above 0 and at most 90.
+        label : str, optional
+            The name of the MOC in the legend.
+        **style
+            Properties of a `Patch` of matplotlib, such as `facecolor`, `edgecolor`, `alpha` and `hatch`.
+
+        Returns
+        -------
+        Axes
+            The axes. On a Mollweide axes, the coordinates of a position are `-radians(lon)`, with lon from -180 to 180, and `radians(lat)`.
+
+        Raises
+        ------
+        ValueError
+            If the radius is missing or out of its bounds, if both `ax` and `center` are given, or if `ax` has another projection.
+        ImportError
+            If matplotlib is not installed, or if astropy is not and the figure has a part of the sky.
+        """
+        from ._plot import plot
+
+        return plot(self, ax, center=center, radius=radius, label=label, style=style)
 
     def _repr_svg_(self) -> str:
         """Returns the picture that a notebook displays."""
