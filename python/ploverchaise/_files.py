@@ -32,8 +32,29 @@ class CoverageFile(NamedTuple):
     order: int | None
 
 
-class CoverageError(Exception):
-    """An error of a text that has the text and its format, from which the position of the error can be reported.
+class FileError(ValueError):
+    """A compressed file that is damaged, or a FITS file without a sky coverage.
+
+    Attributes
+    ----------
+    name : str
+        The name of the error: `NotGzip`, `NotFits`, `NotMoc`, `NotUniq`, `Backwards` or `PixelTooLarge`.
+    detail : str
+        What is wrong, with the key or the row of a table.
+    file : str
+        The name of the file.
+    """
+
+    def __init__(self, name: str, detail: str, file: str = "") -> None:
+        self.name, self.detail, self.file = name, detail, file
+        super().__init__(": ".join(part for part in (file, name, detail) if part))
+
+    def __reduce__(self) -> tuple[type[FileError], tuple[str, str, str]]:
+        return type(self), (self.name, self.detail, self.file)
+
+
+class TextError(Exception):
+    """An error of a text, with the text and its format, from which the position of the error can be reported.
 
     Attributes
     ----------
@@ -68,13 +89,17 @@ def format_of_name(path: str | os.PathLike[str]) -> str:
     return _SUFFIXES.get(suffix, "ascii")
 
 
-def decompress(data: bytes) -> bytes:
-    """Returns the content of a file, which may be compressed with gzip. Raises OSError or EOFError if a compressed file is damaged."""
+def decompress(data: bytes, file: str = "") -> bytes:
+    """Returns the content of a file, which may be compressed with gzip. Raises FileError if a compressed file is damaged."""
     if not data.startswith(_GZIP_MAGIC):
         return data
     import gzip
+    import zlib
 
-    return gzip.decompress(data)
+    try:
+        return gzip.decompress(data)
+    except (OSError, EOFError, zlib.error) as error:
+        raise FileError("NotGzip", str(error), file) from error
 
 
 def parse(data: bytes, format: str | None = None, file: str = "") -> CoverageFile:
@@ -91,16 +116,14 @@ def parse(data: bytes, format: str | None = None, file: str = "") -> CoverageFil
 
     Raises
     ------
-    CoverageError
+    TextError
         If the content is an invalid text.
-    FitsError
-        If the content is a FITS file without a sky coverage, or the format is `fits` and the content is not a FITS file.
-    OSError, EOFError
-        If a compressed file is damaged.
+    FileError
+        If a compressed file is damaged, if a FITS file has no sky coverage, or if the format is `fits` and the content is not a FITS file.
     ValueError
         If the format is unknown.
     """
-    data = decompress(data)
+    data = decompress(data, file)
     chosen = recognize_format(data) if format is None else format
     if chosen in FITS_FORMATS:
         from ._fits import read_fits
@@ -113,7 +136,7 @@ def parse(data: bytes, format: str | None = None, file: str = "") -> CoverageFil
     try:
         result = call_with_store(f"read_{chosen}", store, *c_arguments(data))
     except MocError as error:
-        raise CoverageError(error, data, chosen) from error
+        raise TextError(error, data, chosen) from error
     return CoverageFile(MOC._in_store(store, result.first), chosen, None if result.second == NO_ORDER else result.second)
 
 
@@ -170,11 +193,9 @@ def load(moc_type: type[MOC], path: str | os.PathLike[str], format: str | None) 
         data = file.read()
     try:
         moc = parse(data, format, os.fspath(path)).moc
-    except CoverageError as error:
+    except TextError as error:
         error.error.add_note(f"in the file {os.fspath(path)}")
         raise error.error from None
-    except EOFError as error:
-        raise OSError(f"{os.fspath(path)}: the compressed file is truncated") from error
     return moc if moc_type is MOC else moc_type.union_all([moc])
 
 

@@ -10,11 +10,13 @@ import warnings
 from types import ModuleType
 from typing import TYPE_CHECKING, Any
 
-from .errors import TOO_COARSE, MocError, check_order
+from ._codes import TOO_COARSE
+from ._files import FileError
+from .errors import MocError, check_order
 from .moc import MOC
 
 if TYPE_CHECKING:
-    import numpy
+    from numpy.typing import NDArray
 
 # The values of ORDERING, each with the name of the column.
 COLUMNS = {"NUNIQ": "UNIQ", "RANGE": "RANGE"}
@@ -22,27 +24,6 @@ COLUMNS = {"NUNIQ": "UNIQ", "RANGE": "RANGE"}
 EQUATORIAL = ("", "C", "ICRS")
 # The names of the key for the MOC order in MOC 2.0 and in MOC 1.1.
 ORDER_KEYS = ("MOCORD_S", "MOCORDER")
-
-
-class FitsError(ValueError):
-    """A FITS file that does not have a sky coverage.
-
-    Attributes
-    ----------
-    name : str
-        The name of the error: `NotFits`, `NotMoc`, `NotUniq`, `Backwards` or `PixelTooLarge`.
-    detail : str
-        What is wrong, with the key or the row.
-    file : str
-        The name of the file.
-    """
-
-    def __init__(self, name: str, detail: str, file: str = "") -> None:
-        self.name, self.detail, self.file = name, detail, file
-        super().__init__(": ".join(part for part in (file, name, detail) if part))
-
-    def __reduce__(self) -> tuple[type[FitsError], tuple[str, str, str]]:
-        return type(self), (self.name, self.detail, self.file)
 
 
 def _import_fits() -> ModuleType:
@@ -74,7 +55,7 @@ def read_fits(data: bytes, file: str = "") -> tuple[MOC, int | None]:
 
     Raises
     ------
-    FitsError
+    FileError
         If the file is not a FITS file, or does not have a table of a sky coverage.
     ImportError
         If astropy is not installed.
@@ -86,12 +67,12 @@ def read_fits(data: bytes, file: str = "") -> tuple[MOC, int | None]:
     if order is None:
         return moc, None
     if type(order) is not int or not 0 <= order <= 29:
-        raise FitsError("NotMoc", f"the MOC order {order!r} is not an order from 0 to 29", file)
+        raise FileError("NotMoc", f"the MOC order {order!r} is not an order from 0 to 29", file)
     return moc, max(order, moc.max_order)
 
 
-def _read_table(data: bytes, file: str) -> tuple[Any, numpy.ndarray]:
-    """Returns the header of the first binary table, and its only column. Raises FitsError if there is no table of a coverage."""
+def _read_table(data: bytes, file: str) -> tuple[Any, NDArray[Any]]:
+    """Returns the header of the first binary table, and its only column. Raises FileError if there is no table of a coverage."""
     fits = _import_fits()
     with warnings.catch_warnings():
         # Unusual keys and a missing end of the last block are warnings of astropy. Data that is missing is an error.
@@ -100,35 +81,35 @@ def _read_table(data: bytes, file: str) -> tuple[Any, numpy.ndarray]:
             with fits.open(io.BytesIO(data), memmap=False) as units:
                 table = next((unit for unit in units if isinstance(unit, fits.BinTableHDU)), None)
                 if table is None:
-                    raise FitsError("NotMoc", "the file has no binary table", file)
+                    raise FileError("NotMoc", "the file has no binary table", file)
                 _check_header(table.header, file)
                 numbers = table.data.field(0)
-        except (FitsError, MemoryError):
+        except (FileError, MemoryError):
             raise
         except Exception as error:
-            raise FitsError("NotFits", " ".join(str(error).split()), file) from error
+            raise FileError("NotFits", " ".join(str(error).split()), file) from error
     return table.header, numbers.reshape(-1)
 
 
 def _check_header(header: Any, file: str) -> None:
-    """Raises FitsError if the header of a table is not that of a sky coverage in equatorial coordinates."""
+    """Raises FileError if the header of a table is not that of a sky coverage in equatorial coordinates."""
     ordering, dimension, frame = (str(header.get(key, default)).strip().upper() for key, default in
                                   (("ORDERING", "missing"), ("MOCDIM", "SPACE"), ("COORDSYS", "")))
     if dimension != "SPACE":
-        raise FitsError("NotMoc", f"MOCDIM is {dimension}; only SPACE is supported", file)
+        raise FileError("NotMoc", f"MOCDIM is {dimension}; only SPACE is supported", file)
     if ordering not in COLUMNS:
-        raise FitsError("NotMoc", f"ORDERING is {ordering}; expected NUNIQ or RANGE", file)
+        raise FileError("NotMoc", f"ORDERING is {ordering}; expected NUNIQ or RANGE", file)
     if frame not in EQUATORIAL:
-        raise FitsError("NotMoc", f"COORDSYS is {frame}; only C, which is ICRS, is supported", file)
+        raise FileError("NotMoc", f"COORDSYS is {frame}; only C, which is ICRS, is supported", file)
     if header["TFIELDS"] != 1:
-        raise FitsError("NotMoc", f"the table has {header['TFIELDS']} columns; a coverage has one", file)
+        raise FileError("NotMoc", f"the table has {header['TFIELDS']} columns; a coverage has one", file)
     kinds = "K" if ordering == "RANGE" else "JK"
     if str(header["TFORM1"]).strip().lstrip("0123456789") not in kinds:
-        raise FitsError("NotMoc", f"TFORM1 is {header['TFORM1']}; expected {' or '.join(f'1{kind}' for kind in kinds)}", file)
+        raise FileError("NotMoc", f"TFORM1 is {header['TFORM1']}; expected {' or '.join(f'1{kind}' for kind in kinds)}", file)
 
 
-def _moc_of(ordering: str, numbers: numpy.ndarray, file: str) -> MOC:
-    """Returns the coverage of the numbers of a table. Raises FitsError with the row of the first invalid number."""
+def _moc_of(ordering: str, numbers: NDArray[Any], file: str) -> MOC:
+    """Returns the coverage of the numbers of a table. Raises FileError with the row of the first invalid number."""
     import numpy
 
     integers = numbers.astype(numpy.int64)
@@ -136,13 +117,13 @@ def _moc_of(ordering: str, numbers: numpy.ndarray, file: str) -> MOC:
     if ordering.strip().upper() == "RANGE":
         rows = 2
         if len(integers) % 2:
-            raise FitsError("NotMoc", f"the table has {len(integers)} bounds of ranges; expected an even number", file)
+            raise FileError("NotMoc", f"the table has {len(integers)} bounds of ranges; expected an even number", file)
     try:
         return MOC.from_ranges(integers.reshape(-1, 2)) if rows == 2 else MOC.from_uniq(integers)
     except MocError as error:
         row = error.place[0] * rows
         value = " to ".join(map(str, integers[row:row + rows].tolist()))
-        raise FitsError(error.name, f"row {row + 1}: {value}", file) from None
+        raise FileError(error.name, f"row {row + 1}: {value}", file) from None
 
 
 def write_fits(moc: MOC, *, max_order: int | None = None, ordering: str = "NUNIQ") -> bytes:

@@ -1,18 +1,18 @@
 """Outlines and centers of HEALPix cells on the sphere, in degrees (Górski et al. 2005, section 5)."""
 from __future__ import annotations
 
-from typing import TYPE_CHECKING
+from typing import TYPE_CHECKING, Any
 
 from .cells import pix2xyf
 
 if TYPE_CHECKING:
-    import numpy
+    from numpy.typing import NDArray
 
 MAX_RADIUS = 62.0
 """An upper bound, in degrees, of the distance from the center of a cell to its corners, times 2^order."""
 
 
-def _sphere(row: numpy.ndarray, column: numpy.ndarray, middle: numpy.ndarray) -> tuple[numpy.ndarray, numpy.ndarray]:
+def _sphere(row: NDArray[Any], column: NDArray[Any], middle: NDArray[Any]) -> tuple[NDArray[Any], NDArray[Any]]:
     """Returns the longitudes and latitudes of points of the HEALPix projection.
 
     Parameters
@@ -38,7 +38,7 @@ def _sphere(row: numpy.ndarray, column: numpy.ndarray, middle: numpy.ndarray) ->
     return middle + 45 * offset, numpy.degrees(numpy.arcsin(numpy.clip(height, -1, 1)))
 
 
-def _points(order: int, cells: numpy.ndarray, east: numpy.ndarray, west: numpy.ndarray) -> tuple[numpy.ndarray, numpy.ndarray]:
+def _points(order: int, cells: NDArray[Any], east: NDArray[Any], west: NDArray[Any]) -> tuple[NDArray[Any], NDArray[Any]]:
     """Returns the longitudes and latitudes of points of cells: a row for each cell, and a column for each point.
 
     Parameters
@@ -59,7 +59,7 @@ def _points(order: int, cells: numpy.ndarray, east: numpy.ndarray, west: numpy.n
     return _sphere(2 + ring - east - west, east - west, middle)
 
 
-def outlines(order: int, cells: numpy.ndarray, steps: int) -> tuple[numpy.ndarray, numpy.ndarray]:
+def outlines(order: int, cells: NDArray[Any], steps: int) -> tuple[NDArray[Any], NDArray[Any]]:
     """Returns the longitudes and latitudes of the outlines of cells, counterclockwise as seen from inside the sphere with north up.
 
     Parameters
@@ -83,7 +83,7 @@ def outlines(order: int, cells: numpy.ndarray, steps: int) -> tuple[numpy.ndarra
     return _points(order, cells, numpy.concatenate([along, ones, 1 - along, zeros]), numpy.concatenate([zeros, along, ones, 1 - along]))
 
 
-def centers(order: int, cells: numpy.ndarray) -> tuple[numpy.ndarray, numpy.ndarray]:
+def centers(order: int, cells: NDArray[Any]) -> tuple[NDArray[Any], NDArray[Any]]:
     """Returns the longitudes and latitudes of the centers of cells."""
     import numpy
 

@@ -7,7 +7,7 @@ from __future__ import annotations
 
 import math
 from collections.abc import Iterator
-from typing import Any, NamedTuple, Protocol
+from typing import TYPE_CHECKING, Any, NamedTuple, Protocol
 
 try:
     import numpy
@@ -20,6 +20,9 @@ except ImportError as missing:
 
 from ._outlines import MAX_RADIUS, centers, outlines
 from .moc import MOC
+
+if TYPE_CHECKING:
+    from numpy.typing import NDArray
 
 # The colors of Okabe and Ito, which color-blind readers can distinguish.
 PALETTE = ("#0072b2", "#e69f00", "#009e73", "#cc79a7", "#d55e00", "#56b4e9")
@@ -45,10 +48,10 @@ class View(Protocol):
     coarsest: int
     transform: Any
 
-    def select(self, order: int, cells: numpy.ndarray) -> numpy.ndarray:
+    def select(self, order: int, cells: NDArray[Any]) -> NDArray[Any]:
         """Returns the cells of an order that may be visible."""
 
-    def project(self, lon: numpy.ndarray, lat: numpy.ndarray) -> Iterator[numpy.ndarray]:
+    def project(self, lon: NDArray[Any], lat: NDArray[Any]) -> Iterator[NDArray[Any]]:
         """Yields arrays of polygons, of the shape (polygons, points, 2), for outlines in degrees with one row for each polygon."""
 
 
@@ -61,11 +64,11 @@ class SkyView:
         self._projection = ax.transProjection
         self.transform = ax.transAffine + ax.transAxes
 
-    def select(self, order: int, cells: numpy.ndarray) -> numpy.ndarray:
+    def select(self, order: int, cells: NDArray[Any]) -> NDArray[Any]:
         """Returns all cells."""
         return cells
 
-    def project(self, lon: numpy.ndarray, lat: numpy.ndarray) -> Iterator[numpy.ndarray]:
+    def project(self, lon: NDArray[Any], lat: NDArray[Any]) -> Iterator[NDArray[Any]]:
         """Yields the polygons that do not cross the seam at 180 degrees, and then both parts of each of the others."""
         middle = (lon.min(axis=1) + lon.max(axis=1)) / 2
         lon = lon - 360 * numpy.floor((middle + 180) / 360)[:, None]
@@ -77,10 +80,10 @@ class SkyView:
                 if len(polygon):
                     yield self._to_plane(polygon[None, :, 0], polygon[None, :, 1])
 
-    def _to_plane(self, lon: numpy.ndarray, lat: numpy.ndarray) -> numpy.ndarray:
+    def _to_plane(self, lon: NDArray[Any], lat: NDArray[Any]) -> NDArray[Any]:
         """Returns the positions of points in the plane."""
         points = numpy.stack([-numpy.radians(lon), numpy.radians(lat)], axis=-1)
-        plane: numpy.ndarray = self._projection.transform(points.reshape(-1, 2)).reshape(points.shape)
+        plane: NDArray[Any] = self._projection.transform(points.reshape(-1, 2)).reshape(points.shape)
         return plane
 
 
@@ -91,7 +94,7 @@ class FieldView:
 
     def __init__(self, ax: Any) -> None:
         self._wcs, self.transform = ax.wcs, ax.transData
-        columns, rows = numpy.meshgrid(*(numpy.linspace(*limits, 9) for limits in (ax.get_xlim(), ax.get_ylim())))
+        columns, rows = numpy.meshgrid(*(numpy.linspace(low, high, 9) for low, high in (ax.get_xlim(), ax.get_ylim())))
         positions = unit_vectors(*self._positions_of_pixels(columns, rows))
         self._center = positions[len(positions) // 2]
         self._radius = math.degrees(numpy.arccos(numpy.clip(positions @ self._center, -1, 1)).max())
@@ -101,17 +104,18 @@ class FieldView:
         # A projection may be wrong far from its center, so cells must be smaller than the axes.
         self.coarsest = min(29, max(2, order_of_width(self._radius)))
 
-    def _positions_of_pixels(self, columns: numpy.ndarray, rows: numpy.ndarray) -> tuple[numpy.ndarray, numpy.ndarray]:
+    def _positions_of_pixels(self, columns: NDArray[Any], rows: NDArray[Any]) -> tuple[NDArray[Any], NDArray[Any]]:
         """Returns the positions of pixels of the axes on the sky, in degrees."""
         positions = self._wcs.pixel_to_world(columns.reshape(-1), rows.reshape(-1)).icrs
         return positions.ra.deg, positions.dec.deg
 
-    def select(self, order: int, cells: numpy.ndarray) -> numpy.ndarray:
+    def select(self, order: int, cells: NDArray[Any]) -> NDArray[Any]:
         """Returns the cells whose distance from the middle of the axes is so small that they may be visible."""
         limit = min(180.0, self._radius + MAX_RADIUS / 2**order)
-        return cells[unit_vectors(*centers(order, cells)) @ self._center >= math.cos(math.radians(limit))]
+        selected: NDArray[Any] = cells[unit_vectors(*centers(order, cells)) @ self._center >= math.cos(math.radians(limit))]
+        return selected
 
-    def project(self, lon: numpy.ndarray, lat: numpy.ndarray) -> Iterator[numpy.ndarray]:
+    def project(self, lon: NDArray[Any], lat: NDArray[Any]) -> Iterator[NDArray[Any]]:
         """Yields the polygons whose points are all in the projection."""
         from astropy.coordinates import SkyCoord
 
@@ -123,7 +127,7 @@ class Cells(NamedTuple):
     """Cells of an order."""
 
     order: int
-    numbers: numpy.ndarray
+    numbers: NDArray[Any]
 
 
 def order_of_width(width: float) -> int:
@@ -131,13 +135,13 @@ def order_of_width(width: float) -> int:
     return min(29, max(0, math.ceil(math.log2(CELL_WIDTH / width))))
 
 
-def unit_vectors(lon: numpy.ndarray, lat: numpy.ndarray) -> numpy.ndarray:
+def unit_vectors(lon: NDArray[Any], lat: NDArray[Any]) -> NDArray[Any]:
     """Returns the vectors of positions in degrees, one in each row."""
     lon, lat = numpy.radians(lon), numpy.radians(lat)
     return numpy.stack([numpy.cos(lat) * numpy.cos(lon), numpy.cos(lat) * numpy.sin(lon), numpy.sin(lat)], axis=-1)
 
 
-def clip_to_sky(polygon: numpy.ndarray) -> numpy.ndarray:
+def clip_to_sky(polygon: NDArray[Any]) -> NDArray[Any]:
     """Returns the part of a polygon between the longitudes -180 and 180, with points along the seam. It has no points if it is empty."""
     points = polygon
     for limit, sign in ((180.0, 1), (-180.0, -1)):
@@ -145,7 +149,7 @@ def clip_to_sky(polygon: numpy.ndarray) -> numpy.ndarray:
     return points
 
 
-def _clip(polygon: numpy.ndarray, limit: float, sign: int) -> Iterator[numpy.ndarray]:
+def _clip(polygon: NDArray[Any], limit: float, sign: int) -> Iterator[NDArray[Any]]:
     """Yields the points of the part of a polygon whose longitudes times a sign are at most those of a limit (Sutherland and Hodgman)."""
     for start, end in zip(polygon, numpy.roll(polygon, -1, axis=0)):
         is_inside, ends_inside = sign * start[0] <= sign * limit, sign * end[0] <= sign * limit
@@ -156,7 +160,7 @@ def _clip(polygon: numpy.ndarray, limit: float, sign: int) -> Iterator[numpy.nda
             yield numpy.array([limit, crossing[1]])
 
 
-def add_seam_points(polygon: numpy.ndarray) -> numpy.ndarray:
+def add_seam_points(polygon: NDArray[Any]) -> NDArray[Any]:
     """Returns a polygon with points between each two successive points on the seam, which is curved in the plane."""
     pieces = []
     for start, end in zip(polygon, numpy.roll(polygon, -1, axis=0)):

@@ -12,7 +12,7 @@ from typing import TYPE_CHECKING, Any
 from .errors import check_order
 
 if TYPE_CHECKING:
-    import numpy
+    from numpy.typing import NDArray
 
 # The modules that have the function `ang2pix` of healpy.
 _MODULES = ("astropy_healpix.healpy", "healpy")
@@ -42,10 +42,11 @@ def degrees_of(angles: Any, *, compress: bool = False) -> Any:
     unit = getattr(angles, "unit", None)
     if unit is not None:
         angles = angles.value * unit.to("deg")
-    if numpy.ma.is_masked(angles) and not compress:
-        raise TypeError("the array has masked entries: pass array.compressed(), or fill them")
+    masked: Any = numpy.ma
     if compress:
-        return numpy.ma.asarray(angles, numpy.float64)
+        return masked.asarray(angles, numpy.float64)
+    if masked.is_masked(angles):
+        raise TypeError("the array has masked entries: pass array.compressed(), or fill them")
     return numpy.asarray(angles, numpy.float64)
 
 
@@ -57,7 +58,7 @@ def positions_of(coordinates: Any) -> tuple[Any, Any]:
     return equatorial.ra.deg, equatorial.dec.deg
 
 
-def _check(lon: numpy.ndarray, lat: numpy.ndarray) -> None:
+def _check(lon: NDArray[Any], lat: NDArray[Any]) -> None:
     """Raises ValueError for the first longitude that is not finite, or latitude outside -90 to 90, with its index."""
     import numpy
 
@@ -68,7 +69,7 @@ def _check(lon: numpy.ndarray, lat: numpy.ndarray) -> None:
             raise ValueError(f"{name} {values[index]} at index {index}: {expected}")
 
 
-def pixels_of(lon: numpy.ndarray, lat: numpy.ndarray, depth: int) -> numpy.ndarray:
+def pixels_of(lon: NDArray[Any], lat: NDArray[Any], depth: int) -> NDArray[Any]:
     """Returns the nested numbers of the cells that contain positions, in the shape of both arrays, which are broadcast.
 
     Parameters
@@ -102,17 +103,18 @@ def _pieces(count: int) -> Iterator[slice]:
     return (slice(start, start + _PIECE_SIZE) for start in range(0, count, _PIECE_SIZE))
 
 
-def cells_of_catalogue(lon: Any, lat: Any, depth: int) -> numpy.ndarray:
+def cells_of_catalogue(lon: Any, lat: Any, depth: int) -> NDArray[Any]:
     """Returns the cells of positions, without the positions whose longitude or latitude is masked."""
     import numpy
 
+    masked: Any = numpy.ma
     longitudes, latitudes = degrees_of(lon, compress=True), degrees_of(lat, compress=True)
-    mask = numpy.ma.getmaskarray(longitudes + latitudes)
+    mask = masked.getmaskarray(longitudes + latitudes)
     longitudes, latitudes = numpy.broadcast_arrays(longitudes.data, latitudes.data)
     return pixels_of(longitudes[~mask], latitudes[~mask], depth)
 
 
-def flags_of_positions(contains: Callable[[numpy.ndarray], Any], lon: Any, lat: Any) -> Any:
+def flags_of_positions(contains: Callable[[NDArray[Any]], Any], lon: Any, lat: Any) -> Any:
     """Returns what `contains` returns for the pixels of positions, as a bool, as a list, or as an array if one of the arguments is one."""
     flags = contains(pixels_of(degrees_of(lon), degrees_of(lat), 29))
     return flags if any(hasattr(angles, "__array__") for angles in (lon, lat)) else flags.tolist()

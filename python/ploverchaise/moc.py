@@ -151,11 +151,11 @@ class MOC:
         Raises
         ------
         OSError
-            If the file cannot be read, or is compressed and damaged.
+            If the file cannot be read.
         MocError
             As in `from_string`.
         ValueError
-            If the format is unknown, or the file is a FITS file without a sky coverage.
+            If the format is unknown, if a compressed file is damaged, or if a FITS file has no sky coverage.
         ImportError
             If the file is a FITS file, and astropy is not installed.
         """
