@@ -327,17 +327,15 @@ def draw_files(files: list[tuple[str, CoverageFile]], options: argparse.Namespac
     except ImportError as error:
         raise ImportError("plots need the package matplotlib: pip install matplotlib, or apt install python3-matplotlib") from error
     matplotlib.use("Agg")
-    ax = None
-    for name, file in files:
-        place = {"center": options.center, "radius": options.radius} if ax is None else {}
-        try:
+    try:
+        ax: Any = None
+        for name, file in files:
+            place = {"center": options.center, "radius": options.radius} if ax is None else {}
             ax = file.moc.plot(ax, label=os.path.basename(name), **place)
-        except ValueError as error:
-            raise CommandError(USAGE, "ploverchaise", str(error)) from error
-    if options.title and ax is not None:
         ax.set_title(options.title)
-    if ax is not None:
         ax.figure.savefig(options.output, dpi=200)
+    except ValueError as error:
+        raise CommandError(USAGE, "ploverchaise", str(error)) from error
 
 
 def add_output(parser: argparse.ArgumentParser) -> None:
@@ -363,7 +361,7 @@ def add_plot(parser: argparse.ArgumentParser) -> None:
     parser.add_argument("--overwrite", action="store_true", help="replace a file that exists")
     parser.add_argument("--center", type=float, nargs=2, metavar=("RA", "DEC"), help="the middle of a part of the sky, in degrees")
     parser.add_argument("--radius", type=float, metavar="DEGREES", help="the distance from the middle to the sides")
-    parser.add_argument("--title", help="a title")
+    parser.add_argument("--title", default="", help="a title")
 
 
 # Each command, with its function and its help.

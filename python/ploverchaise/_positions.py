@@ -15,7 +15,7 @@ if TYPE_CHECKING:
     from numpy.typing import NDArray
 
 # The modules that have the function `ang2pix` of healpy.
-_MODULES = ("astropy_healpix.healpy", "healpy")
+_MODULES: tuple[str, ...] = ("astropy_healpix.healpy", "healpy")
 # The number of positions that are converted at once. Ctrl-C is answered between two pieces.
 _PIECE_SIZE = 2**18
 
