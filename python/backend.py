@@ -28,6 +28,11 @@ def metadata(project):
             f"Requires-Python: {project['requires-python']}\n{''.join(extras)}")
 
 
+def entry_points(project):
+    """Returns the content of the file that lists the programs of the package."""
+    return "[console_scripts]\n" + "".join(f"{name} = {function}\n" for name, function in project["scripts"].items())
+
+
 def package_files():
     """Returns the paths of the files of the package, relative to this folder and with `/`."""
     names = sorted(it for it in os.listdir(os.path.join(TOP, PACKAGE)) if it.endswith((".py", ".typed")))
@@ -58,6 +63,7 @@ def build_wheel(wheel_directory, config_settings=None, metadata_directory=None):
         with open(os.path.join(TOP, name), "rb") as file:
             files[name] = file.read()
     files[f"{info}/METADATA"] = metadata(project).encode()
+    files[f"{info}/entry_points.txt"] = entry_points(project).encode()
     files[f"{info}/WHEEL"] = f"Wheel-Version: 1.0\nGenerator: ploverchaise\nRoot-Is-Purelib: false\nTag: {TAG}\n".encode()
     digests = {name: base64.urlsafe_b64encode(hashlib.sha256(data).digest()).rstrip(b"=").decode() for name, data in files.items()}
     record = "".join(f"{name},sha256={digests[name]},{len(data)}\n" for name, data in files.items())

@@ -126,7 +126,8 @@ class Commands(CommandCase):
     @unittest.skipUnless(os.access(PROGRAM, os.X_OK), "not built: the program moc")
     def test_errors_are_those_of_the_program(self) -> None:
         numbers = random.Random(2005)
-        samples = [b"1/0-3\n2/7-5 s3/4,5\n", b'{"1": [0, 4],\n "2": [20], "09": [true]}', b"17\n18\n\n1234\n", b"1/0 5/7\\`\x80 " + b"9" * 50]
+        samples = [b"1/0-3\n2/7-5 s3/4,5\n", b'{"1": [0, 4],\n "2": [20], "09": [true]}', b"17\n18\n\n1234\n",
+                   b"1/0 5/7\\`\x80 " + b"9" * 50]
         options = [b"0", b"9", b"/", b"-", b" ", b"\n", b"x", b"true", b'"', b"[", b"99", b"\x00"]
         texts: list[bytes] = []
         for number in range(120):
