@@ -2,6 +2,7 @@
 from __future__ import annotations
 
 import gzip
+import io
 import os
 import pathlib
 import random
@@ -9,9 +10,11 @@ import subprocess
 import sys
 import tempfile
 import unittest
+from contextlib import redirect_stderr, redirect_stdout
 from typing import NamedTuple
+from unittest import mock
 
-from ploverchaise import MOC
+from ploverchaise import MOC, _command_line
 
 from .common import TOP, TestCase, needs
 
@@ -122,6 +125,21 @@ class Commands(CommandCase):
                                         stderr=subprocess.PIPE, text=True, timeout=60)
             self.assertEqual((result.returncode, result.stderr),
                              (3, "standard output: fault Write\nstandard output: No space left on device\n"))
+
+    def test_progress_on_a_terminal(self) -> None:
+        class Terminal(io.StringIO):
+            """A text that counts as a terminal."""
+
+            def isatty(self) -> bool:
+                return True
+
+        for kind in (Terminal, io.StringIO):
+            errors, output = kind(), io.StringIO()
+            with mock.patch.object(_command_line, "PROGRESS_DELAY", 0), redirect_stderr(errors), redirect_stdout(output):
+                status = _command_line.main(["check", *(str(self.folder / name) for name in ("a.moc", "bad.uniq", "c.uniq"))])
+            self.assertEqual((status, output.getvalue().count(": ok\n")), (1, 2))
+            self.assertEqual("\r\x1b[K1 of 3 files checked\r\x1b[K" in errors.getvalue(), kind is Terminal)
+            self.assertEqual(errors.getvalue().endswith("\r\x1b[K"), kind is Terminal)
 
     @unittest.skipUnless(os.access(PROGRAM, os.X_OK), "not built: the program moc")
     def test_errors_are_those_of_the_program(self) -> None:
