@@ -14,6 +14,7 @@ try:
     from matplotlib import pyplot
     from matplotlib.patches import PathPatch
     from matplotlib.path import Path
+    from matplotlib.patheffects import withStroke
     from matplotlib.ticker import FuncFormatter
 except ImportError as missing:
     raise ImportError("plots need the package matplotlib: pip install matplotlib, or apt install python3-matplotlib") from missing
@@ -213,7 +214,9 @@ def new_sky() -> Any:
     ax.set_latitude_grid(30)
     ax.set_longitude_grid_ends(90)
     ax.xaxis.set_major_formatter(FuncFormatter(lambda angle, _: f"{round(-math.degrees(angle)) % 360}°"))
-    ax.tick_params(axis="x", colors="0.3", labelsize="small")
+    for text in ax.get_xticklabels():
+        # These labels are on the sky.
+        text.set(size="small", path_effects=[withStroke(linewidth=2, foreground="white")])
     ax.grid(color="0.6", linewidth=0.5)
     ax.set_axisbelow(False)
     return ax
@@ -265,7 +268,8 @@ def plot(moc: MOC, ax: Any, *, center: Any, radius: float | None, label: str | N
         raise ValueError("center and radius are for a new figure, and ax is for an existing one")
     view = view_of(ax)
     chosen = {"facecolor": PALETTE[len(ax.patches) % len(PALETTE)], "edgecolor": "none", "alpha": 0.55, "linewidth": 0.5, **style}
-    ax.add_patch(PathPatch(path_of(moc, view), transform=view.transform, label=label, **chosen))
+    # `add_patch` would also compute the limits of the data, which takes long for many cells.
+    ax.add_artist(PathPatch(path_of(moc, view), transform=view.transform, label=label, **chosen))
     if label is not None:
         ax.legend(loc="upper right", framealpha=0.9)
     return ax
