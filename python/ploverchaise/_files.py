@@ -1,11 +1,11 @@
 """Files of coverages. The format of a file is recognized by its content, and that of a new file by its name."""
 from __future__ import annotations
 
+import json
 import os
 import re
-from typing import NamedTuple
+from typing import Any, NamedTuple
 
-from ._library import NO_ORDER, c_arguments, call_with_store, open_store
 from .errors import MocError
 from .moc import MOC
 
@@ -132,12 +132,19 @@ def parse(data: bytes, format: str | None = None, file: str = "") -> CoverageFil
         return CoverageFile(moc, chosen, order)
     if chosen not in TEXT_FORMATS:
         raise ValueError(f"format must be one of {', '.join(FORMATS)}, not {chosen}")
-    store = open_store()
+    text_format: Any = chosen
     try:
-        result = call_with_store(f"read_{chosen}", store, *c_arguments(data))
+        return CoverageFile(MOC.from_string(data, text_format), chosen, stated_order(data, chosen))
     except MocError as error:
         raise TextError(error, data, chosen) from error
-    return CoverageFile(MOC._in_store(store, result.first), chosen, None if result.second == NO_ORDER else result.second)
+
+
+def stated_order(data: bytes, format: str) -> int | None:
+    """Returns the MOC order of a valid text, which is the deepest order that it names, or None if it names none."""
+    if format == "uniq":
+        return None
+    orders = json.loads(data) if format == "json" else re.findall(rb"([0-9]+)/", data)
+    return max(map(int, orders), default=None)
 
 
 def serialize(moc: MOC, format: str, order: int | None = None) -> bytes:
@@ -165,7 +172,8 @@ def serialize(moc: MOC, format: str, order: int | None = None) -> bytes:
         return write_fits(moc, max_order=order, ordering=FITS_FORMATS[format])
     if format not in TEXT_FORMATS:
         raise ValueError(f"format must be one of {', '.join(FORMATS)}, not {format}")
-    text = moc.to_string(format, max_order=order)
+    text_format: Any = format
+    text = moc.to_string(text_format, max_order=order)
     return (text + "\n" if text else "").encode("ascii")
 
 
