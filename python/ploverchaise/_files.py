@@ -143,7 +143,8 @@ def stated_order(data: bytes, format: str) -> int | None:
     """Returns the MOC order of a valid text, which is the deepest order that it names, or None if it names none."""
     if format == "uniq":
         return None
-    orders = json.loads(data) if format == "json" else re.findall(rb"([0-9]+)/", data)
+    # The last two digits before a slash suffice, because an order is at most 29.
+    orders = json.loads(data) if format == "json" else (part[-2:].lstrip(b"s, \t\r\n") for part in data.split(b"/")[:-1])
     return max(map(int, orders), default=None)
 
 

@@ -15,6 +15,7 @@ from typing import NamedTuple
 from unittest import mock
 
 from ploverchaise import MOC, _command_line
+from ploverchaise._files import parse
 
 from .common import TOP, TestCase, needs
 
@@ -70,6 +71,11 @@ class Commands(CommandCase):
         self.assertEqual(self.run_command("convert", "a.moc", "-o", "d.json"), (3, "", "d.json: fault Write\nd.json: File exists\n"))
         self.assertEqual(self.run_command("convert", "a.moc", "-o", "d.json", "--overwrite").status, 0)
         self.assertEqual(MOC.load(self.folder / "d.json"), MOC.from_string("0/0 1/4-5"))
+
+    def test_orders_of_texts(self) -> None:
+        for text, order in (("1/0 s9/ 5/3", 9), ("0/0,29/", 29), ("7/\n1/3", 7), ("00008/", 8), ("1/3,s07/2-3\t3/", 7), ("", None),
+                            ('{"1":[0],"07":[]}', 7), ('{"\\u0033":[]}', 3), ("{}", None), ("16\n", None)):
+            self.assertEqual(parse(text.encode()).order, order, text)
 
     def test_check(self) -> None:
         result = self.run_command("check", "a.moc", "bad.moc", "[bc].*", "bad.[ju]*", "missing.moc")
