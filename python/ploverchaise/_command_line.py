@@ -17,7 +17,7 @@ from contextlib import contextmanager
 from typing import Any, NamedTuple
 
 from ._diagnostics import position_of, quote
-from ._files import FORMATS, CoverageFile, FileError, TextError, format_of_name, parse, serialize, write_file
+from ._files import FORMATS, CoverageFile, FileError, TextError, format_of_name, parse, read_file, serialize, write_file
 from .errors import MocError
 from .moc import MOC
 
@@ -84,10 +84,7 @@ def errors_of(file: str, name: str = "Read") -> Iterator[None]:
 def read_bytes(path: str) -> bytes:
     """Returns the content of a file or of standard input. Raises CommandError if it cannot be read."""
     with errors_of(display_name(path)):
-        if path == STANDARD_INPUT:
-            return sys.stdin.buffer.read()
-        with open(path, "rb") as file:
-            return file.read()
+        return sys.stdin.buffer.read() if path == STANDARD_INPUT else read_file(path)
 
 
 def display_name(path: str) -> str:

@@ -21,6 +21,8 @@ _GZIP_MAGIC, _FITS_MAGIC = b"\x1f\x8b", b"SIMPLE  ="
 # The formats of the suffixes of names. Other names are those of ASCII texts.
 _SUFFIXES = {".fits": "fits", ".fit": "fits", ".fts": "fits", ".json": "json", ".uniq": "uniq"}
 _COMPRESSED = ".gz"
+# The number of bytes that are read or written at once. Ctrl-C is answered between two pieces.
+_PIECE = 2**22
 _FIRST_LINE_OF_UNIQ = re.compile(rb"\s*[0-9]+[ \t\r]*(?:\n|\Z)")
 
 
@@ -178,6 +180,12 @@ def serialize(moc: MOC, format: str, order: int | None = None) -> bytes:
     return (text + "\n" if text else "").encode("ascii")
 
 
+def read_file(path: str | os.PathLike[str]) -> bytes:
+    """Returns the content of a file. Raises OSError if it cannot be read."""
+    with open(path, "rb") as file:
+        return b"".join(iter(lambda: file.read(_PIECE), b""))
+
+
 def write_file(path: str | os.PathLike[str], data: bytes, *, overwrite: bool) -> None:
     """Writes the content of a file, compressed with gzip if the name ends with `.gz`.
 
@@ -193,13 +201,13 @@ def write_file(path: str | os.PathLike[str], data: bytes, *, overwrite: bool) ->
 
         data = gzip.compress(data, mtime=0)
     with open(path, "wb" if overwrite else "xb") as file:
-        file.write(data)
+        for start in range(0, len(data), _PIECE):
+            file.write(data[start:start + _PIECE])
 
 
 def load(moc_type: type[MOC], path: str | os.PathLike[str], format: str | None) -> MOC:
     """Returns the coverage of a file, as `MOC.load` documents it."""
-    with open(path, "rb") as file:
-        data = file.read()
+    data = read_file(path)
     try:
         moc = parse(data, format, os.fspath(path)).moc
     except TextError as error:
