@@ -296,6 +296,11 @@ class MOC:
             `NoSuchOrder` if the order is not 0 to 29.
         ImportError
             If neither astropy-healpix nor healpy is installed.
+
+        Examples
+        --------
+        >>> MOC.from_lonlat([45, 90], [80, 0], 0).to_string()
+        '0/0 5'
         """
         from ._positions import cells_of_catalogue
 
@@ -303,7 +308,14 @@ class MOC:
 
     @classmethod
     def from_skycoords(cls, skycoords: Any, depth: int) -> MOC:
-        """Returns the cells of an order that contain the positions of a `SkyCoord` of any frame. Raises as `from_lonlat`."""
+        """Returns the cells of an order that contain the positions of a `SkyCoord` of any frame. Raises as `from_lonlat`.
+
+        Examples
+        --------
+        >>> from astropy.coordinates import SkyCoord
+        >>> MOC.from_skycoords(SkyCoord(0, 0, unit="deg", frame="galactic"), 2).to_string()
+        '2/112'
+        """
         from ._positions import positions_of
 
         return cls.from_lonlat(*positions_of(skycoords), depth)
@@ -586,13 +598,25 @@ class MOC:
             If an entry is masked.
         ImportError
             If neither astropy-healpix nor healpy is installed.
+
+        Examples
+        --------
+        >>> MOC.from_string("0/5").contains_lonlat([90, 180], [0, 0])
+        [True, False]
         """
         from ._positions import flags_of_positions
 
         return flags_of_positions(self.contains, lon, lat)
 
     def contains_skycoords(self, skycoords: Any) -> Any:
-        """Returns for each position of a `SkyCoord` of any frame whether the MOC contains its pixel. Raises as `contains_lonlat`."""
+        """Returns for each position of a `SkyCoord` of any frame whether the MOC contains its pixel. Raises as `contains_lonlat`.
+
+        Examples
+        --------
+        >>> from astropy.coordinates import SkyCoord
+        >>> MOC.from_string("0/5").contains_skycoords(SkyCoord([90, 180], [0, 0], unit="deg")).tolist()
+        [True, False]
+        """
         from ._positions import positions_of
 
         return self.contains_lonlat(*positions_of(skycoords))
@@ -847,6 +871,13 @@ class MOC:
             If the radius is missing or out of its bounds, if both `ax` and `center` are given, or if `ax` has another projection.
         ImportError
             If matplotlib is not installed, or if astropy is not and the figure has a part of the sky.
+
+        Examples
+        --------
+        >>> ax = MOC.from_string("0/5").plot(label="first")
+        >>> ax = MOC.from_string("1/16-17").plot(ax, label="second", facecolor="none", edgecolor="red")
+        >>> [text.get_text() for text in ax.get_legend().get_texts()]
+        ['first', 'second']
         """
         from ._plot import plot
 
