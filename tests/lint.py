@@ -23,7 +23,8 @@ MYPY = ["mypy", "--strict", "--config-file=", "--cache-dir", os.devnull, "--foll
         "--ignore-missing-imports"]
 # The folders of Python scripts, each with the folders of the modules that its scripts import. Each folder is checked separately, because
 # some modules of different folders have the same names.
-PYTHON_FOLDERS: list[tuple[str, list[str]]] = [("tests", ["tools"]), ("tests/package", ["python"]), ("tools", []), ("bench", ["python"])]
+PYTHON_FOLDERS: list[tuple[str, list[str]]] = [
+    ("tests", ["tools"]), ("tests/package", ["python"]), ("tools", []), ("bench", ["python"]), ("python/ploverchaise", [])]
 
 
 def check_command(tally: Tally, name: str, command: list[str], folder: str = TOP, environment: dict[str, str] | None = None) -> None:

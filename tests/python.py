@@ -18,8 +18,8 @@ PACKAGE = os.path.join(TOP, "python")
 # This Python, and the one for which Debian's packages are.
 PYTHONS = [sys.executable, "/usr/bin/python3"]
 TIME_LIMIT = 600
-INSTALLED = ["__init__.py", "_arrays.py", "_codes.py", "_library.py", "_signatures.py", "cells.py", "errors.py", "libploverchaise.so",
-             "moc.py", "py.typed", "shared.py"]
+INSTALLED = ["__init__.py", "_arrays.py", "_codes.py", "_library.py", "_regions.py", "_signatures.py", "cells.py", "errors.py",
+             "libploverchaise.so", "moc.py", "py.typed", "shared.py"]
 
 
 def python_with(module: str) -> str | None:

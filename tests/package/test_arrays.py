@@ -34,7 +34,7 @@ class WithoutNumpy(TestCase):
             result = nest2ring(2, argument)
             self.assertEqual((result, type(result)), (expected, type(expected)))
         for argument in ([], MOC()._bounds(), *([numpy.zeros(0, "int64")] if numpy else [])):
-            address, count = _arrays.as_array(argument).c_arguments
+            address, count, _ = _arrays.as_input(argument).buffer(slice(0, 0))
             self.assertEqual((address != 0, count), (True, 0))
         self.assertIs(MOC.full().contains(7), True)
         self.assertEqual(MOC.full().contains([7]), [True])
@@ -67,7 +67,7 @@ class WithNumpy(TestCase):
         self.assertArray(ring2nest(2**29, records["cell"]), expected, "int64")
         shifted = numpy.frombuffer(b"." + cells.tobytes(), "i8", offset=1)
         self.assertArray(ring2nest(2**29, shifted), expected, "int64")
-        self.assertTrue(_arrays.as_array(shifted).numbers.flags.aligned)
+        self.assertEqual(_arrays.as_input(shifted).buffer(slice(0, 600)).address % 8, 0)
         bits = numpy.frombuffer(b"." + cells.tobytes(), numpy.uint8)[1:].view(numpy.uint64)
         self.assertFalse(bits.flags.aligned)
         self.assertArray(ring2nest(2**29, bits), expected, "int64")

@@ -69,7 +69,8 @@ class Errors(TestCase):
             MOC.from_healpix_cells([0, 1], [0])
 
     def test_numbers(self) -> None:
-        for call in (nest2ring, ring2nest, nest2uniq, pix2xyf, get_all_neighbours):
+        calls: list[Callable[..., object]] = [nest2ring, ring2nest, nest2uniq, pix2xyf, get_all_neighbours]
+        for call in calls:
             self.assertFault("NoSuchCell", (1,), call, 2, [47, 48, 0])
             self.assertFault("NoSuchCell", (0,), call, 2, -1)
             self.assertFault("NoSuchCell", (0,), call, 2**29, 2**70)
@@ -109,8 +110,9 @@ class Errors(TestCase):
             MOC.full().degrade_to_order(fraction)
 
     def test_formats(self) -> None:
-        calls: list[Callable[[], object]] = [lambda: MOC.from_string("", "fits"), lambda: MOC().to_string("fits"),
-                                             lambda: MOC().serialize("fits")]
+        fits: Any = "fits"
+        calls: list[Callable[[], object]] = [lambda: MOC.from_string("", fits), lambda: MOC().to_string(fits),
+                                             lambda: MOC().serialize(fits)]
         for call in calls:
             with self.assertRaises(ValueError):
                 call()

@@ -11,9 +11,11 @@ from collections.abc import Callable, Iterator
 from typing import Any
 
 from ploverchaise import MOC, MocError, nest2ring
+from ploverchaise.moc import Format
 
 from .common import BASE, NUMBERS, PIXELS, TestCase, random_cells, sorted_ranges
 
+FORMATS: list[Format] = ["ascii", "json", "uniq"]
 # ASCII texts, the text of the set without a MOC order, and the deepest order of its cells.
 ASCII = [
     ("", "", 0), ("8/", "", 0), ("0/0 1/3", "0/0", 0), ("2/0-3", "1/0", 1), ("2/0-3,1/1 1/2,3", "0/0", 0),
@@ -93,7 +95,8 @@ class Examples(TestCase):
         moc = MOC.from_string("0/0 1/4 8/")
         with tempfile.TemporaryDirectory() as folder:
             path = pathlib.Path(folder, "moc.txt")
-            for format, text in (("ascii", "0/0 1/4\n"), ("json", '{"0":[0],"1":[4]}\n'), ("uniq", "4\n20\n")):
+            texts: list[tuple[Format, str]] = [("ascii", "0/0 1/4\n"), ("json", '{"0":[0],"1":[4]}\n'), ("uniq", "4\n20\n")]
+            for format, text in texts:
                 moc.save(path, format, overwrite=True)
                 self.assertEqual((path.read_text(), MOC.load(path, format)), (text, moc))
             moc.save(str(path), max_order=8, overwrite=True)
@@ -109,13 +112,13 @@ class Examples(TestCase):
     def test_errors_have_values(self) -> None:
         with self.assertRaises(MocError) as caught:
             MOC.from_healpix_cells([5, 48], 1)
-        self.assertEqual(caught.exception.detail, "48 is not a cell of order 1, which are 0 to 47")
-        self.assertTrue(str(caught.exception).endswith("(place 1): 48 is not a cell of order 1, which are 0 to 47"))
+        self.assertEqual(caught.exception.detail, "48 is not a cell of order 1 (0 to 47)")
+        self.assertTrue(str(caught.exception).endswith("(place 1): 48 is not a cell of order 1 (0 to 47)"))
         again = pickle.loads(pickle.dumps(caught.exception))
         self.assertEqual((str(again), again.place, again.detail), (str(caught.exception), (1,), caught.exception.detail))
         with self.assertRaises(MocError) as caught:
             MOC.from_healpix_cells([5, 700, 3], [1, 2, 1])
-        self.assertEqual((caught.exception.place, caught.exception.detail), ((1,), "700 is not a cell of order 2, which are 0 to 191"))
+        self.assertEqual((caught.exception.place, caught.exception.detail), ((1,), "700 is not a cell of order 2 (0 to 191)"))
         with self.assertRaises(MocError) as caught:
             MOC.full().degrade_to_order(30)
         self.assertEqual(caught.exception.detail, "orders are 0 to 29")
@@ -296,7 +299,7 @@ class Random(TestCase):
 
     def test_texts_and_back(self) -> None:
         for _, _, _, moc, other in self.pairs():
-            for text_format in ("ascii", "json", "uniq"):
+            for text_format in FORMATS:
                 for one in (moc, other, moc ^ other):
                     self.assertEqual(MOC.from_string(one.to_string(text_format), text_format), one)
 
