@@ -17,6 +17,8 @@ from ._signatures import Result, StoreHandle
 from .errors import MocError, check_order
 
 if TYPE_CHECKING:
+    from pickle import PickleBuffer
+
     import numpy
     from numpy.typing import NDArray
 
@@ -1219,8 +1221,11 @@ class MOC:
 
     def _repr_svg_(self) -> str:
         """Returns the picture that a notebook displays. It has at most 100 kB, and shows larger cells if necessary."""
-        pictures = (self._degraded(order).draw() for order in _PICTURE_ORDERS)
-        return next(picture for picture in pictures if len(picture) <= _MAX_PICTURE_LENGTH)
+        for order in _PICTURE_ORDERS:
+            picture = self._degraded(order).draw()
+            if len(picture) <= _MAX_PICTURE_LENGTH:
+                break
+        return picture
 
     def __str__(self) -> str:
         """Returns the text of `to_string`. A long one is cut, and ends with its length, so that no call parses it."""
@@ -1243,10 +1248,10 @@ class MOC:
         return _unpickle, (type(self), bounds.tobytes())
 
 
-def _unpickle(kind: type[AnyMOC], data: bytes | memoryview) -> AnyMOC:
+def _unpickle(kind: type[AnyMOC], data: bytes | bytearray | PickleBuffer) -> AnyMOC:
     """Returns the MOC with these bounds of ranges, which are the bytes of `MOC._bounds`."""
     bounds = array("Q")
-    bounds.frombytes(data)
+    bounds.frombytes(memoryview(data).cast("B"))
     return kind._from_input("from_ranges", None, PlainInput(bounds, width=2))
 
 

@@ -1,6 +1,7 @@
 """Signal handlers that raise exceptions during long calls."""
 from __future__ import annotations
 
+import _thread
 import os
 import signal
 import tempfile
@@ -140,7 +141,7 @@ class Interrupts(TestCase):
     def wait_for_other_threads(self) -> None:
         """Waits until the calls that were interrupted have ended."""
         end = time.monotonic() + 10
-        while threading._count() > threading.active_count() - 1 and time.monotonic() < end:  # type: ignore[attr-defined]
+        while _thread._count() and time.monotonic() < end:
             time.sleep(0.01)
 
 
@@ -161,10 +162,11 @@ class Pieces(TestCase):
     def test_results_of_pieces(self) -> None:
         cells = range(12 * 4**8)
         rings = nest2ring(2**8, cells)
-        self.assertEqual(sorted(rings), list(cells))
-        self.assertEqual(ring2nest(2**8, rings), list(cells))
+        # A comparison of long lists by assertEqual takes minutes if it fails.
+        self.assertTrue(sorted(rings) == list(cells))
+        self.assertTrue(ring2nest(2**8, rings) == list(cells))
         self.assertEqual(MOC.from_healpix_cells(cells, 8), MOC.full())
         every_second = MOC.from_healpix_cells(range(0, 12 * 4**8, 2), 8)
         self.assertEqual(every_second.ranges()[-1], ((12 * 4**8 - 2) * 4**21, (12 * 4**8 - 1) * 4**21))
         self.assertEqual(MOC.from_ranges(every_second.ranges()), every_second)
-        self.assertEqual(every_second.contains([cell * 4**21 for cell in cells]), [cell % 2 == 0 for cell in cells])
+        self.assertTrue(every_second.contains([cell * 4**21 for cell in cells]) == [cell % 2 == 0 for cell in cells])
