@@ -28,6 +28,8 @@ Value = TypeVar("Value")
 
 NO_ORDER = 255
 """The value of an optional order that is not stated, `MOC_NO_ORDER` in C."""
+# The time in seconds after which another thread that has not begun a call does not make it.
+_MAX_START_TIME = 0.2
 _NUMBER_ERRORS = (NO_SUCH_CELL, NOT_UNIQ, RANGE_BACKWARDS, RANGE_PIXEL_TOO_LARGE)
 
 
@@ -88,15 +90,17 @@ def check_result(result: Result, name: str = "") -> Result:
     raise MocError(result.code, result.first, result.second)
 
 
-def c_arguments(*arguments: Any) -> Iterator[Any]:
-    """Returns an iterator over arguments for C: a buffer and bytes become an address and a length. The caller keeps their memory alive."""
+def c_arguments(*arguments: Any) -> list[Any]:
+    """Returns the arguments for C: a buffer and bytes become an address and a length. The caller keeps their memory alive."""
+    converted: list[Any] = []
     for argument in arguments:
-        if isinstance(argument, Buffer):
-            yield from (argument.address, argument.length)
-        elif isinstance(argument, bytes):
-            yield from (argument, len(argument))
+        if type(argument) is Buffer:
+            converted += argument[:2]
+        elif type(argument) is bytes:
+            converted += argument, len(argument)
         else:
-            yield argument
+            converted.append(argument)
+    return converted
 
 
 def open_store() -> StoreHandle:
@@ -184,25 +188,32 @@ def run_interruptibly(call: Callable[[], Value]) -> Value:
     """
     if threading.current_thread() is not threading.main_thread():
         return call()
-    ended = _thread.allocate_lock()
+    begun, ended = _thread.allocate_lock(), _thread.allocate_lock()
     ended.acquire()
     values: list[Value] = []
     errors: list[BaseException] = []
 
     def run() -> None:
-        try:
-            values.append(call())
-        except BaseException as error:
-            errors.append(error)
-        finally:
-            ended.release()
+        if begun.acquire(blocking=False):
+            try:
+                values.append(call())
+            except BaseException as error:
+                errors.append(error)
+            finally:
+                ended.release()
 
     try:
         _thread.start_new_thread(run, ())
-    except RuntimeError:
-        # No memory is left for another thread.
+    except (RuntimeError, MemoryError):
         return call()
-    ended.acquire()
-    if errors:
+    # If little memory is left, the other thread may end before it begins the call.
+    if not ended.acquire(timeout=_MAX_START_TIME):
+        if begun.acquire(blocking=False):
+            return call()
+        ended.acquire()
+    if values:
+        return values.pop()
+    if errors and not isinstance(errors[0], MemoryError):
         raise errors.pop()
-    return values.pop()
+    # This thread has more memory than the other one, if the memory of the process is limited.
+    return call()

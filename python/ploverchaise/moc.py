@@ -338,10 +338,11 @@ class MOC:
         0/0 1/4-5
         """
         check_order(max_depth)
-        if isinstance(depth, SupportsIndex) and not hasattr(depth, "__iter__"):
-            moc = cls._from_input("from_cells", check_order(depth), as_input(without_missing(ipix)))
+        orders: Any = depth
+        if hasattr(depth, "__iter__"):
+            moc = cls._from_cells_of_orders(as_input(ipix), as_input(orders))
         else:
-            moc = cls._from_cells_of_orders(as_input(ipix), as_input(depth))
+            moc = cls._from_input("from_cells", check_order(orders), as_input(without_missing(ipix)))
         return moc._degraded(max_depth)
 
     @classmethod

@@ -70,9 +70,10 @@ class Docstrings(TestCase):
                 self.assertTrue(all(len(rule) == len(title) for title, rule in zip(lines, lines[1:]) if rule and set(rule) == {"-"}))
 
     def test_all_modules_are_known(self) -> None:
-        private = {module.name for module in pkgutil.iter_modules(ploverchaise.__path__) if module.name.startswith("_")}
-        known = {module.__name__.rpartition(".")[2] for module in MODULES}
-        self.assertEqual({module.name for module in pkgutil.iter_modules(ploverchaise.__path__)} - private - known, set())
+        # The library has the suffix of a module.
+        known = {"libploverchaise"} | {module.__name__.rpartition(".")[2] for module in MODULES}
+        names = {module.name for module in pkgutil.iter_modules(ploverchaise.__path__) if not module.name.startswith("_")}
+        self.assertEqual(names - known, set())
 
 
 if __name__ == "__main__":

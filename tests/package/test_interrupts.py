@@ -119,14 +119,25 @@ class Interrupts(TestCase):
     def test_arrays(self) -> None:
         cells = numpy.random.default_rng(2005).integers(0, 12 * 4**29, LENGTH)
         moc, uniqs = MOC.from_healpix_cells(cells[:RANGES], 29), cells + 4**30
+        cells_of_28, orders, ranges = cells >> 2, cells % 2 + 28, numpy.stack([cells, cells + 1], axis=1)
         calls: list[Callable[..., object]] = [nest2ring, ring2nest, nest2uniq, pix2xyf, get_all_neighbours]
         checked: dict[str, Callable[[], object]] = {
-            "cells": lambda: MOC.from_healpix_cells(cells, 29), "cells of orders": lambda: MOC.from_healpix_cells(cells, cells % 2 + 28),
+            "cells": lambda: MOC.from_healpix_cells(cells, 29), "cells of orders": lambda: MOC.from_healpix_cells(cells_of_28, orders),
             "contains": lambda: moc.contains(cells), "contains cells": lambda: moc.contains(cells, 28),
-            "ranges": lambda: MOC.from_ranges(numpy.stack([cells, cells + 1], axis=1)), "uniq2nest": lambda: uniq2nest(uniqs),
+            "ranges": lambda: MOC.from_ranges(ranges), "uniq2nest": lambda: uniq2nest(uniqs),
             "uniq": lambda: MOC.from_uniq(uniqs), "flatten": lambda: MOC.full().flatten(11),
             "strided": lambda: nest2ring(2**29, cells[::-2])}
         self.check(checked | {call.__name__: partial(call, 2**29, cells) for call in calls})
+
+    def test_a_call_of_the_library_is_left(self) -> None:
+        """Checks that a signal is answered long before the call of the library ends, which cannot be cut."""
+        moc = MOC.from_healpix_cells(range(0, 8 * RANGES, 2), 13)
+        start = time.monotonic()
+        text = moc.to_string("json")
+        MOC.from_string(text, "json")
+        duration = time.monotonic() - start
+        latencies = [self.assertInterrupted(lambda: MOC.from_string(text, "json")) for _ in range(5)]
+        self.assertLess(sorted(latencies)[2], duration / 4)
 
     def test_nothing_is_leaked(self) -> None:
         moc, start = MOC.from_healpix_cells(range(0, 2 * RANGES, 2), 11), 0
