@@ -19,8 +19,8 @@ PACKAGE = os.path.join(TOP, "python")
 PYTHONS = [sys.executable, "/usr/bin/python3"]
 TIME_LIMIT = 600
 INSTALLED = ["__init__.py", "__main__.py", "_arrays.py", "_codes.py", "_command_line.py", "_diagnostics.py", "_files.py", "_fits.py",
-             "_library.py", "_outlines.py", "_plot.py", "_positions.py", "_signatures.py", "cells.py", "errors.py", "libploverchaise.so",
-             "moc.py", "py.typed", "shared.py"]
+             "_library.py", "_outlines.py", "_plot.py", "_positions.py", "_regions.py", "_signatures.py", "cells.py", "errors.py",
+             "libploverchaise.so", "moc.py", "py.typed", "shared.py"]
 
 
 def python_with(*modules: str) -> str | None:

@@ -4,10 +4,10 @@ from __future__ import annotations
 import json
 import os
 import re
-from typing import Any, NamedTuple
+from typing import Any, NamedTuple, SupportsIndex
 
 from .errors import MocError
-from .moc import MOC
+from .moc import MOC, AnyMOC
 
 TEXT_FORMATS = ("ascii", "json", "uniq")
 FITS_FORMATS = {"fits": "NUNIQ", "fits-range": "RANGE"}
@@ -150,7 +150,7 @@ def stated_order(data: bytes, format: str) -> int | None:
     return max(map(int, orders), default=None)
 
 
-def serialize(moc: MOC, format: str, order: int | None = None) -> bytes:
+def serialize(moc: MOC, format: str, order: SupportsIndex | None = None, fold: int = 0) -> bytes:
     """Returns the content of a file with a coverage.
 
     Parameters
@@ -161,6 +161,8 @@ def serialize(moc: MOC, format: str, order: int | None = None) -> bytes:
         The format. The last two are FITS files with NUNIQ numbers or with ranges.
     order : int, optional
         The MOC order that the file states.
+    fold : int
+        The maximal length of the lines of a text, as in `MOC.to_string`.
 
     Raises
     ------
@@ -176,7 +178,7 @@ def serialize(moc: MOC, format: str, order: int | None = None) -> bytes:
     if format not in TEXT_FORMATS:
         raise ValueError(f"format must be one of {', '.join(FORMATS)}, not {format}")
     text_format: Any = format
-    text = moc.to_string(text_format, max_order=order)
+    text = moc.to_string(text_format, fold, max_order=order)
     return (text + "\n" if text else "").encode("ascii")
 
 
@@ -205,7 +207,7 @@ def write_file(path: str | os.PathLike[str], data: bytes, *, overwrite: bool) ->
             file.write(data[start:start + _PIECE])
 
 
-def load(moc_type: type[MOC], path: str | os.PathLike[str], format: str | None) -> MOC:
+def load(moc_type: type[AnyMOC], path: str | os.PathLike[str], format: str | None) -> AnyMOC:
     """Returns the coverage of a file, as `MOC.load` documents it."""
     data = read_file(path)
     try:
@@ -213,9 +215,9 @@ def load(moc_type: type[MOC], path: str | os.PathLike[str], format: str | None) 
     except TextError as error:
         error.error.add_note(f"in the file {os.fspath(path)}")
         raise error.error from None
-    return moc if moc_type is MOC else moc_type.union_all([moc])
+    return moc if isinstance(moc, moc_type) else moc_type.union_all([moc])
 
 
-def save(moc: MOC, path: str | os.PathLike[str], format: str | None, max_order: int | None, overwrite: bool) -> None:
+def save(moc: MOC, path: str | os.PathLike[str], format: str | None, max_order: SupportsIndex | None, overwrite: bool, fold: int) -> None:
     """Writes a coverage to a file, as `MOC.save` documents it."""
-    write_file(path, serialize(moc, format_of_name(path) if format is None else format, max_order), overwrite=overwrite)
+    write_file(path, serialize(moc, format_of_name(path) if format is None else format, max_order, fold), overwrite=overwrite)

@@ -8,7 +8,7 @@ from __future__ import annotations
 import io
 import warnings
 from types import ModuleType
-from typing import TYPE_CHECKING, Any
+from typing import TYPE_CHECKING, Any, SupportsIndex
 
 from ._codes import TOO_COARSE
 from ._files import FileError
@@ -126,7 +126,7 @@ def _moc_of(ordering: str, numbers: NDArray[Any], file: str) -> MOC:
         raise FileError(error.name, f"row {row + 1}: {value}", file) from None
 
 
-def write_fits(moc: MOC, *, max_order: int | None = None, ordering: str = "NUNIQ") -> bytes:
+def write_fits(moc: MOC, *, max_order: SupportsIndex | None = None, ordering: str = "NUNIQ") -> bytes:
     """Returns a FITS file with the table of a coverage, by MOC 2.0. Readers of MOC 1.1 accept a table of NUNIQ numbers, too.
 
     Parameters
