@@ -1,4 +1,4 @@
-"""FITS tables of coverages (MOC 2.0, section 4.3), read and written with `astropy.io.fits`.
+"""FITS tables of coverages (MOC 2.0), read and written with `astropy.io.fits`.
 
 A table has one column. With ORDERING `NUNIQ` its numbers are the NUNIQ numbers of cells. With ORDERING `RANGE` they are the bounds of
 half-open ranges of pixels, a start and an end in turn. Files of MOC 1.0 and 1.1 have the first kind of table.

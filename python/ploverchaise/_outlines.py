@@ -1,4 +1,4 @@
-"""Outlines and centers of HEALPix cells on the sphere, in degrees (Górski et al. 2005, section 5)."""
+"""Outlines and centers of HEALPix cells on the sphere, in degrees (Górski et al. 2005)."""
 from __future__ import annotations
 
 from typing import TYPE_CHECKING, Any

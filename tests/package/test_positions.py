@@ -17,7 +17,7 @@ try:
 except ImportError:
     pass
 
-# A position in each base pixel (Górski et al. 2005, section 4.1).
+# A position in each base pixel (Górski et al. 2005).
 BASE_POSITIONS = [(45, 80), (135, 80), (225, 80), (315, 80), (0, 0), (90, 0), (180, 0), (270, 0),
                   (45, -80), (135, -80), (225, -80), (315, -80)]
 
