@@ -31,9 +31,11 @@ import time
 from collections.abc import Iterator
 
 import linking
-from crates import SOURCE_FOLDERS, folder_of, is_current, libraries_of_crates, make_workspace, read_crates, save_results, stat_files
+import sources
+from crates import SOURCE_FOLDERS, digest_of_crate, folder_of, is_current, libraries_of_crates, make_workspace, read_crates, save_results
+from crates import save_verdict, stat_files
+from sources import PROGRAM
 
-PROGRAM = "moc_cli"
 # The maximal number of jobs of one check. A check seldom profits from more.
 MAX_CHECK_JOBS = max(1, int(os.environ.get("MOC_CHECK_JOBS") or 4))
 # A crate has priority if the work that depends on it is at least this part of the longest chain.
@@ -49,6 +51,8 @@ REPORT_INTERVAL = 10
 FUNCTION_FILE = re.compile(r"(?<!\.TheImpl)\.Proof\.oantt$")
 # The lines of a check that report no error.
 SUCCESS_LINE = re.compile(r"^(struct|enum|impl|fn) \S+: proved|: modules loaded=|^so far: ")
+# The verdict of a check about a crate.
+VERDICT = re.compile(r"^logic=proved .*$", re.MULTILINE)
 
 
 def size_of(crate: str) -> int:
@@ -170,7 +174,7 @@ class Progress:
             reporter.join()
 
 
-def run_rt(folder: str, arguments: list[str], crate: str, progress: Progress, niceness: int = 0) -> bool:
+def run_rt(folder: str, arguments: list[str], crate: str, progress: Progress, niceness: int = 0) -> str | None:
     """Runs `rt` in the folder of a crate, and prints its errors if it fails.
 
     Parameters
@@ -188,8 +192,8 @@ def run_rt(folder: str, arguments: list[str], crate: str, progress: Progress, ni
 
     Returns
     -------
-    bool
-        Whether the exit status is 0.
+    str or None
+        The verdict, which is empty if `rt` printed none, or None if the exit status is not 0.
     """
     lines = []
     with subprocess.Popen(["nice", "-n", str(niceness), "rt", *arguments], cwd=folder, stdin=subprocess.DEVNULL,
@@ -201,7 +205,8 @@ def run_rt(folder: str, arguments: list[str], crate: str, progress: Progress, ni
                 progress.totals[crate] = int(total[1])
     if process.returncode:
         print("".join(line for line in lines if not SUCCESS_LINE.search(line)), file=sys.stderr)
-    return process.returncode == 0
+        return None
+    return "".join(VERDICT.findall("".join(lines))[-1:])
 
 
 class Build:
@@ -246,8 +251,11 @@ class Build:
         try:
             folder = make_workspace(workspace, crate, self.libraries[crate])
             with self.progress.follow(crate, folder):
-                is_proved = run_rt(folder, ["lib", "--jobs", str(jobs)], crate, self.progress, niceness)
+                verdict = run_rt(folder, ["lib", "--jobs", str(jobs)], crate, self.progress, niceness)
+            is_proved = verdict is not None
             save_results(workspace, crate)
+            if verdict:
+                save_verdict(crate, digest_of_crate(crate, workspace), verdict)
             shutil.rmtree(workspace, ignore_errors=True)
         finally:
             with self.changed:
@@ -288,10 +296,13 @@ class Build:
 
     def build_program(self) -> bool:
         """Proves and builds the program, and runs it once. Returns whether the program succeeds."""
-        folder = folder_of(PROGRAM)
+        folder, digest = folder_of(PROGRAM), digest_of_crate(PROGRAM)
         with self.progress.follow(PROGRAM, folder):
             jobs = min(MAX_CHECK_JOBS, self.max_jobs)
-            return run_rt(folder, ["run", "--jobs", str(jobs), "--", "uniq", "0", "0"], PROGRAM, self.progress)
+            verdict = run_rt(folder, ["run", "--jobs", str(jobs), "--", "uniq", "0", "0"], PROGRAM, self.progress)
+        if verdict:
+            save_verdict(PROGRAM, digest, verdict)
+        return verdict is not None
 
 
 def main() -> int:
@@ -309,6 +320,7 @@ def main() -> int:
     with open(os.path.join(out, "lock"), "w", encoding="utf-8") as lock:
         fcntl.flock(lock, fcntl.LOCK_EX)
         shutil.rmtree(workspaces, ignore_errors=True)
+        snapshot = sources.take_snapshot()
         build = Build(workspaces, targets)
         with build.progress.reports():
             succeeded = build.prove_libraries() and (not with_program or build.build_program())
@@ -317,10 +329,8 @@ def main() -> int:
             succeeded = linking.link(options.library, [])
     if not with_program or not succeeded:
         return 0 if succeeded else 1
-    program = os.path.join(out, PROGRAM)
-    # The program has to be newer than all sources, also if nothing had to be built.
-    os.utime(program)
-    report(f"proved and built after {build.progress.elapsed()}: {os.path.relpath(program)}")
+    sources.write_record(snapshot)
+    report(f"proved and built after {build.progress.elapsed()}: {os.path.relpath(sources.BUILT)}")
     return 0
 
 
