@@ -159,8 +159,9 @@ def check_c(tally: Tally, prefix: str, folder: str) -> None:
         flags = run(["pkg-config", "--cflags", "--libs", option, "ploverchaise"], folder, **configuration)
         tally.check(flags.returncode == 0, f"pkg-config: {flags.stderr}")
         compiled = run(["cc", "-Wall", "-Werror", "program.c", *flags.stdout.split(), linking, "-o", kind], folder)
-        tally.check(compiled.returncode == 0, f"{kind}: {compiled.stderr}")
-        tally.check_equal(f"the {kind} program", run([f"./{kind}"], folder).stdout, f"{version.read_version()} {COMPLEMENT}\n")
+        if tally.check(compiled.returncode == 0, f"{kind}: {compiled.stderr}"):
+            tally.check_equal(f"the {kind} program", run([f"./{kind}"], folder).stdout,
+                              f"{version.read_version()} {COMPLEMENT}\n")
     needed = libraries_of(os.path.join(folder, "shared"), folder)
     tally.check("libploverchaise.so.0" in needed, f"the shared program needs {needed}")
 
@@ -176,7 +177,8 @@ def check_cmake(tally: Tally, prefix: str, folder: str) -> None:
     for command in (["cmake", "-S", project, "-B", "out", f"-DCMAKE_PREFIX_PATH={prefix}", f"-DOTHERS={others}",
                      f"-DSERIES={major}.{minor}", f"-DVERSION={number}"], ["cmake", "--build", "out"]):
         result = run(command, folder)
-        tally.check(result.returncode == 0, f"{command}: {result.stdout}{result.stderr}")
+        if not tally.check(result.returncode == 0, f"{command}: {result.stdout}{result.stderr}"):
+            return
     for kind in ("shared", "static"):
         result = run([f"out/with_{kind}"], folder)
         tally.check_equal(f"the program with ploverchaise::{kind}", result.stdout, f"{number} {COMPLEMENT}\n")

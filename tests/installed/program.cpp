@@ -5,5 +5,5 @@
 int main()
 {
     ploverchaise::Store store;
-    std::cout << moc_version() << ' ' << (~store.ascii("0/0 1/4-5")).ascii();
+    std::cout << moc_version() << ' ' << store.ascii("0/0 1/4-5").complement().ascii();
 }
