@@ -166,7 +166,7 @@ def package(folder: str) -> None:
     record = manifest.make_manifest()
     unproved = [crate for crate, entry in record["crates"].items() if entry["verdict"] is None]
     if unproved:
-        print(f"moc: no verdict was recorded for {', '.join(unproved)}", file=sys.stderr)
+        print(f"moc: no verdict was recorded about {', '.join(unproved)}. To prove a crate again, remove its folder `out`", file=sys.stderr)
     record["files"] = {path: hashlib.sha256(file.content).hexdigest() for path, file in sorted(files.items()) if file.mode}
     manifest_file = File(f"{json.dumps(record, indent=2)}\n".encode(), DATA)
     packed = {**files, f"share/{NAME}/{wheel_name}": wheel, f"share/{NAME}/manifest.json": manifest_file}
