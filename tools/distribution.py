@@ -61,10 +61,10 @@ def read(*path: str) -> bytes:
 
 
 def build() -> bool:
-    """Proves and builds the program and the library, if a source has changed. Returns whether this succeeds."""
+    """Proves and builds the program and the library, if a source or a proof has changed. Returns whether this succeeds."""
     script = os.path.join(TOP, "tools", "build.py")
-    return ((sources.is_built() or subprocess.run([script]).returncode == 0)
-            and subprocess.run([script, "--library"]).returncode == 0)
+    is_proved = sources.is_built() and not manifest.unproved_crates()
+    return (is_proved or subprocess.run([script]).returncode == 0) and subprocess.run([script, "--library"]).returncode == 0
 
 
 def link(target: str) -> File:
@@ -164,7 +164,7 @@ def package(folder: str) -> None:
     files = {**program_files(), **library_files()}
     wheel_name, wheel = make_wheel(date)
     record = manifest.make_manifest()
-    unproved = [crate for crate, entry in record["crates"].items() if entry["verdict"] is None]
+    unproved = manifest.unproved_crates()
     if unproved:
         print(f"moc: no verdict was recorded about {', '.join(unproved)}. To prove a crate again, remove its folder `out`", file=sys.stderr)
     record["files"] = {path: hashlib.sha256(file.content).hexdigest() for path, file in sorted(files.items()) if file.mode}

@@ -47,6 +47,11 @@ def crate_checksums() -> dict[str, str]:
     return {crate: digest_of_crate(crate) for crate in packaged_crates()}
 
 
+def unproved_crates() -> list[str]:
+    """Returns the packaged crates whose present sources have no verdict."""
+    return [crate for crate, digest in crate_checksums().items() if read_verdict(crate, digest) is None]
+
+
 def other_checksums() -> dict[str, str]:
     """Returns the checksum of each other file from which a package is made."""
     paths = sorted({path for pattern in OTHER_SOURCES for path in glob.glob(pattern, root_dir=TOP)})
