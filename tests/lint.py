@@ -16,7 +16,7 @@ import sys
 from tally import Tally
 
 TOP = os.path.dirname(os.path.dirname(os.path.abspath(__file__)))
-SHELL_SCRIPTS = ["moc", ".ci/run", "bench/run.sh"]
+SHELL_SCRIPTS = ["moc", ".ci/run", "bench/run.sh", "tools/install/moc.sh"]
 FLAKE8 = ["flake8", "--isolated", "--max-line-length", "140"]
 # The imports that mypy follows are checked with their own folder, and packages for arrays are optional.
 MYPY = ["mypy", "--strict", "--config-file=", "--cache-dir", os.devnull, "--follow-imports", "silent",
