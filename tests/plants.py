@@ -165,6 +165,8 @@ DEFECTS = [
     Defect("parts_are_connected_by_their_first_cells_only", "", "python/ploverchaise/_regions.py",
            "            first, second = sorted((find_root(position), find_root(other)))",
            "            first, second = sorted((position, other))", "package"),
+    Defect("cells_are_connected_with_a_part_of_a_neighbour", "", "python/ploverchaise/_regions.py",
+           "if other >= 0 and end <= ends[other]:", "if other >= 0 and start < ends[other]:", "package"),
     Defect("densities_ignore_the_area", "", "python/ploverchaise/_regions.py",
            "weight * nside**2 for weight", "weight for weight", "package"),
     # the part of the library for C that is not proved

@@ -199,6 +199,8 @@ class PlainInput(Input):
         """Returns an int or the ints of an iterable. Raises TypeError if a number is not an integer."""
         if not hasattr(numbers, "__iter__"):
             return cls(array("Q", [_to_uint64(numbers)]), True)
+        if type(numbers) is list and len(numbers) <= PIECE_LENGTH:
+            return cls(_plain_array(numbers), width=width)
         elements, iterator = array("Q"), iter(numbers)
         while piece := list(islice(iterator, PIECE_LENGTH)):
             elements += _plain_array(piece)

@@ -121,7 +121,8 @@ def open_client() -> ClientHandle:
 
 def call_with_store(name: str, store: StoreHandle, *arguments: Any) -> Result:
     """Calls `moc_NAME` with a store and arguments for C, and returns its result. Raises as `check_result`."""
-    return check_result(store_functions[name](store, *arguments), name)
+    result: Result = store_functions[name](store, *arguments)
+    return check_result(result, name) if result.code else result
 
 
 def call_with_client(name: str, client: ClientHandle, *arguments: Any) -> Result:
@@ -129,15 +130,17 @@ def call_with_client(name: str, client: ClientHandle, *arguments: Any) -> Result
     return check_result(client_functions[name](client, *c_arguments(*arguments)), name)
 
 
-def call_on_pieces(call: Callable[..., Value], order: int | None, numbers: Input, *outputs: Output) -> Iterator[Value]:
-    """Returns an iterator over the values of a call for each piece of an input and of outputs with the same number of rows.
+def call_on_rows(call: Callable[..., Value], order: int | None, rows: slice, numbers: Input, *outputs: Output) -> Value:
+    """Returns the value of a call for rows of an input, and of outputs with the same number of rows.
 
     Parameters
     ----------
     call : callable
-        The call. It takes the order, if there is one, and the buffers of a piece.
+        The call. It takes the order, if there is one, and the buffers of the rows.
     order : int or None
         The order of the numbers.
+    rows : slice
+        The rows.
     numbers : Input
         The input.
     *outputs : Output
@@ -148,15 +151,19 @@ def call_on_pieces(call: Callable[..., Value], order: int | None, numbers: Input
     MocError
         As the call, with the position in the whole input, and with the number and its bounds.
     """
-    before = () if order is None else (order,)
-    for rows in pieces_of(len(numbers)):
-        try:
-            yield call(*before, numbers.buffer(rows), *(output.buffer(rows) for output in outputs))
-        except MocError as error:
-            if error.code not in _NUMBER_ERRORS:
-                raise
-            place = rows.start + error.place[0]
-            raise MocError(error.code, place, detail=_describe_number(error.code, numbers.text_of_row(place), order)) from None
+    buffers = [numbers.buffer(rows), *[output.buffer(rows) for output in outputs]]
+    try:
+        return call(*buffers) if order is None else call(order, *buffers)
+    except MocError as error:
+        if error.code not in _NUMBER_ERRORS:
+            raise
+        place = rows.start + error.place[0]
+        raise MocError(error.code, place, detail=_describe_number(error.code, numbers.text_of_row(place), order)) from None
+
+
+def call_on_pieces(call: Callable[..., Value], order: int | None, numbers: Input, *outputs: Output) -> Iterator[Value]:
+    """Returns an iterator over the values of `call_on_rows` for each piece of an input and of outputs."""
+    return (call_on_rows(call, order, rows, numbers, *outputs) for rows in pieces_of(len(numbers)))
 
 
 def _describe_number(code: int, text: str, order: int | None) -> str:

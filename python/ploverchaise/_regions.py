@@ -78,9 +78,10 @@ def components(uniqs: array[int], has_corners: bool) -> list[list[int]]:
             parents[position] = position = parents[parents[position]]
         return position
 
-    for position, pixel in _touching_pixels([(nside, number) for _, nside, number, _ in cells], has_corners):
-        other = bisect_right(firsts, pixel) - 1
-        if other >= 0 and pixel < ends[other]:
+    # Of two cells that touch, the larger one contains a whole cell that touches the smaller one and has its size.
+    for position, start, end in _touching_cells([(nside, number) for _, nside, number, _ in cells], has_corners):
+        other = bisect_right(firsts, start) - 1
+        if other >= 0 and end <= ends[other]:
             first, second = sorted((find_root(position), find_root(other)))
             parents[second] = first
     parts: dict[int, list[int]] = {}
@@ -89,8 +90,8 @@ def components(uniqs: array[int], has_corners: bool) -> list[list[int]]:
     return list(parts.values())
 
 
-def _touching_pixels(cells: list[tuple[int, int]], has_corners: bool) -> Iterator[tuple[int, int]]:
-    """Returns the position of each cell with the first pixel of each cell of its order that touches it.
+def _touching_cells(cells: list[tuple[int, int]], has_corners: bool) -> Iterator[tuple[int, int, int]]:
+    """Returns the position of each cell with the range of pixels of each cell of its order that touches it.
 
     Each cell is an nside and a nested number."""
     directions = _ALL_DIRECTIONS if has_corners else _SIDES
@@ -101,7 +102,8 @@ def _touching_pixels(cells: list[tuple[int, int]], has_corners: bool) -> Iterato
         shift = 2 * (30 - nside.bit_length())
         columns = get_all_neighbours(nside, [cells[position][1] for position in positions])
         for direction in directions:
-            yield from ((position, cell << shift) for position, cell in zip(positions, columns[direction]) if cell >= 0)
+            yield from ((position, cell << shift, (cell + 1) << shift) for position, cell in zip(positions, columns[direction])
+                        if cell >= 0)
 
 
 def ranges_by_value(uniqs: Input, values: Iterable[float], order: int, sums: tuple[float, float], is_ascending: bool, is_strict: bool,

@@ -5,13 +5,15 @@ import operator
 import os
 from array import array
 from collections.abc import Iterable, Iterator, Mapping
+from functools import partial
 from itertools import chain
 from typing import TYPE_CHECKING, Any, Literal, Self, SupportsIndex, TypeVar, overload
 
-from ._arrays import (ArrayLike, Buffer, Input, Integers, Numbers, Pairs, PlainInput, as_input, as_pairs, buffer_of, pieces_of,
-                      without_missing, zeros)
+from ._arrays import (PIECE_LENGTH, ArrayLike, Buffer, Input, Integers, Numbers, Pairs, PlainInput, as_input, as_pairs, buffer_of,
+                      pieces_of, without_missing, zeros)
 from ._codes import TOO_COARSE
-from ._library import NO_ORDER, c_arguments, call_on_pieces, call_with_store, open_store, run_interruptibly, store_functions, text_of
+from ._library import (NO_ORDER, c_arguments, call_on_pieces, call_on_rows, call_with_store, check_result, open_store, run_interruptibly,
+                       store_functions, text_of)
 from ._regions import border_cells, components, ranges_by_value
 from ._signatures import Result, StoreHandle
 from .errors import MocError, check_order
@@ -35,14 +37,16 @@ _MIN_RANGES_FOR_SORTING = 2000
 _PARSERS = {"ascii": "read_ascii", "json": "read_json", "uniq": "read_uniq"}
 _FORMAT_NAMES = {"ascii": "ASCII", "json": "JSON", "uniq": "a NUNIQ list"}
 # A call with MOCs of more ranges, or with a longer text, may take long.
-_MAX_SHORT_RANGES, _MAX_SHORT_TEXT = 50_000, 2**20
+_MAX_SHORT_RANGES, _MAX_SHORT_TEXT = 150_000, 2**21
+# At most this number of pixels is looked up without a copy of the MOC.
+_MAX_SHORT_LENGTH = 1000
 # The number of bytes that are read from a file, or written to it, without a step of Python code in between.
 _READ_LENGTH = 2**24
 # The orders to which a picture is degraded until it is small. Order 29 leaves it unchanged.
 _PICTURE_ORDERS = (29, 6, 5, 4, 3, 2, 1, 0)
 # The maximal numbers of characters of `str`, and of bytes of the picture that a notebook displays.
 _MAX_STR_LENGTH, _MAX_PICTURE_LENGTH = 2000, 100_000
-_free = store_functions["free"]
+_share, _free = store_functions["share"], store_functions["free"]
 
 
 class MOC:
@@ -89,8 +93,10 @@ class MOC:
     def _from_input(cls, function: str, order: int | None, numbers: Input) -> Self:
         """Returns the coverage that a function of the library makes of an order, if there is one, and numbers."""
 
-        return _unite(call_on_pieces(lambda *arguments: cls._from_call(function, *arguments, range_bound=arguments[-1].length), order,
-                                     numbers))
+        count = len(numbers)
+        if count <= PIECE_LENGTH:
+            return call_on_rows(partial(cls._from_call, function, range_bound=count), order, slice(0, count), numbers)
+        return _unite(call_on_pieces(partial(cls._from_call, function, range_bound=PIECE_LENGTH), order, numbers))
 
     @classmethod
     def _in_store(cls, store: StoreHandle, coverage_id: int, range_bound: int) -> Self:
@@ -101,7 +107,8 @@ class MOC:
 
     def _copy_to(self, store: StoreHandle) -> int:
         """Copies the coverage to a store, and returns its id there. Takes O(n / 128) for n ranges."""
-        return call_with_store("share", self._store, self._id, store).first
+        result: Result = _share(self._store, self._id, store)
+        return (check_result(result, "share") if result.code else result).first
 
     def _make(self, function: str, *others: MOC, order: tuple[int, ...] = ()) -> Self:
         """Returns the coverage that a function makes of this MOC, other MOCs, and an order."""
@@ -995,14 +1002,19 @@ class MOC:
 
     def _contains_pixels(self, pixels: Input) -> Any:
         """Returns for each pixel whether the MOC contains it."""
-        flags, store = pixels.new_output("B"), open_store()
+        flags, count = pixels.new_output("B"), len(pixels)
+        if count <= _MAX_SHORT_LENGTH:
+            rows = slice(0, count)
+            self._query("contains_all", *c_arguments(pixels.buffer(rows), flags.buffer(rows)))
+            return flags.booleans()
+        store = open_store()
         copied = self._copy_to(store)
 
         def look_up(piece: Buffer, flags_of_piece: Buffer) -> None:
             call_with_store("contains_all", store, copied, *c_arguments(piece, flags_of_piece))
 
         has_many_ranges = self.range_count() > _MIN_RANGES_FOR_SORTING
-        for rows in pieces_of(len(pixels)):
+        for rows in pieces_of(count):
             positions = pixels.sorting_order(rows) if has_many_ranges else None
             if positions is None:
                 look_up(pixels.buffer(rows), flags.buffer(rows))
@@ -1040,7 +1052,7 @@ class MOC:
 
     def __sizeof__(self) -> int:
         """Returns the size of the object and of its ranges in bytes. Other MOCs may share the ranges."""
-        return 1024 + 16 * self.range_count()
+        return 1900 + 16 * self.range_count()
 
     def __dask_tokenize__(self) -> tuple[str, bytes]:
         """Returns the value by which Dask recognizes equal MOCs."""

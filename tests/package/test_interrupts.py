@@ -39,9 +39,8 @@ class Interrupted(Exception):
 
 
 @contextmanager
-def interrupt_after(delay: float) -> Iterator[list[float]]:
-    """Lets SIGINT arrive after a delay. The handler raises `Interrupted`, and appends the time to the list."""
-    times: list[float] = []
+def interrupt_after(delay: float, times: list[float]) -> Iterator[None]:
+    """Lets SIGINT arrive after a delay, and appends the time to a list. The handler raises `Interrupted`."""
 
     def interrupt(*_: object) -> None:
         raise Interrupted
@@ -52,9 +51,9 @@ def interrupt_after(delay: float) -> Iterator[list[float]]:
 
     before = signal.signal(signal.SIGINT, interrupt)
     timer = threading.Timer(delay, send)
-    timer.start()
     try:
-        yield times
+        timer.start()
+        yield
     finally:
         timer.join()
         signal.signal(signal.SIGINT, before)
@@ -64,14 +63,22 @@ class Interrupts(TestCase):
     """Ctrl-C during long calls. Each call is repeated until the signal arrives."""
 
     def assertInterrupted(self, call: Callable[[], object]) -> float:
-        """Checks that a call ends soon after a signal. Returns the time in seconds."""
-        with self.assertRaises(Interrupted), interrupt_after(DELAY) as times:
+        """Checks that a call ends soon after a signal, at least in one of three tries. Returns the time in seconds."""
+        latency = self.interrupt(call)
+        for _ in range(2):
+            if latency > MAX_LATENCY:
+                latency = self.interrupt(call)
+        self.assertLess(latency, MAX_LATENCY)
+        return latency
+
+    def interrupt(self, call: Callable[[], object]) -> float:
+        """Repeats a call until a signal arrives. Returns the time in seconds from the signal to the exception."""
+        times: list[float] = []
+        with self.assertRaises(Interrupted), interrupt_after(DELAY, times):
             end = time.monotonic() + 30
             while time.monotonic() < end:
                 call()
-        latency = time.monotonic() - times[0]
-        self.assertLess(latency, MAX_LATENCY)
-        return latency
+        return time.monotonic() - times[0]
 
     def check(self, calls: dict[str, Callable[[], object]]) -> None:
         """Checks each call, and that the memory of interrupted calls is freed."""

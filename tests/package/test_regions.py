@@ -35,6 +35,7 @@ def flood(order: int, cells: set[int], has_corners: bool) -> list[set[int]]:
 def sample_sets() -> list[tuple[int, set[int]]]:
     """Returns orders, each with a set of its cells."""
     samples = [(order, set(random_cells(order, count))) for order in (0, 1, 2, 3, 5) for count in (0, 1, 5, 60)]
+    samples += [(2, set(random_cells(2, 90))) for _ in range(10)]
     samples += [(4, set(range(12 * 4**4)) - set(random_cells(4, 3))), (3, set(range(12 * 4**3))), (4, set(range(256, 700)))]
     return samples + [(5, {cell for start in random_cells(5, 40) for cell in range(start & ~15, (start & ~15) + 16)})]
 
@@ -82,8 +83,12 @@ class Parts(TestCase):
 
     def test_cells_of_several_orders(self) -> None:
         """Checks that a large cell is connected with the small cells at its sides, and only in a corner with others."""
-        self.assertEqual([str(part) for part in MOC.from_string("0/0 3/256 28/5 0/6").split()], ["0/0 3/256", "0/6"])
+        # By healpy, cell 3/277 is the neighbour of cell 3/0 to the south-west.
+        self.assertEqual([str(part) for part in MOC.from_string("0/0 6 3/256 277 28/5").split()], ["0/0 3/277", "3/256", "0/6"])
         self.assertEqual(MOC.from_string("0/0 2/31").split_count(), 1)
+        # Cell 2/4 is in cell 1/1, which has a side in common with cell 1/3, but 2/4 is not at this side.
+        self.assertEqual([str(part) for part in MOC.from_string("1/3 2/4").split(True)], ["2/4", "1/3"])
+        self.assertEqual(MOC.from_string("1/3 2/6").split_count(), 1)
 
 
 class Values(TestCase):
