@@ -67,9 +67,9 @@ class Buffer(NamedTuple):
     owner: object
 
 
-def pieces_of(length: int) -> Iterator[slice]:
-    """Returns slices of at most `PIECE_LENGTH` rows that make up an array, or an empty slice for an empty array."""
-    return (slice(start, min(start + PIECE_LENGTH, length)) for start in range(0, length or 1, PIECE_LENGTH))
+def pieces_of(length: int, max_length: int = PIECE_LENGTH) -> Iterator[slice]:
+    """Returns slices of at most `max_length` rows that make up an array, or an empty slice for an empty array."""
+    return (slice(start, min(start + max_length, length)) for start in range(0, length or 1, max_length))
 
 
 def buffer_of(numbers: array[int], rows: slice, width: int = 1) -> Buffer:

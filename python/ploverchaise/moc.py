@@ -9,7 +9,7 @@ from functools import partial
 from itertools import chain
 from typing import TYPE_CHECKING, Any, Literal, Self, SupportsIndex, TypeVar, overload
 
-from ._arrays import (PIECE_LENGTH, ArrayLike, Buffer, Input, Integers, Numbers, Pairs, PlainInput, as_input, as_pairs, buffer_of,
+from ._arrays import (ArrayLike, Buffer, Input, Integers, Numbers, Pairs, PlainInput, as_input, as_pairs, buffer_of,
                       pieces_of, without_missing, zeros)
 from ._codes import TOO_COARSE
 from ._library import (NO_ORDER, c_arguments, call_on_pieces, call_on_rows, call_with_store, check_result, open_store, run_interruptibly,
@@ -37,7 +37,9 @@ _MIN_RANGES_FOR_SORTING = 2000
 _PARSERS = {"ascii": "read_ascii", "json": "read_json", "uniq": "read_uniq"}
 _FORMAT_NAMES = {"ascii": "ASCII", "json": "JSON", "uniq": "a NUNIQ list"}
 # A call with MOCs of more ranges, or with a longer text, may take long.
-_MAX_SHORT_RANGES, _MAX_SHORT_TEXT = 150_000, 2**21
+_MAX_SHORT_RANGES, _MAX_SHORT_TEXT = 500_000, 2**22
+# A MOC is made of at most this number of cells or ranges at once. Longer pieces than elsewhere save unions.
+_PIECE_LENGTH = 2**19
 # At most this number of pixels is looked up without a copy of the MOC.
 _MAX_SHORT_LENGTH = 1000
 # The number of bytes that are read from a file, or written to it, without a step of Python code in between.
@@ -94,9 +96,10 @@ class MOC:
         """Returns the coverage that a function of the library makes of an order, if there is one, and numbers."""
 
         count = len(numbers)
-        if count <= PIECE_LENGTH:
+        if count <= _PIECE_LENGTH:
             return call_on_rows(partial(cls._from_call, function, range_bound=count), order, slice(0, count), numbers)
-        return _unite(call_on_pieces(partial(cls._from_call, function, range_bound=PIECE_LENGTH), order, numbers))
+        make = partial(cls._from_call, function, range_bound=_PIECE_LENGTH)
+        return _unite(call_on_pieces(make, order, numbers, max_length=_PIECE_LENGTH))
 
     @classmethod
     def _in_store(cls, store: StoreHandle, coverage_id: int, range_bound: int) -> Self:

@@ -174,6 +174,7 @@ class Pieces(TestCase):
         self.assertFault("NoSuchCell", (length + 3,), nest2ring, 2**5, cells)
         cells[length + 3] = 7
         self.assertFault("NoSuchCell", (2 * length + 1,), neighbours, cells, 5)
+        self.assertFault("NoSuchCell", (2 * length + 1,), MOC.from_healpix_cells, cells, 5)
         self.assertFault("NotUniq", (length,), MOC.from_uniq, [4] * length + [3])
         self.assertFault("Backwards", (length + 1,), MOC.from_ranges, [(3, 4)] * (length + 1) + [(4, 3)])
 
