@@ -10,7 +10,7 @@ use Rattle.moc_blocks.specs.Private.Edits.{IsSplit, IsNodeEdit, IsBlockEdit, IsE
 use Rattle.moc_blocks.specs.declared.edits.rebuild.RangeEdit.{RangeEdit}
 use Rattle.moc_blocks.proofs.Blocking.{width-append, width_bounded, range_count_bounded, append_empty, concat-append}
 use Rattle.moc_blocks.proofs.Filling.{fill_rule_suffix}
-use Rattle.moc_blocks.proofs.Editing.{first_sized, node_normal, node_edit_all, node_edit_stored, node_edit_edits, set_split}
+use Rattle.moc_blocks.proofs.Editing.{node_blocks_sized, node_normal, node_edit_all, node_edit_stored, node_edit_edits, set_split}
 
 pub width_replaced : (bs : List (List (ℕ × ℕ))) (i : ℕ) (old new : List (ℕ × ℕ)) → i < length bs → old ≡ get_or bs i old → width_of (concat (slice_set bs i new)) + width_of old ≡ width_of (concat bs) + width_of new
 width_replaced [] i old new lt is = absurd (omega arith)
@@ -70,7 +70,7 @@ pub block_edit_sized : (edit : RangeEdit) (from to node block : ℕ) (nodes node
 block_edit_sized edit from to node block nodes nodes' ranges new found same s is made =
     let blocks = s.left ++ ranges ∷ s.right in
     subst AreBlocks (sym (block_edit_blocks edit from to node block nodes nodes' ranges new found same s is made))
-    (first_sized (concat s.before) (concat s.after) blocks blocks [] (append_empty blocks) s.edited_block.node_blocks.sized)
+    (node_blocks_sized edit from to (concat s.before) (concat s.after) s.old blocks s.edited_block.node_blocks)
 
 -- the node has as many blocks as before, so the fill rule still holds between the others
 block_edit_split : (edit : RangeEdit) (from to node block : ℕ) (nodes : List (List (List (ℕ × ℕ)))) (ranges : List (ℕ × ℕ)) → IsStored [] nodes → (s : IsBlockEdit edit from to nodes node block ranges) → IsSplit 16 (last_length s.before) (first_length s.after) (s.left ++ ranges ∷ s.right) (s.left ++ ranges ∷ s.right) []

@@ -290,10 +290,11 @@ impl Nodes {
         Ok(())
     }
 
-    /// Inserts or removes a range if this changes only one block, which is rebuilt, and returns whether this was done.
+    /// Inserts or removes a range if this changes only one block, which is rebuilt, and returns whether it succeeded.
     /// The block is replaced in place if its node is not shared and it stays one block; otherwise its node is rebuilt.
-    /// Returns `false` if the range changes more, if the block would be empty, or if the fill rule would be broken; the
-    /// nodes are then unchanged.
+    /// If that would leave an empty block or break the fill rule, the block and a neighbour in its node are rebuilt.
+    /// Returns `false` if the range changes more, or if the fill rule would still be broken; the nodes are then
+    /// unchanged.
     fn edit(
         &mut self,
         alloc: Global,
@@ -335,8 +336,8 @@ impl Nodes {
         Ok(true)
     }
 
-    /// Inserts a range if this changes only one block, and returns the number of new pixels. Otherwise, or if the fill
-    /// rule would be broken, returns `None`; the nodes are then unchanged.
+    /// Inserts a range if this changes only one block, or two adjacent blocks of a node, and returns the number of new
+    /// pixels. Otherwise, or if the fill rule would be broken, returns `None`; the nodes are then unchanged.
     pub(crate) fn insert(
         &mut self,
         alloc: Global,
@@ -356,8 +357,8 @@ impl Nodes {
         Ok(Some(self.size - before))
     }
 
-    /// Removes the pixels of a range if this changes only one block, and returns the number of removed pixels.
-    /// Otherwise, if the block would be empty, or if the fill rule would be broken, returns `None`; the nodes are then
+    /// Removes the pixels of a range if this changes only one block, or two adjacent blocks of a node, and returns the
+    /// number of removed pixels. Otherwise, or if the fill rule would be broken, returns `None`; the nodes are then
     /// unchanged.
     pub(crate) fn remove(
         &mut self,

@@ -5,7 +5,7 @@ use Rattle.std.specs.Prelude.{MatchOption, MatchResult}
 use Rattle.std.specs.List.{insert}
 use Rattle.moc_blocks.specs.RangeList.{IsNormal}
 use Rattle.moc_blocks.specs.Lemmas.Members.{in_range, in_ranges}
-use Rattle.moc_blocks.specs.Blocks.{concat, ObeysFillRule, AreBlocks, max_block_ranges}
+use Rattle.moc_blocks.specs.Blocks.{concat, ObeysFillRule, AreBlocks, max_block_ranges, max_node_blocks}
 use Rattle.moc_blocks.specs.Private.Blocks.{next_of, width_of, IsStored}
 use Rattle.moc_blocks.specs.Private.Built.{first_length, last_length, EndsBelow}
 use Rattle.moc_blocks.specs.Private.Walks.{all_ranges}
@@ -19,6 +19,14 @@ pub record IsSplitAtRun {T : Type 0} (ranges : T → List (ℕ × ℕ)) (from : 
     (after : List T) : Type 0 where
   pub parts : whole ≡ before ++ run ∷ after
   pub below : EndsBelow from (all_ranges ranges before)
+
+-- two adjacent blocks, one of which is the block at a place, with the blocks before and after them
+pub record IsPair (left : List (List (ℕ × ℕ))) (run : List (ℕ × ℕ)) (right before : List (List (ℕ × ℕ)))
+    (first second : List (ℕ × ℕ)) (after : List (List (ℕ × ℕ))) : Type 0 where
+  pub parts : left ++ run ∷ right ≡ before ++ first ∷ (second ∷ after)
+  -- the blocks before the two are the first of those before the block
+  pub skipped : List (List (ℕ × ℕ))
+  pub starts : left ≡ before ++ skipped
 
 -- a range was merged with the ranges that it touches, and `rest` is the list after it
 pub record IsMergedRange (start to : ℕ) (ranges : List (ℕ × ℕ)) (end : ℕ) (rest : List (ℕ × ℕ)) : Type 0 where
@@ -155,6 +163,20 @@ pub record IsNodeEdit (edit : RangeEdit) (from to : ℕ) (nodes : List (List (Li
   pub stored : IsStored [] (before ++ (one_or_two first second ++ after))
   pub is_edited : IsEdited edit from to (concat (concat nodes))
       (concat (concat (before ++ (one_or_two first second ++ after))))
+
+-- a node between others is replaced by one or two nodes with the given blocks
+pub record ReplacesNodeBy (before after : List (List (List (ℕ × ℕ)))) (blocks : List (List (ℕ × ℕ))) (place : ℕ)
+    (first : List (List (ℕ × ℕ))) (second : Option (List (List (ℕ × ℕ)))) : Type 0 where
+  pub at : place ≡ length before
+  -- the blocks of the second node, if there is one
+  pub rest : List (List (ℕ × ℕ))
+  pub split : IsSplit max_node_blocks (last_length before) (first_length after) blocks first rest
+  pub last : MatchOption second (rest ≡ []) (λ node. (node ≡ rest) × (0 < length rest))
+
+-- the edit replaces a node between others by one or two nodes with the given blocks
+abbrev pub ReplacesNode : List (List (List (ℕ × ℕ))) → List (List (List (ℕ × ℕ))) → List (List (ℕ × ℕ)) → Edit → Type 0
+ReplacesNode before after blocks (Block e) = ⊥
+ReplacesNode before after blocks (Node e) = ReplacesNodeBy before after blocks e.place e.first e.second
 
 -- a block or a node is replaced because of an edit
 abbrev pub IsEdit : RangeEdit → ℕ → ℕ → List (List (List (ℕ × ℕ))) → Edit → Type 0
