@@ -19,8 +19,8 @@ use Rattle.moc_blocks.specs.Private.Built.{EndsBelow, first_length, last_length}
 use Rattle.moc_blocks.specs.Private.Walks.{all_ranges, EndsBy, EndsAfterAt}
 use Rattle.moc_blocks.specs.Private.Edits.{pieces, one_or_two, after_edit, IsSplitAtRun, IsMergedRange, IsEdited, AreEditedRanges, IsSplit}
 use Rattle.moc_blocks.specs.Private.Edits.{AddsRange, RemovesRange, IsEdit, IsNodeBlocks, IsNodeEdit, ReplacesNode}
-use Rattle.moc_blocks.specs.declared.edits.rebuild.RangeEdit.{RangeEdit}
-use Rattle.moc_blocks.specs.declared.edits.rebuild.RangeEdit.TheVariants.{Insert, Remove}
+use Rattle.moc_blocks.specs.declared.edits.rebuild.EditKind.{EditKind}
+use Rattle.moc_blocks.specs.declared.edits.rebuild.EditKind.TheVariants.{Insert, Remove}
 use Rattle.moc_blocks.specs.declared.edits.rebuild.Edit.{Edit}
 use Rattle.moc_blocks.specs.declared.edits.rebuild.Edit.TheVariants.{Block, Node}
 use Rattle.moc_blocks.proofs.Blocking.{IsNormal-prefix, IsNormal-suffix, concat-append, append_empty, split_first}
@@ -273,7 +273,7 @@ pair_normal before node node' first second after one two is parts normal =
     let rest = IsNormal-suffix (concat first) (one ++ (two ++ concat second)) (subst IsNormal (concat-append first (one ∷ (two ∷ second))) whole) in
     IsNormal-prefix (one ++ two) (concat second) (subst IsNormal (sym (append_assoc one two (concat second))) rest)
 
-pub replaced_normal : (edit : RangeEdit) (from to : ℕ) (before after run ranges : List (ℕ × ℕ)) → IsNormal (before ++ (run ++ after)) → 0 < length run → 0 < length ranges → EndsBelow from before → to < next_of after → AreEditedRanges edit from to run ranges → IsNormal (before ++ (ranges ++ after))
+pub replaced_normal : (edit : EditKind) (from to : ℕ) (before after run ranges : List (ℕ × ℕ)) → IsNormal (before ++ (run ++ after)) → 0 < length run → 0 < length ranges → EndsBelow from before → to < next_of after → AreEditedRanges edit from to run ranges → IsNormal (before ++ (ranges ++ after))
 replaced_normal edit from to before after run ranges normal some some' below above more =
     let tail = IsNormal-suffix before (run ++ after) normal in
     let rest = normal_append ranges after more.normal (IsNormal-suffix run after tail) (more.below (next_of after) above (ends_next run after tail)) in
@@ -314,11 +314,11 @@ inside_low from to q is = grind (arith, nat_tests)
 inside_high : (from to q : ℕ) → in_range (from, to) q ≡ true → q ≤ to
 inside_high from to q is = grind (arith, nat_tests)
 
-edit_last : (edit : RangeEdit) (a r z x : Bool) → (x ≡ true → (a ≡ false) × (z ≡ false)) → (a || (after_edit edit r x || z)) ≡ after_edit edit (a || (r || z)) x
+edit_last : (edit : EditKind) (a r z x : Bool) → (x ≡ true → (a ≡ false) × (z ≡ false)) → (a || (after_edit edit r x || z)) ≡ after_edit edit (a || (r || z)) x
 edit_last Insert a r z x apart = more_last a r z x
 edit_last Remove a r z x apart = less_last a r z x apart
 
-pub replaced_edited : (edit : RangeEdit) (from to : ℕ) (before after run ranges : List (ℕ × ℕ)) → IsNormal after → EndsBelow from before → to < next_of after → AreEditedRanges edit from to run ranges → IsEdited edit from to (before ++ (run ++ after)) (before ++ (ranges ++ after))
+pub replaced_edited : (edit : EditKind) (from to : ℕ) (before after run ranges : List (ℕ × ℕ)) → IsNormal after → EndsBelow from before → to < next_of after → AreEditedRanges edit from to run ranges → IsEdited edit from to (before ++ (run ++ after)) (before ++ (ranges ++ after))
 replaced_edited edit from to before after run ranges normal below above more = λ q.
     in_ranges-append before (ranges ++ after) q
     ∙ ap (λ b. in_ranges before q || b) (in_ranges-append ranges after q ∙ ap (λ b. b || in_ranges after q) (more.same q))
@@ -338,7 +338,7 @@ some_cut {X} most front back items first [] cut = omega (arith, cut.filled.0, ap
 some_cut {X} most front back items first (y ∷ ys) cut = omega (arith, cut.filled.0, ap length (sym cut.parts), length-append first (y ∷ ys))
 
 -- ranges between blocks are edited and split into blocks
-split_after_edit : (edit : RangeEdit) (from to front back : ℕ) (before after : List (List (ℕ × ℕ))) (run ranges first second : List (ℕ × ℕ)) → AreBlocks before → AreBlocks after → 0 < length run → IsNormal (concat before ++ (run ++ concat after)) → EndsBelow from (concat before) → to < next_of (concat after) → AreEditedRanges edit from to run ranges → front ≡ last_length before → back ≡ first_length after → IsSplit 128 front back ranges first second
+split_after_edit : (edit : EditKind) (from to front back : ℕ) (before after : List (List (ℕ × ℕ))) (run ranges first second : List (ℕ × ℕ)) → AreBlocks before → AreBlocks after → 0 < length run → IsNormal (concat before ++ (run ++ concat after)) → EndsBelow from (concat before) → to < next_of (concat after) → AreEditedRanges edit from to run ranges → front ≡ last_length before → back ≡ first_length after → IsSplit 128 front back ranges first second
     → AreBlocks (before ++ (pieces first second ++ after)) × IsNormal (concat (before ++ (pieces first second ++ after))) × IsEdited edit from to (concat before ++ (run ++ concat after)) (concat (before ++ (pieces first second ++ after)))
 split_after_edit edit from to front back before after run ranges first second sized_before sized_after some whole below above more is_front is_back cut =
     let new : concat (before ++ (pieces first second ++ after)) ≡ concat before ++ (ranges ++ concat after) = concat-middle before (pieces first second) after ∙ ap (λ (l : List (ℕ × ℕ)). concat before ++ (l ++ concat after)) (concat-pieces first second ∙ cut.parts) in
@@ -352,7 +352,7 @@ nonempty_middle : {X : Type 0} → (xs ys zs : List X) → 0 < length ys → 0 <
 nonempty_middle xs ys zs some = omega (arith, some, length-append xs (ys ++ zs), length-append ys zs)
 
 -- the blocks of a node, of which one or two adjacent ones with the ranges `run` were edited and split
-node_blocks_after_edit : (edit : RangeEdit) (from to : ℕ) (before after node b1 middle b2 : List (List (ℕ × ℕ))) (run ranges first second : List (ℕ × ℕ)) (front back : ℕ) (blocks : List (List (ℕ × ℕ))) → AreBlocks (before ++ b1) → AreBlocks (b2 ++ after) → 0 < length run → IsNormal (concat (before ++ (node ++ after))) → node ≡ b1 ++ (middle ++ b2) → concat middle ≡ run → EndsBelow from (concat before) → EndsBelow from (concat b1) → to < next_of (concat b2 ++ concat after) → AreEditedRanges edit from to run ranges → front ≡ last_length (before ++ b1) → back ≡ first_length (b2 ++ after) → IsSplit 128 front back ranges first second → blocks ≡ b1 ++ (pieces first second ++ b2) → IsNodeBlocks edit from to before after node blocks
+node_blocks_after_edit : (edit : EditKind) (from to : ℕ) (before after node b1 middle b2 : List (List (ℕ × ℕ))) (run ranges first second : List (ℕ × ℕ)) (front back : ℕ) (blocks : List (List (ℕ × ℕ))) → AreBlocks (before ++ b1) → AreBlocks (b2 ++ after) → 0 < length run → IsNormal (concat (before ++ (node ++ after))) → node ≡ b1 ++ (middle ++ b2) → concat middle ≡ run → EndsBelow from (concat before) → EndsBelow from (concat b1) → to < next_of (concat b2 ++ concat after) → AreEditedRanges edit from to run ranges → front ≡ last_length (before ++ b1) → back ≡ first_length (b2 ++ after) → IsSplit 128 front back ranges first second → blocks ≡ b1 ++ (pieces first second ++ b2) → IsNodeBlocks edit from to before after node blocks
 node_blocks_after_edit edit from to before after node b1 middle b2 run ranges first second front back blocks sized_before sized_after some normal parts is_run below1 below2 above more is_front is_back cut made =
     let old : concat (before ++ (node ++ after)) ≡ concat (before ++ b1) ++ (run ++ concat (b2 ++ after)) =
     ap concat (ap (λ (l : List (List (ℕ × ℕ))). before ++ (l ++ after)) parts ∙ append_spread before b1 middle b2 after)
@@ -371,7 +371,7 @@ node_blocks_after_edit edit from to before after node b1 middle b2 run ranges fi
     }
 
 -- the blocks of a node, of which one was edited and split
-pub node_blocks_after_regrowth : (edit : RangeEdit) (from to : ℕ) (before after node b1 b2 : List (List (ℕ × ℕ))) (run ranges first second : List (ℕ × ℕ)) (front back : ℕ) (blocks : List (List (ℕ × ℕ))) → AreBlocks (before ++ (node ++ after)) → IsNormal (concat (before ++ (node ++ after))) → node ≡ b1 ++ run ∷ b2 → EndsBelow from (concat before) → EndsBelow from (concat b1) → to < next_of (concat b2 ++ concat after) → AreEditedRanges edit from to run ranges → front ≡ last_length (before ++ b1) → back ≡ first_length (b2 ++ after) → IsSplit 128 front back ranges first second → blocks ≡ b1 ++ (pieces first second ++ b2) → IsNodeBlocks edit from to before after node blocks
+pub node_blocks_after_regrowth : (edit : EditKind) (from to : ℕ) (before after node b1 b2 : List (List (ℕ × ℕ))) (run ranges first second : List (ℕ × ℕ)) (front back : ℕ) (blocks : List (List (ℕ × ℕ))) → AreBlocks (before ++ (node ++ after)) → IsNormal (concat (before ++ (node ++ after))) → node ≡ b1 ++ run ∷ b2 → EndsBelow from (concat before) → EndsBelow from (concat b1) → to < next_of (concat b2 ++ concat after) → AreEditedRanges edit from to run ranges → front ≡ last_length (before ++ b1) → back ≡ first_length (b2 ++ after) → IsSplit 128 front back ranges first second → blocks ≡ b1 ++ (pieces first second ++ b2) → IsNodeBlocks edit from to before after node blocks
 node_blocks_after_regrowth edit from to before after node b1 b2 run ranges first second front back blocks sized normal parts below1 below2 above more is_front is_back cut made =
     let flat = subst AreBlocks (ap (λ (l : List (List (ℕ × ℕ))). before ++ (l ++ after)) parts ∙ append_spread before b1 (run ∷ []) b2 after) sized in
     let around = fill_rule_around 128 (before ++ b1) (b2 ++ after) run flat in
@@ -379,7 +379,7 @@ node_blocks_after_regrowth edit from to before after node b1 b2 run ranges first
     (fill_rule_nonempty 128 (before ++ b1) (b2 ++ after) run flat) normal parts (append_empty run) below1 below2 above more is_front is_back cut made
 
 -- the blocks of a node, of which two adjacent ones were edited together and split
-pub node_blocks_after_pair : (edit : RangeEdit) (from to : ℕ) (before after node b1 b2 : List (List (ℕ × ℕ))) (one two ranges first second : List (ℕ × ℕ)) (front back : ℕ) (blocks : List (List (ℕ × ℕ))) → AreBlocks (before ++ (node ++ after)) → IsNormal (concat (before ++ (node ++ after))) → node ≡ b1 ++ one ∷ (two ∷ b2) → EndsBelow from (concat before) → EndsBelow from (concat b1) → to < next_of (concat b2 ++ concat after) → AreEditedRanges edit from to (one ++ two) ranges → front ≡ last_length (before ++ b1) → back ≡ first_length (b2 ++ after) → IsSplit 128 front back ranges first second → blocks ≡ b1 ++ (pieces first second ++ b2) → IsNodeBlocks edit from to before after node blocks
+pub node_blocks_after_pair : (edit : EditKind) (from to : ℕ) (before after node b1 b2 : List (List (ℕ × ℕ))) (one two ranges first second : List (ℕ × ℕ)) (front back : ℕ) (blocks : List (List (ℕ × ℕ))) → AreBlocks (before ++ (node ++ after)) → IsNormal (concat (before ++ (node ++ after))) → node ≡ b1 ++ one ∷ (two ∷ b2) → EndsBelow from (concat before) → EndsBelow from (concat b1) → to < next_of (concat b2 ++ concat after) → AreEditedRanges edit from to (one ++ two) ranges → front ≡ last_length (before ++ b1) → back ≡ first_length (b2 ++ after) → IsSplit 128 front back ranges first second → blocks ≡ b1 ++ (pieces first second ++ b2) → IsNodeBlocks edit from to before after node blocks
 node_blocks_after_pair edit from to before after node b1 b2 one two ranges first second front back blocks sized normal parts below1 below2 above more is_front is_back cut made =
     let flat = subst AreBlocks (ap (λ (l : List (List (ℕ × ℕ))). before ++ (l ++ after)) parts ∙ append_spread before b1 (one ∷ (two ∷ [])) b2 after) sized in
     let some = fill_rule_nonempty 128 (before ++ b1) (two ∷ (b2 ++ after)) one flat in
@@ -398,7 +398,7 @@ with_pieces {X} first' first second None is none = ap (λ (l : List X). l ∷ []
 with_pieces {X} first' first [] (Some n) is some = absurd (omega (arith, some.1))
 with_pieces {X} first' first (y ∷ ys) (Some n) is some = λ i. is i ∷ (some.0 i ∷ [])
 
-pub node_edit_all : (edit : RangeEdit) (from to : ℕ) (nodes before after : List (List (List (ℕ × ℕ)))) (node blocks first second first' : List (List (ℕ × ℕ))) (o : Option (List (List (ℕ × ℕ)))) (front back : ℕ) → IsStored [] nodes → nodes ≡ before ++ node ∷ after → IsNodeBlocks edit from to (concat before) (concat after) node blocks → front ≡ last_length before → back ≡ first_length after → IsSplit 16 front back blocks first second → first' ≡ first → MatchOption o (second ≡ []) (λ n. (n ≡ second) × (0 < length second)) → IsNodeEdit edit from to nodes (length before) first' o
+pub node_edit_all : (edit : EditKind) (from to : ℕ) (nodes before after : List (List (List (ℕ × ℕ)))) (node blocks first second first' : List (List (ℕ × ℕ))) (o : Option (List (List (ℕ × ℕ)))) (front back : ℕ) → IsStored [] nodes → nodes ≡ before ++ node ∷ after → IsNodeBlocks edit from to (concat before) (concat after) node blocks → front ≡ last_length before → back ≡ first_length after → IsSplit 16 front back blocks first second → first' ≡ first → MatchOption o (second ≡ []) (λ n. (n ≡ second) × (0 < length second)) → IsNodeEdit edit from to nodes (length before) first' o
 node_edit_all edit from to nodes before after node blocks first second first' o front back stored parts node_blocks is_front is_back cut is_first is_second =
     let made = with_pieces first' first second o is_first is_second in
     let new : concat (before ++ (one_or_two first' o ++ after)) ≡ concat before ++ (blocks ++ concat after) =
@@ -423,21 +423,21 @@ node_edit_all edit from to nodes before after node blocks first second first' o 
           (subst (λ (l : List (List (ℕ × ℕ))). IsEdited edit from to (concat l) (concat (concat before ++ (blocks ++ concat after)))) (sym old) node_blocks.is_edited);
     }
 
-node_replaced : (edit : RangeEdit) (from to : ℕ) (nodes before after : List (List (List (ℕ × ℕ)))) (node blocks : List (List (ℕ × ℕ))) (e : Edit) → IsStored [] nodes → nodes ≡ before ++ node ∷ after → IsNodeBlocks edit from to (concat before) (concat after) node blocks → ReplacesNode before after blocks e → IsEdit edit from to nodes e
+node_replaced : (edit : EditKind) (from to : ℕ) (nodes before after : List (List (List (ℕ × ℕ)))) (node blocks : List (List (ℕ × ℕ))) (e : Edit) → IsStored [] nodes → nodes ≡ before ++ node ∷ after → IsNodeBlocks edit from to (concat before) (concat after) node blocks → ReplacesNode before after blocks e → IsEdit edit from to nodes e
 node_replaced edit from to nodes before after node blocks (Block e) stored parts node_blocks replaced = absurd replaced
 node_replaced edit from to nodes before after node blocks (Node e) stored parts node_blocks replaced =
     subst (λ n. IsNodeEdit edit from to nodes n e.first e.second) (sym replaced.at)
     (node_edit_all edit from to nodes before after node blocks e.first replaced.rest e.first e.second _ _ stored parts node_blocks refl refl replaced.split refl replaced.last)
 
 -- a node that is replaced by nodes with its new blocks is edited
-pub node_replacement_edits : (edit : RangeEdit) (from to : ℕ) (nodes before after : List (List (List (ℕ × ℕ)))) (node blocks : List (List (ℕ × ℕ))) (o : Option Edit) → IsStored [] nodes → nodes ≡ before ++ node ∷ after → IsNodeBlocks edit from to (concat before) (concat after) node blocks → IfSome o (ReplacesNode before after blocks) → IfSome o (IsEdit edit from to nodes)
+pub node_replacement_edits : (edit : EditKind) (from to : ℕ) (nodes before after : List (List (List (ℕ × ℕ)))) (node blocks : List (List (ℕ × ℕ))) (o : Option Edit) → IsStored [] nodes → nodes ≡ before ++ node ∷ after → IsNodeBlocks edit from to (concat before) (concat after) node blocks → IfSome o (ReplacesNode before after blocks) → IfSome o (IsEdit edit from to nodes)
 node_replacement_edits edit from to nodes before after node blocks None stored parts node_blocks replaced = tt
 node_replacement_edits edit from to nodes before after node blocks (Some e) stored parts node_blocks replaced = node_replaced edit from to nodes before after node blocks e stored parts node_blocks replaced
 
-pub node_blocks_normal : (edit : RangeEdit) (from to : ℕ) (before after node blocks : List (List (ℕ × ℕ))) → IsNodeBlocks edit from to before after node blocks → IsNormal (concat blocks)
+pub node_blocks_normal : (edit : EditKind) (from to : ℕ) (before after node blocks : List (List (ℕ × ℕ))) → IsNodeBlocks edit from to before after node blocks → IsNormal (concat blocks)
 node_blocks_normal edit from to before after node blocks b = node_normal before blocks blocks after refl b.normal
 
-pub node_blocks_sized : (edit : RangeEdit) (from to : ℕ) (before after node blocks : List (List (ℕ × ℕ))) → IsNodeBlocks edit from to before after node blocks → AreBlocks blocks
+pub node_blocks_sized : (edit : EditKind) (from to : ℕ) (before after node blocks : List (List (ℕ × ℕ))) → IsNodeBlocks edit from to before after node blocks → AreBlocks blocks
 node_blocks_sized edit from to before after node blocks b = fill_rule_prefix 128 blocks after (fill_rule_suffix 128 before (blocks ++ after) b.sized)
 
 -- ---- one element replaced
@@ -478,11 +478,11 @@ replaced_in_place {X} nodes before after middle node place parts at =
     let last : drop (place + 1) nodes ≡ after = ap (λ (l : List X). drop (place + 1) l) parts ∙ drop_first before after node (place + 1) (omega arith) in
     λ i. first i ++ (middle ++ last i)
 
-pub node_edit_stored : (edit : RangeEdit) (from to place : ℕ) (nodes nodes' new : List (List (List (ℕ × ℕ)))) (first : List (List (ℕ × ℕ))) (second : Option (List (List (ℕ × ℕ)))) → nodes' ≡ nodes → IsNodeEdit edit from to nodes' place first second → new ≡ take place nodes ++ (one_or_two first second ++ drop (place + 1) nodes) → IsStored [] new
+pub node_edit_stored : (edit : EditKind) (from to place : ℕ) (nodes nodes' new : List (List (List (ℕ × ℕ)))) (first : List (List (ℕ × ℕ))) (second : Option (List (List (ℕ × ℕ)))) → nodes' ≡ nodes → IsNodeEdit edit from to nodes' place first second → new ≡ take place nodes ++ (one_or_two first second ++ drop (place + 1) nodes) → IsStored [] new
 node_edit_stored edit from to place nodes nodes' new first second is r made =
     subst (λ (l : List (List (List (ℕ × ℕ)))). IsStored [] l) (sym (made ∙ replaced_in_place nodes r.before r.after (one_or_two first second) r.node place (sym is ∙ r.parts) r.at)) r.stored
 
-pub node_edit_edits : (edit : RangeEdit) (from to place : ℕ) (nodes nodes' new : List (List (List (ℕ × ℕ)))) (first : List (List (ℕ × ℕ))) (second : Option (List (List (ℕ × ℕ)))) → nodes' ≡ nodes → IsNodeEdit edit from to nodes' place first second → new ≡ take place nodes ++ (one_or_two first second ++ drop (place + 1) nodes) → IsEdited edit from to (concat (concat nodes)) (concat (concat new))
+pub node_edit_edits : (edit : EditKind) (from to place : ℕ) (nodes nodes' new : List (List (List (ℕ × ℕ)))) (first : List (List (ℕ × ℕ))) (second : Option (List (List (ℕ × ℕ)))) → nodes' ≡ nodes → IsNodeEdit edit from to nodes' place first second → new ≡ take place nodes ++ (one_or_two first second ++ drop (place + 1) nodes) → IsEdited edit from to (concat (concat nodes)) (concat (concat new))
 node_edit_edits edit from to place nodes nodes' new first second is r made =
     subst (λ (l : List (List (List (ℕ × ℕ)))). IsEdited edit from to (concat (concat nodes)) (concat (concat l))) (sym (made ∙ replaced_in_place nodes r.before r.after (one_or_two first second) r.node place (sym is ∙ r.parts) r.at))
     (subst (λ (l : List (List (List (ℕ × ℕ)))). IsEdited edit from to (concat (concat l)) (concat (concat (r.before ++ (one_or_two first second ++ r.after))))) is r.is_edited)

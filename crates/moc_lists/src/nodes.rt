@@ -7,10 +7,10 @@ ghost use Rattle.moc_blocks.specs.Blocks.{concat};
 ghost use Rattle.moc_blocks.specs.Private.Blocks.{largest_u64, shift_starts, width_of, AreStored, IsCountStarted};
 ghost use Rattle.moc_blocks.specs.Private.Blocks.{IsStored};
 ghost use Rattle.moc_blocks.specs.Private.Edits.{with_replaced_item, one_or_two, Inserts, IsEdited, Removes};
-ghost use Rattle.moc_blocks.specs.declared.edits.rebuild.RangeEdit.{RangeEdit};
+ghost use Rattle.moc_blocks.specs.declared.edits.rebuild.EditKind.{EditKind};
 
 use moc_blocks::{
-    Block, BlockEdit, Edit, Gap, Node, NodeEdit, RangeEdit, edit_nodes, find_gap, share_nodes,
+    Block, BlockEdit, Edit, EditKind, Gap, Node, NodeEdit, edit_nodes, find_gap, share_nodes,
 };
 use std::alloc::{AllocError, Global};
 use std::marker::Model;
@@ -298,7 +298,7 @@ impl Nodes {
     fn edit(
         &mut self,
         alloc: Global,
-        edit: RangeEdit,
+        edit: EditKind,
         from: u64,
         to: u64,
     ) -> Result<bool, AllocError>
@@ -351,7 +351,7 @@ impl Nodes {
         ensures inserted { Inserts from to (concat (concat self.old)) (concat (concat self.new)) result }
     {
         let before = self.size;
-        if !self.edit(alloc, RangeEdit::Insert, from, to)? {
+        if !self.edit(alloc, EditKind::Insert, from, to)? {
             return Ok(None);
         }
         Ok(Some(self.size - before))
@@ -373,7 +373,7 @@ impl Nodes {
         ensures removed { Removes from to (concat (concat self.old)) (concat (concat self.new)) result }
     {
         let before = self.size;
-        if !self.edit(alloc, RangeEdit::Remove, from, to)? {
+        if !self.edit(alloc, EditKind::Remove, from, to)? {
             return Ok(None);
         }
         Ok(Some(before - self.size))

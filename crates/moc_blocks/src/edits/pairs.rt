@@ -8,7 +8,7 @@ ghost use Rattle.moc_blocks.specs.Private.Edits.{IsNodeBlocks, IsPair};
 use crate::block::{Block, MAX_BLOCK_RANGES};
 use crate::cursor::{Cursor, start_of_next};
 use crate::edits::place::{SplitAtRun, find_run};
-use crate::edits::rebuild::{RangeEdit, edit_ranges, ranges_in_next, with_pieces_between};
+use crate::edits::rebuild::{EditKind, edit_ranges, ranges_in_next, with_pieces_between};
 use crate::edits::splitting::split_list;
 use crate::lengths::{ranges_in_first, ranges_in_last};
 use crate::node::Node;
@@ -58,7 +58,7 @@ fn pair_at<'a>(place: SplitAtRun<'a, Block>, reaches_next: bool) -> Option<Pair<
 pub(crate) fn edit_pair(
     alloc: Global,
     around: &SplitAtRun<'_, Node>,
-    edit: RangeEdit,
+    edit: EditKind,
     from: u64,
     to: u64,
 ) -> Result<Option<Vec<Block>>, AllocError>

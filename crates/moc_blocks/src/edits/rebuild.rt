@@ -5,7 +5,7 @@ ghost use Rattle.moc_blocks.specs.Blocks.{concat, AreBlocks};
 ghost use Rattle.moc_blocks.specs.Private.Blocks.{IsStored};
 ghost use Rattle.moc_blocks.specs.Private.Built.{first_length, EndsBelow};
 ghost use Rattle.moc_blocks.specs.Private.Edits.{pieces, AreEditedRanges, IsEditedBlock, IsEdit, ReplacesNode};
-ghost use Rattle.moc_blocks.specs.declared.edits.rebuild.RangeEdit.{RangeEdit};
+ghost use Rattle.moc_blocks.specs.declared.edits.rebuild.EditKind.{EditKind};
 
 use crate::block::{Block, MAX_BLOCK_RANGES};
 use crate::cursor::{Cursor, start_of_next};
@@ -20,7 +20,7 @@ use std::alloc::{AllocError, Global};
 
 /// What is done with a range: its pixels are inserted into a list, or removed from it.
 #[derive(Clone, Copy)]
-pub enum RangeEdit {
+pub enum EditKind {
     /// The pixels of the range are inserted.
     Insert,
     /// The pixels of the range are removed.
@@ -99,7 +99,7 @@ pub(crate) fn with_pieces_between(
 pub(crate) fn edit_ranges(
     alloc: Global,
     ranges: &[(u64, u64)],
-    edit: RangeEdit,
+    edit: EditKind,
     from: u64,
     to: u64,
 ) -> Result<Vec<(u64, u64)>, AllocError>
@@ -109,8 +109,8 @@ pub(crate) fn edit_ranges(
     ensures { IfOk result (λ v. AreEditedRanges edit from to ranges.now v.items) }
 {
     match edit {
-        RangeEdit::Insert => with_range(alloc, ranges, from, to),
-        RangeEdit::Remove => without_range(alloc, ranges, from, to),
+        EditKind::Insert => with_range(alloc, ranges, from, to),
+        EditKind::Remove => without_range(alloc, ranges, from, to),
     }
 }
 
@@ -126,7 +126,7 @@ struct EditedBlock<'a> {
 fn edit_block<'a>(
     alloc: Global,
     around: &SplitAtRun<'a, Node>,
-    edit: RangeEdit,
+    edit: EditKind,
     from: u64,
     to: u64,
 ) -> Result<Option<EditedBlock<'a>>, AllocError>
@@ -231,7 +231,7 @@ fn replace_node(
 fn edit_two_blocks(
     alloc: Global,
     place: &SplitAtRun<'_, Node>,
-    edit: RangeEdit,
+    edit: EditKind,
     from: u64,
     to: u64,
 ) -> Result<Option<Edit>, AllocError>
@@ -259,7 +259,7 @@ fn edit_two_blocks(
 pub fn edit_nodes(
     alloc: Global,
     nodes: &[Node],
-    edit: RangeEdit,
+    edit: EditKind,
     from: u64,
     to: u64,
 ) -> Result<Option<Edit>, AllocError>

@@ -6,7 +6,7 @@ use Rattle.moc_shared.specs.Private.Seats.{PartNote, part, IsInSky}
 use Rattle.moc_shared.specs.Batches.{batch_answer}
 use Rattle.moc_shared.specs.Private.OperationEffects.{HasEffect}
 use Rattle.moc_shared.specs.Private.StepEffects.{with_holds, rest_of_list}
-use Rattle.moc_shared.proofs.Basics.{empty_range_or}
+use Rattle.moc_shared.proofs.Basics.{nothing_in_empty_list}
 use Rattle.moc_shared.proofs.CarriedSlots.{no_entries_of_no_keys}
 use Rattle.moc_shared.proofs.Replying.{local_batch}
 use Rattle.moc_shared.proofs.SingleCommands.{answers_alone}
@@ -27,7 +27,7 @@ pub give_part-requires-clause-held : goal.give_part-requires-clause-held
 give_part-requires-clause-held c = (
   [],
   c.requires.held.held ∙ (λ i. note c.args.part (Some (sym c.in-Err.ensures.unchanged i)) ∷ []),
-  λ y h. empty_range_or (note c.args.part y) h,
+  λ y h. nothing_in_empty_list (note c.args.part y) h,
 )
 
 pub returns-in-Err-clause-idle : goal.returns-in-Err-clause-idle
