@@ -38,27 +38,6 @@ or_false false = refl
 some_is_injective : (a b : NumberSet) → Some a ≡ Some b → a ≡ b
 some_is_injective a b e = cc
 
--- ---- pixels that are already there
-
-or_with_implied : (a b : Bool) → (b ≡ true → a ≡ true) → a ≡ (a || b)
-or_with_implied true b has = refl
-or_with_implied false true has = absurd (true≢false (sym (has refl)))
-or_with_implied false false has = refl
-
-new_not : (a b : Bool) → (b ≡ true → a ≡ true) → (b && not a) ≡ false
-new_not true true has = refl
-new_not true false has = refl
-new_not false true has = absurd (true≢false (sym (has refl)))
-new_not false false has = refl
-
-pub union_with_subset : (a b : NumberSet) → finset.is_subset b a ≡ true → a ≡ finset.union a b
-union_with_subset a b all = same_members _ _ (λ q. or_with_implied (finset.contains a q) (finset.contains b q) (finset.is_subset-contains nat_cmp_total b a all q) ∙ sym (finset.contains-union nat_cmp_total a b q))
-
-pub none_new : (a b : NumberSet) → finset.is_subset b a ≡ true → 0 ≡ finset.len (finset.difference b a)
-none_new a b all =
-    let none : finset.difference b a ≡ finset.empty = same_members _ _ (λ q. finset.contains-difference nat_cmp_total b a q ∙ new_not (finset.contains a q) (finset.contains b q) (finset.is_subset-contains nat_cmp_total b a all q) ∙ sym (finset.contains-empty nat_cmp q)) in
-    sym (ap finset.len none ∙ finset.len-empty nat_cmp)
-
 -- ---- the effect of the command, by locality
 
 module _ (c : Command) (b : ℕ) (met : (k : ℕ) → footprint c k ≡ nat_eq b k) where
