@@ -16,10 +16,6 @@ pub from_two_ok : {T E P Q R : Type 0} (r : Result T E) → OnOk r P → OnOk r 
 from_two_ok (Ok x) p q f = f p q
 from_two_ok (Err e) p q f = tt
 
-pub from_three_ok : {T E P Q R S : Type 0} (r : Result T E) → OnOk r P → OnOk r Q → OnOk r R → (P → Q → R → S) → OnOk r S
-from_three_ok (Ok x) p q s f = f p q s
-from_three_ok (Err e) p q s f = tt
-
 pub first_item : (xs : List (ℕ × ℕ)) (d : ℕ × ℕ) → 1 ≤ length xs → xs ≡ get_or xs 0 d ∷ take (length xs - 1) (drop 1 xs)
 first_item [] d some = absurd (omega arith)
 first_item (y ∷ ys) d some =

@@ -10,9 +10,9 @@ use Rattle.moc_blocks.specs.RangeList.{pixel_count, IsNormal}
 use Rattle.moc_blocks.specs.Lemmas.Members.{in_range, in_ranges, in_ranges-append, or_false}
 use Rattle.moc_blocks.specs.Blocks.{concat, AreBlocks}
 use Rattle.moc_blocks.specs.Private.Blocks.{last_of}
-use Rattle.moc_blocks.specs.Private.Built.{GrowingList, ranges_of, IsBuilderState, AreGrouped, CanMerge, EndsBelow, BeginsBy}
-use Rattle.moc_blocks.specs.Private.Built.{builder_ranges, first_length, last_length}
-use Rattle.moc_blocks.proofs.Filling.{last_length-append, fill_rule_longer, fill_rule_append, some_blocks}
+use Rattle.moc_blocks.specs.Private.Built.{GrowingList, ranges_of, IsBuilderState, CanMerge, EndsBelow, BeginsBy}
+use Rattle.moc_blocks.specs.Private.Built.{builder_ranges, last_length}
+use Rattle.moc_blocks.proofs.Filling.{last_length-append, fill_rule_longer, some_blocks}
 use Rattle.moc_blocks.proofs.Blocking.{IsNormal-prefix, IsNormal-suffix, append_empty, concat-append, concat-last}
 use Rattle.moc_blocks.proofs.Blocking.{last_of-get}
 use Rattle.moc_blocks.proofs.Merging.{ends_by_last, normal_append, EndsBelow-append, EndsBelow-first}
@@ -169,18 +169,6 @@ stack_with_node ns ns' node bs bs' stack same none new =
 pub builder_ranges_after_node : (ns : List (List (List (ℕ × ℕ)))) (bs stack node : List (List (ℕ × ℕ))) (rs kept : List (ℕ × ℕ)) → concat ns ++ bs ≡ stack ++ node → rs ≡ [] → concat stack ≡ kept → builder_ranges ns bs rs ≡ kept ++ concat node
 builder_ranges_after_node ns bs stack node rs kept same none is =
     (λ i. concat (same i) ++ none i) ∙ append_empty (concat (stack ++ node)) ∙ concat-append stack node ∙ ap (λ (l : List (ℕ × ℕ)). l ++ concat node) is
-
-pub builder_state_after_node : (ns : List (List (List (ℕ × ℕ)))) (bs stack node : List (List (ℕ × ℕ))) (rs kept : List (ℕ × ℕ)) → concat ns ++ bs ≡ stack ++ node → rs ≡ [] → concat stack ≡ kept → AreBlocks stack → AreBlocks node → (0 < last_length stack → 128 < last_length stack + first_length node) → AreGrouped ns bs → IsNormal (kept ++ concat node) → IsBuilderState ns bs rs
-builder_state_after_node ns bs stack node rs kept same none is ok more seam wide normal = record {
-  wide = wide;
-  sized = subst AreBlocks (sym same) (fill_rule_append 128 stack node ok more seam);
-  fits = omega (arith, ap length none);
-  normal = subst IsNormal (sym (builder_ranges_after_node ns bs stack node rs kept same none is)) normal;
-}
-
--- after sealing, all ranges are in blocks
-pub all_without_rest : (all rs kept : List (ℕ × ℕ)) → all ++ rs ≡ kept → rs ≡ [] → all ≡ kept
-all_without_rest all rs kept same none = sym (append_empty all) ∙ ap (λ (l : List (ℕ × ℕ)). all ++ l) (sym none) ∙ same
 
 -- one more of the blocks
 pub each_more : (blocks : List (List (ℕ × ℕ))) (i : ℕ) (b : List (ℕ × ℕ)) (all now next : List (ℕ × ℕ)) → i < length blocks → b ≡ get_or blocks i b → now ≡ all ++ concat (take i blocks) → next ≡ now ++ b → next ≡ all ++ concat (take (i + 1) blocks)

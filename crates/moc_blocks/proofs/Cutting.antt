@@ -11,7 +11,7 @@ use Rattle.moc_blocks.specs.Private.Blocks.{next_of, last_of}
 use Rattle.moc_blocks.specs.Private.Built.{EndsBelow}
 use Rattle.moc_blocks.specs.Private.Walks.{all_ranges, EndsBy, EndsAfterAt}
 use Rattle.moc_blocks.specs.Private.Edits.{parts_below, parts_from, AreEditedRanges}
-use Rattle.moc_blocks.specs.declared.edits.rebuild.RangeEdit.TheVariants.{Remove}
+use Rattle.moc_blocks.specs.declared.edits.rebuild.EditKind.TheVariants.{Remove}
 use Rattle.moc_blocks.proofs.Blocking.{IsNormal-prefix, IsNormal-suffix, append_empty}
 use Rattle.moc_blocks.proofs.Passing.{all_ranges-ranges}
 use Rattle.moc_blocks.proofs.Merging.{EndsBelow-append, normal_append}

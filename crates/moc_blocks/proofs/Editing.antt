@@ -18,9 +18,11 @@ use Rattle.moc_blocks.specs.Private.Blocks.{next_of, last_of, width_of, IsStored
 use Rattle.moc_blocks.specs.Private.Built.{EndsBelow, first_length, last_length}
 use Rattle.moc_blocks.specs.Private.Walks.{all_ranges, EndsBy, EndsAfterAt}
 use Rattle.moc_blocks.specs.Private.Edits.{pieces, one_or_two, after_edit, IsSplitAtRun, IsMergedRange, IsEdited, AreEditedRanges, IsSplit}
-use Rattle.moc_blocks.specs.Private.Edits.{AddsRange, RemovesRange, IsNodeBlocks, IsNodeEdit}
-use Rattle.moc_blocks.specs.declared.edits.rebuild.RangeEdit.{RangeEdit}
-use Rattle.moc_blocks.specs.declared.edits.rebuild.RangeEdit.TheVariants.{Insert, Remove}
+use Rattle.moc_blocks.specs.Private.Edits.{AddsRange, RemovesRange, IsEdit, IsNodeBlocks, IsNodeEdit, ReplacesNode}
+use Rattle.moc_blocks.specs.declared.edits.rebuild.EditKind.{EditKind}
+use Rattle.moc_blocks.specs.declared.edits.rebuild.EditKind.TheVariants.{Insert, Remove}
+use Rattle.moc_blocks.specs.declared.edits.rebuild.Edit.{Edit}
+use Rattle.moc_blocks.specs.declared.edits.rebuild.Edit.TheVariants.{Block, Node}
 use Rattle.moc_blocks.proofs.Blocking.{IsNormal-prefix, IsNormal-suffix, concat-append, append_empty, split_first}
 use Rattle.moc_blocks.proofs.Filling.{fill_rule_suffix}
 use Rattle.moc_blocks.proofs.Merging.{EndsBelow-append, EndsBelow-first, ends_second, ends_next}
@@ -173,7 +175,7 @@ some_of {X} P o x is holds = subst (λ (p : Option X). IfSome p P) is holds
 
 -- ---- lists with one element replaced
 
-fill_rule_prefix : {X : Type 0} → (most : ℕ) (ls ms : List (List X)) → ObeysFillRule most (ls ++ ms) → ObeysFillRule most ls
+pub fill_rule_prefix : {X : Type 0} → (most : ℕ) (ls ms : List (List X)) → ObeysFillRule most (ls ++ ms) → ObeysFillRule most ls
 fill_rule_prefix most [] ms ok = tt
 fill_rule_prefix most (l ∷ []) ms ok = (ok.0, ok.1, tt, tt)
 fill_rule_prefix most (l ∷ (l' ∷ ls)) ms ok = (ok.0, ok.1, ok.2, fill_rule_prefix most (l' ∷ ls) ms ok.3)
@@ -196,13 +198,16 @@ fill_rule_join most (l ∷ []) [] ok more seam = ok
 fill_rule_join most (l ∷ []) (m ∷ ms) ok more seam = (ok.0, ok.1, seam ok.0 more.0, more)
 fill_rule_join most (l ∷ (l' ∷ ls)) ms ok more seam = (ok.0, ok.1, ok.2, fill_rule_join most (l' ∷ ls) ms ok.3 more seam)
 
-pub fill_rule_after_replacement : {X : Type 0} → (most : ℕ) (before after middle : List (List X)) (old : List X) → ObeysFillRule most (before ++ old ∷ after) → ObeysFillRule most middle → 0 < length middle → (0 < last_length before → most < last_length before + first_length middle) → (0 < first_length after → most < last_length middle + first_length after) → ObeysFillRule most (before ++ (middle ++ after))
-fill_rule_after_replacement {X} most before after middle old ok new some front back =
-    let rest : ObeysFillRule most after = fill_rule_suffix most (old ∷ []) after (fill_rule_suffix most before (old ∷ after) ok) in
+pub fill_rule_after_replacement : {X : Type 0} → (most : ℕ) (before after middle : List (List X)) → ObeysFillRule most before → ObeysFillRule most after → ObeysFillRule most middle → 0 < length middle → (0 < last_length before → most < last_length before + first_length middle) → (0 < first_length after → most < last_length middle + first_length after) → ObeysFillRule most (before ++ (middle ++ after))
+fill_rule_after_replacement {X} most before after middle first rest new some front back =
     let same = first_length-more middle after some in
-    fill_rule_join most before (middle ++ after) (fill_rule_prefix most before (old ∷ after) ok)
+    fill_rule_join most before (middle ++ after) first
     (fill_rule_join most middle after new rest (λ some_last some_first. back some_first))
     (λ some_last some_first. subst (λ n. most < last_length before + n) (sym same) (front some_last))
+
+-- the lists before and after one obey the fill rule
+fill_rule_around : {X : Type 0} → (most : ℕ) (before after : List (List X)) (old : List X) → ObeysFillRule most (before ++ old ∷ after) → ObeysFillRule most before × ObeysFillRule most after
+fill_rule_around most before after old ok = (fill_rule_prefix most before (old ∷ after) ok, fill_rule_suffix most (old ∷ []) after (fill_rule_suffix most before (old ∷ after) ok))
 
 append_spread : {X : Type 0} → (before first middle second after : List X) → before ++ ((first ++ (middle ++ second)) ++ after) ≡ (before ++ first) ++ (middle ++ (second ++ after))
 append_spread {X} before first middle second after =
@@ -228,9 +233,6 @@ width_after_insertion from to old new normal normal' same =
     let common : set.intersection (set_of new) (set_of old) ≡ set_of old = same_members _ _ (λ q. set.contains-intersection nat_cmp_total (set_of new) (set_of old) q ∙ ap (λ b. b && set.contains (set_of old) q) (has q) ∙ old_of_union (set.contains (set_of old) q) (set.contains (numbers from to) q)) in
     let more : set.difference (set_of new) (set_of old) ≡ set.difference (numbers from to) (set_of old) = same_members _ _ (λ q. set.contains-difference nat_cmp_total (set_of new) (set_of old) q ∙ ap (λ b. b && not (set.contains (set_of old) q)) (has q) ∙ new_of_union (set.contains (set_of old) q) (set.contains (numbers from to) q) ∙ sym (set.contains-difference nat_cmp_total (numbers from to) (set_of old) q)) in
     omega (arith, len_parts (set_of new) (set_of old), ap set.len common, ap set.len more, len-set_of old normal, len-set_of new normal')
-
-pub one_wider : (from to : ℕ) (old new : List (ℕ × ℕ)) → IsNormal old → AreEditedRanges Insert from to old new → width_of old ≤ width_of new
-one_wider from to old new normal more = omega (arith, width_after_insertion from to old new normal more.normal more.same)
 
 -- the set after a removal
 pub shrunk_set : (from to : ℕ) (old new : List (ℕ × ℕ)) → IsEdited Remove from to old new → set_of new ≡ set.difference (set_of old) (numbers from to)
@@ -265,7 +267,13 @@ run_normal before node node' first second after run is parts normal =
     let whole = subst (λ (l : List (List (ℕ × ℕ))). IsNormal (concat l)) parts (node_normal before node node' after is normal) in
     IsNormal-prefix run (concat second) (IsNormal-suffix (concat first) (run ++ concat second) (subst IsNormal (concat-append first (run ∷ second)) whole))
 
-pub replaced_normal : (edit : RangeEdit) (from to : ℕ) (before after run ranges : List (ℕ × ℕ)) → IsNormal (before ++ (run ++ after)) → 0 < length run → 0 < length ranges → EndsBelow from before → to < next_of after → AreEditedRanges edit from to run ranges → IsNormal (before ++ (ranges ++ after))
+pub pair_normal : (before node node' first second after : List (List (ℕ × ℕ))) (one two : List (ℕ × ℕ)) → node ≡ node' → node ≡ first ++ one ∷ (two ∷ second) → IsNormal (concat (before ++ (node' ++ after))) → IsNormal (one ++ two)
+pair_normal before node node' first second after one two is parts normal =
+    let whole = subst (λ (l : List (List (ℕ × ℕ))). IsNormal (concat l)) parts (node_normal before node node' after is normal) in
+    let rest = IsNormal-suffix (concat first) (one ++ (two ++ concat second)) (subst IsNormal (concat-append first (one ∷ (two ∷ second))) whole) in
+    IsNormal-prefix (one ++ two) (concat second) (subst IsNormal (sym (append_assoc one two (concat second))) rest)
+
+pub replaced_normal : (edit : EditKind) (from to : ℕ) (before after run ranges : List (ℕ × ℕ)) → IsNormal (before ++ (run ++ after)) → 0 < length run → 0 < length ranges → EndsBelow from before → to < next_of after → AreEditedRanges edit from to run ranges → IsNormal (before ++ (ranges ++ after))
 replaced_normal edit from to before after run ranges normal some some' below above more =
     let tail = IsNormal-suffix before (run ++ after) normal in
     let rest = normal_append ranges after more.normal (IsNormal-suffix run after tail) (more.below (next_of after) above (ends_next run after tail)) in
@@ -306,11 +314,11 @@ inside_low from to q is = grind (arith, nat_tests)
 inside_high : (from to q : ℕ) → in_range (from, to) q ≡ true → q ≤ to
 inside_high from to q is = grind (arith, nat_tests)
 
-edit_last : (edit : RangeEdit) (a r z x : Bool) → (x ≡ true → (a ≡ false) × (z ≡ false)) → (a || (after_edit edit r x || z)) ≡ after_edit edit (a || (r || z)) x
+edit_last : (edit : EditKind) (a r z x : Bool) → (x ≡ true → (a ≡ false) × (z ≡ false)) → (a || (after_edit edit r x || z)) ≡ after_edit edit (a || (r || z)) x
 edit_last Insert a r z x apart = more_last a r z x
 edit_last Remove a r z x apart = less_last a r z x apart
 
-pub replaced_edited : (edit : RangeEdit) (from to : ℕ) (before after run ranges : List (ℕ × ℕ)) → IsNormal after → EndsBelow from before → to < next_of after → AreEditedRanges edit from to run ranges → IsEdited edit from to (before ++ (run ++ after)) (before ++ (ranges ++ after))
+pub replaced_edited : (edit : EditKind) (from to : ℕ) (before after run ranges : List (ℕ × ℕ)) → IsNormal after → EndsBelow from before → to < next_of after → AreEditedRanges edit from to run ranges → IsEdited edit from to (before ++ (run ++ after)) (before ++ (ranges ++ after))
 replaced_edited edit from to before after run ranges normal below above more = λ q.
     in_ranges-append before (ranges ++ after) q
     ∙ ap (λ b. in_ranges before q || b) (in_ranges-append ranges after q ∙ ap (λ b. b || in_ranges after q) (more.same q))
@@ -329,72 +337,75 @@ some_cut : {X : Type 0} → (most front back : ℕ) (items first second : List X
 some_cut {X} most front back items first [] cut = omega (arith, cut.filled.0, ap length (sym cut.parts), length-append first [])
 some_cut {X} most front back items first (y ∷ ys) cut = omega (arith, cut.filled.0, ap length (sym cut.parts), length-append first (y ∷ ys))
 
--- the same, for the blocks before and after as one list each
-split_after_insertion : (edit : RangeEdit) (from to front back : ℕ) (before after : List (List (ℕ × ℕ))) (run ranges first second : List (ℕ × ℕ)) → AreBlocks (before ++ run ∷ after) → IsNormal (concat (before ++ run ∷ after)) → EndsBelow from (concat before) → to < next_of (concat after) → AreEditedRanges edit from to run ranges → front ≡ last_length before → back ≡ first_length after → IsSplit 128 front back ranges first second
-    → AreBlocks (before ++ (pieces first second ++ after)) × IsNormal (concat (before ++ (pieces first second ++ after))) × IsEdited edit from to (concat (before ++ run ∷ after)) (concat (before ++ (pieces first second ++ after)))
-split_after_insertion edit from to front back before after run ranges first second sized normal below above more is_front is_back cut =
-    let old : concat (before ++ run ∷ after) ≡ concat before ++ (run ++ concat after) = concat-append before (run ∷ after) in
+-- ranges between blocks are edited and split into blocks
+split_after_edit : (edit : EditKind) (from to front back : ℕ) (before after : List (List (ℕ × ℕ))) (run ranges first second : List (ℕ × ℕ)) → AreBlocks before → AreBlocks after → 0 < length run → IsNormal (concat before ++ (run ++ concat after)) → EndsBelow from (concat before) → to < next_of (concat after) → AreEditedRanges edit from to run ranges → front ≡ last_length before → back ≡ first_length after → IsSplit 128 front back ranges first second
+    → AreBlocks (before ++ (pieces first second ++ after)) × IsNormal (concat (before ++ (pieces first second ++ after))) × IsEdited edit from to (concat before ++ (run ++ concat after)) (concat (before ++ (pieces first second ++ after)))
+split_after_edit edit from to front back before after run ranges first second sized_before sized_after some whole below above more is_front is_back cut =
     let new : concat (before ++ (pieces first second ++ after)) ≡ concat before ++ (ranges ++ concat after) = concat-middle before (pieces first second) after ∙ ap (λ (l : List (ℕ × ℕ)). concat before ++ (l ++ concat after)) (concat-pieces first second ∙ cut.parts) in
-    let whole = subst IsNormal old normal in
     let tail = IsNormal-suffix run (concat after) (IsNormal-suffix (concat before) (run ++ concat after) whole) in (
-      fill_rule_after_replacement 128 before after (pieces first second) run sized cut.filled (pieces_some first second) (subst (λ n. 0 < n → 128 < n + first_length (pieces first second)) is_front cut.front) (subst (λ n. 0 < n → 128 < last_length (pieces first second) + n) is_back cut.back),
-      subst IsNormal (sym new) (replaced_normal edit from to (concat before) (concat after) run ranges whole (fill_rule_nonempty 128 before after run sized) (some_cut 128 front back ranges first second cut) below above more),
-      subst (λ (l : List (ℕ × ℕ)). IsEdited edit from to (concat (before ++ run ∷ after)) l) (sym new) (subst (λ (l : List (ℕ × ℕ)). IsEdited edit from to l (concat before ++ (ranges ++ concat after))) (sym old) (replaced_edited edit from to (concat before) (concat after) run ranges tail below above more)),
+      fill_rule_after_replacement 128 before after (pieces first second) sized_before sized_after cut.filled (pieces_some first second) (subst (λ n. 0 < n → 128 < n + first_length (pieces first second)) is_front cut.front) (subst (λ n. 0 < n → 128 < last_length (pieces first second) + n) is_back cut.back),
+      subst IsNormal (sym new) (replaced_normal edit from to (concat before) (concat after) run ranges whole some (some_cut 128 front back ranges first second cut) below above more),
+      subst (λ (l : List (ℕ × ℕ)). IsEdited edit from to (concat before ++ (run ++ concat after)) l) (sym new) (replaced_edited edit from to (concat before) (concat after) run ranges tail below above more),
     )
 
-some_is_injective : {X : Type 0} → (xs ys zs : List X) → 0 < length ys → 0 < length (xs ++ (ys ++ zs))
-some_is_injective xs ys zs some = omega (arith, some, length-append xs (ys ++ zs), length-append ys zs)
+nonempty_middle : {X : Type 0} → (xs ys zs : List X) → 0 < length ys → 0 < length (xs ++ (ys ++ zs))
+nonempty_middle xs ys zs some = omega (arith, some, length-append xs (ys ++ zs), length-append ys zs)
 
-pub node_blocks_after_regrowth : (edit : RangeEdit) (from to : ℕ) (before after node b1 b2 : List (List (ℕ × ℕ))) (run ranges first second : List (ℕ × ℕ)) (front back : ℕ) (blocks : List (List (ℕ × ℕ))) → AreBlocks (before ++ (node ++ after)) → IsNormal (concat (before ++ (node ++ after))) → node ≡ b1 ++ run ∷ b2 → EndsBelow from (concat before) → EndsBelow from (concat b1) → to < next_of (concat b2 ++ concat after) → AreEditedRanges edit from to run ranges → front ≡ last_length (before ++ b1) → back ≡ first_length (b2 ++ after) → IsSplit 128 front back ranges first second → blocks ≡ b1 ++ (pieces first second ++ b2) → IsNodeBlocks edit from to before after node blocks
-node_blocks_after_regrowth edit from to before after node b1 b2 run ranges first second front back blocks sized normal parts below1 below2 above more is_front is_back cut made =
-    let old : before ++ (node ++ after) ≡ (before ++ b1) ++ run ∷ (b2 ++ after) = ap (λ (l : List (List (ℕ × ℕ))). before ++ (l ++ after)) parts ∙ append_spread before b1 (run ∷ []) b2 after in
+-- the blocks of a node, of which one or two adjacent ones with the ranges `run` were edited and split
+node_blocks_after_edit : (edit : EditKind) (from to : ℕ) (before after node b1 middle b2 : List (List (ℕ × ℕ))) (run ranges first second : List (ℕ × ℕ)) (front back : ℕ) (blocks : List (List (ℕ × ℕ))) → AreBlocks (before ++ b1) → AreBlocks (b2 ++ after) → 0 < length run → IsNormal (concat (before ++ (node ++ after))) → node ≡ b1 ++ (middle ++ b2) → concat middle ≡ run → EndsBelow from (concat before) → EndsBelow from (concat b1) → to < next_of (concat b2 ++ concat after) → AreEditedRanges edit from to run ranges → front ≡ last_length (before ++ b1) → back ≡ first_length (b2 ++ after) → IsSplit 128 front back ranges first second → blocks ≡ b1 ++ (pieces first second ++ b2) → IsNodeBlocks edit from to before after node blocks
+node_blocks_after_edit edit from to before after node b1 middle b2 run ranges first second front back blocks sized_before sized_after some normal parts is_run below1 below2 above more is_front is_back cut made =
+    let old : concat (before ++ (node ++ after)) ≡ concat (before ++ b1) ++ (run ++ concat (b2 ++ after)) =
+    ap concat (ap (λ (l : List (List (ℕ × ℕ))). before ++ (l ++ after)) parts ∙ append_spread before b1 middle b2 after)
+    ∙ concat-middle (before ++ b1) middle (b2 ++ after)
+    ∙ ap (λ (l : List (ℕ × ℕ)). concat (before ++ b1) ++ (l ++ concat (b2 ++ after))) is_run in
     let new : before ++ (blocks ++ after) ≡ (before ++ b1) ++ (pieces first second ++ (b2 ++ after)) = ap (λ (l : List (List (ℕ × ℕ))). before ++ (l ++ after)) made ∙ append_spread before b1 (pieces first second) b2 after in
-    let flat = split_after_insertion edit from to front back (before ++ b1) (b2 ++ after) run ranges first second (subst AreBlocks old sized) (subst (λ (l : List (List (ℕ × ℕ))). IsNormal (concat l)) old normal)
+    let flat = split_after_edit edit from to front back (before ++ b1) (b2 ++ after) run ranges first second sized_before sized_after some (subst IsNormal old normal)
     (subst (λ (l : List (ℕ × ℕ)). EndsBelow from l) (sym (concat-append before b1)) (EndsBelow-append from (concat before) (concat b1) below1 below2))
     (subst (λ (l : List (ℕ × ℕ)). to < next_of l) (sym (concat-append b2 after)) above) more is_front is_back cut in
     record {
-      some = subst (λ (l : List (List (ℕ × ℕ))). 0 < length l) (sym made) (some_is_injective b1 (pieces first second) b2 (pieces_some first second));
+      some = subst (λ (l : List (List (ℕ × ℕ))). 0 < length l) (sym made) (nonempty_middle b1 (pieces first second) b2 (pieces_some first second));
       sized = subst AreBlocks (sym new) flat.0;
       normal = subst (λ (l : List (List (ℕ × ℕ))). IsNormal (concat l)) (sym new) flat.1;
       is_edited = subst (λ (l : List (List (ℕ × ℕ))). IsEdited edit from to (concat (before ++ (node ++ after))) (concat l)) (sym new)
-          (subst (λ (l : List (List (ℕ × ℕ))). IsEdited edit from to (concat l) (concat ((before ++ b1) ++ (pieces first second ++ (b2 ++ after))))) (sym old) flat.2);
+          (subst (λ (l : List (ℕ × ℕ)). IsEdited edit from to l (concat ((before ++ b1) ++ (pieces first second ++ (b2 ++ after))))) (sym old) flat.2);
     }
+
+-- the blocks of a node, of which one was edited and split
+pub node_blocks_after_regrowth : (edit : EditKind) (from to : ℕ) (before after node b1 b2 : List (List (ℕ × ℕ))) (run ranges first second : List (ℕ × ℕ)) (front back : ℕ) (blocks : List (List (ℕ × ℕ))) → AreBlocks (before ++ (node ++ after)) → IsNormal (concat (before ++ (node ++ after))) → node ≡ b1 ++ run ∷ b2 → EndsBelow from (concat before) → EndsBelow from (concat b1) → to < next_of (concat b2 ++ concat after) → AreEditedRanges edit from to run ranges → front ≡ last_length (before ++ b1) → back ≡ first_length (b2 ++ after) → IsSplit 128 front back ranges first second → blocks ≡ b1 ++ (pieces first second ++ b2) → IsNodeBlocks edit from to before after node blocks
+node_blocks_after_regrowth edit from to before after node b1 b2 run ranges first second front back blocks sized normal parts below1 below2 above more is_front is_back cut made =
+    let flat = subst AreBlocks (ap (λ (l : List (List (ℕ × ℕ))). before ++ (l ++ after)) parts ∙ append_spread before b1 (run ∷ []) b2 after) sized in
+    let around = fill_rule_around 128 (before ++ b1) (b2 ++ after) run flat in
+    node_blocks_after_edit edit from to before after node b1 (run ∷ []) b2 run ranges first second front back blocks around.0 around.1
+    (fill_rule_nonempty 128 (before ++ b1) (b2 ++ after) run flat) normal parts (append_empty run) below1 below2 above more is_front is_back cut made
+
+-- the blocks of a node, of which two adjacent ones were edited together and split
+pub node_blocks_after_pair : (edit : EditKind) (from to : ℕ) (before after node b1 b2 : List (List (ℕ × ℕ))) (one two ranges first second : List (ℕ × ℕ)) (front back : ℕ) (blocks : List (List (ℕ × ℕ))) → AreBlocks (before ++ (node ++ after)) → IsNormal (concat (before ++ (node ++ after))) → node ≡ b1 ++ one ∷ (two ∷ b2) → EndsBelow from (concat before) → EndsBelow from (concat b1) → to < next_of (concat b2 ++ concat after) → AreEditedRanges edit from to (one ++ two) ranges → front ≡ last_length (before ++ b1) → back ≡ first_length (b2 ++ after) → IsSplit 128 front back ranges first second → blocks ≡ b1 ++ (pieces first second ++ b2) → IsNodeBlocks edit from to before after node blocks
+node_blocks_after_pair edit from to before after node b1 b2 one two ranges first second front back blocks sized normal parts below1 below2 above more is_front is_back cut made =
+    let flat = subst AreBlocks (ap (λ (l : List (List (ℕ × ℕ))). before ++ (l ++ after)) parts ∙ append_spread before b1 (one ∷ (two ∷ [])) b2 after) sized in
+    let some = fill_rule_nonempty 128 (before ++ b1) (two ∷ (b2 ++ after)) one flat in
+    let around = fill_rule_around 128 (before ++ b1) (two ∷ (b2 ++ after)) one flat in
+    let after_second = fill_rule_suffix 128 (two ∷ []) (b2 ++ after) around.1 in
+    node_blocks_after_edit edit from to before after node b1 (one ∷ (two ∷ [])) b2 (one ++ two) ranges first second front back blocks around.0 after_second
+    (omega (arith, some, length-append one two)) normal parts (ap (λ (l : List (ℕ × ℕ)). one ++ l) (append_empty two)) below1 below2 above more is_front is_back cut made
 
 -- ---- nodes after an edit of one of them
 
 pub concat_around_node : (nodes before after : List (List (List (ℕ × ℕ)))) (node : List (List (ℕ × ℕ))) → nodes ≡ before ++ node ∷ after → concat nodes ≡ concat before ++ (node ++ concat after)
 concat_around_node nodes before after node parts = ap concat parts ∙ concat-append before (node ∷ after)
 
-append_split_blocks : (before after blocks first second : List (List (ℕ × ℕ))) → first ++ second ≡ blocks → before ++ (blocks ++ after) ≡ before ++ (first ++ (second ++ after))
-append_split_blocks before after blocks first second parts = ap (λ (l : List (List (ℕ × ℕ))). before ++ l) (ap (λ (l : List (List (ℕ × ℕ))). l ++ after) (sym parts) ∙ append_assoc first second after)
-
-pub first_sized : (before after blocks first second : List (List (ℕ × ℕ))) → first ++ second ≡ blocks → AreBlocks (before ++ (blocks ++ after)) → AreBlocks first
-first_sized before after blocks first second parts sized = fill_rule_prefix 128 first (second ++ after) (fill_rule_suffix 128 before (first ++ (second ++ after)) (subst AreBlocks (append_split_blocks before after blocks first second parts) sized))
-
-pub second_sized : (before after blocks first second : List (List (ℕ × ℕ))) → first ++ second ≡ blocks → AreBlocks (before ++ (blocks ++ after)) → AreBlocks second
-second_sized before after blocks first second parts sized = fill_rule_prefix 128 second after (fill_rule_suffix 128 first (second ++ after) (fill_rule_suffix 128 before (first ++ (second ++ after)) (subst AreBlocks (append_split_blocks before after blocks first second parts) sized)))
-
-append_split_ranges : (before after blocks first second : List (List (ℕ × ℕ))) → first ++ second ≡ blocks → concat (before ++ (blocks ++ after)) ≡ concat before ++ (concat first ++ (concat second ++ concat after))
-append_split_ranges before after blocks first second parts = ap concat (append_split_blocks before after blocks first second parts) ∙ concat-append before (first ++ (second ++ after)) ∙ ap (λ (l : List (ℕ × ℕ)). concat before ++ l) (concat-middle first second after)
-
-pub first_normal : (before after blocks first second : List (List (ℕ × ℕ))) → first ++ second ≡ blocks → IsNormal (concat (before ++ (blocks ++ after))) → IsNormal (concat first)
-first_normal before after blocks first second parts normal = IsNormal-prefix (concat first) (concat second ++ concat after) (IsNormal-suffix (concat before) (concat first ++ (concat second ++ concat after)) (subst IsNormal (append_split_ranges before after blocks first second parts) normal))
-
-pub second_normal : (before after blocks first second : List (List (ℕ × ℕ))) → first ++ second ≡ blocks → IsNormal (concat (before ++ (blocks ++ after))) → IsNormal (concat second)
-second_normal before after blocks first second parts normal = IsNormal-prefix (concat second) (concat after) (IsNormal-suffix (concat first) (concat second ++ concat after) (IsNormal-suffix (concat before) (concat first ++ (concat second ++ concat after)) (subst IsNormal (append_split_ranges before after blocks first second parts) normal)))
-
 with_pieces : {X : Type 0} → (first' first second : List X) (o : Option (List X)) → first' ≡ first → MatchOption o (second ≡ []) (λ n. (n ≡ second) × (0 < length second)) → one_or_two first' o ≡ pieces first second
 with_pieces {X} first' first second None is none = ap (λ (l : List X). l ∷ []) is ∙ sym (ap (λ (l : List X). pieces first l) none)
 with_pieces {X} first' first [] (Some n) is some = absurd (omega (arith, some.1))
 with_pieces {X} first' first (y ∷ ys) (Some n) is some = λ i. is i ∷ (some.0 i ∷ [])
 
-pub node_edit_all : (edit : RangeEdit) (from to : ℕ) (nodes before after : List (List (List (ℕ × ℕ)))) (node blocks first second first' : List (List (ℕ × ℕ))) (o : Option (List (List (ℕ × ℕ)))) (front back : ℕ) → IsStored [] nodes → nodes ≡ before ++ node ∷ after → IsNodeBlocks edit from to (concat before) (concat after) node blocks → front ≡ last_length before → back ≡ first_length after → IsSplit 16 front back blocks first second → first' ≡ first → MatchOption o (second ≡ []) (λ n. (n ≡ second) × (0 < length second)) → IsNodeEdit edit from to nodes (length before) first' o
+pub node_edit_all : (edit : EditKind) (from to : ℕ) (nodes before after : List (List (List (ℕ × ℕ)))) (node blocks first second first' : List (List (ℕ × ℕ))) (o : Option (List (List (ℕ × ℕ)))) (front back : ℕ) → IsStored [] nodes → nodes ≡ before ++ node ∷ after → IsNodeBlocks edit from to (concat before) (concat after) node blocks → front ≡ last_length before → back ≡ first_length after → IsSplit 16 front back blocks first second → first' ≡ first → MatchOption o (second ≡ []) (λ n. (n ≡ second) × (0 < length second)) → IsNodeEdit edit from to nodes (length before) first' o
 node_edit_all edit from to nodes before after node blocks first second first' o front back stored parts node_blocks is_front is_back cut is_first is_second =
     let made = with_pieces first' first second o is_first is_second in
     let new : concat (before ++ (one_or_two first' o ++ after)) ≡ concat before ++ (blocks ++ concat after) =
     concat-append before (one_or_two first' o ++ after) ∙ ap (λ (l : List (List (ℕ × ℕ))). concat before ++ l) (concat-append (one_or_two first' o) after ∙ ap (λ (l : List (List (ℕ × ℕ))). l ++ concat after) (ap concat made ∙ concat-pieces first second ∙ cut.parts)) in
     let old = concat_around_node nodes before after node parts in
-    let wide = fill_rule_after_replacement 16 before after (pieces first second) node (subst (λ (l : List (List (List (ℕ × ℕ)))). ObeysFillRule 16 l) parts stored.wide) cut.filled (pieces_some first second) (subst (λ n. 0 < n → 16 < n + first_length (pieces first second)) is_front cut.front) (subst (λ n. 0 < n → 16 < last_length (pieces first second) + n) is_back cut.back) in
+    let around = fill_rule_around 16 before after node (subst (λ (l : List (List (List (ℕ × ℕ)))). ObeysFillRule 16 l) parts stored.wide) in
+    let wide = fill_rule_after_replacement 16 before after (pieces first second) around.0 around.1 cut.filled (pieces_some first second) (subst (λ n. 0 < n → 16 < n + first_length (pieces first second)) is_front cut.front) (subst (λ n. 0 < n → 16 < last_length (pieces first second) + n) is_back cut.back) in
     record {
       before = before;
       node = node;
@@ -411,6 +422,23 @@ node_edit_all edit from to nodes before after node blocks first second first' o 
       is_edited = subst (λ (l : List (List (ℕ × ℕ))). IsEdited edit from to (concat (concat nodes)) (concat l)) (sym new)
           (subst (λ (l : List (List (ℕ × ℕ))). IsEdited edit from to (concat l) (concat (concat before ++ (blocks ++ concat after)))) (sym old) node_blocks.is_edited);
     }
+
+node_replaced : (edit : EditKind) (from to : ℕ) (nodes before after : List (List (List (ℕ × ℕ)))) (node blocks : List (List (ℕ × ℕ))) (e : Edit) → IsStored [] nodes → nodes ≡ before ++ node ∷ after → IsNodeBlocks edit from to (concat before) (concat after) node blocks → ReplacesNode before after blocks e → IsEdit edit from to nodes e
+node_replaced edit from to nodes before after node blocks (Block e) stored parts node_blocks replaced = absurd replaced
+node_replaced edit from to nodes before after node blocks (Node e) stored parts node_blocks replaced =
+    subst (λ n. IsNodeEdit edit from to nodes n e.first e.second) (sym replaced.at)
+    (node_edit_all edit from to nodes before after node blocks e.first replaced.rest e.first e.second _ _ stored parts node_blocks refl refl replaced.split refl replaced.last)
+
+-- a node that is replaced by nodes with its new blocks is edited
+pub node_replacement_edits : (edit : EditKind) (from to : ℕ) (nodes before after : List (List (List (ℕ × ℕ)))) (node blocks : List (List (ℕ × ℕ))) (o : Option Edit) → IsStored [] nodes → nodes ≡ before ++ node ∷ after → IsNodeBlocks edit from to (concat before) (concat after) node blocks → IfSome o (ReplacesNode before after blocks) → IfSome o (IsEdit edit from to nodes)
+node_replacement_edits edit from to nodes before after node blocks None stored parts node_blocks replaced = tt
+node_replacement_edits edit from to nodes before after node blocks (Some e) stored parts node_blocks replaced = node_replaced edit from to nodes before after node blocks e stored parts node_blocks replaced
+
+pub node_blocks_normal : (edit : EditKind) (from to : ℕ) (before after node blocks : List (List (ℕ × ℕ))) → IsNodeBlocks edit from to before after node blocks → IsNormal (concat blocks)
+node_blocks_normal edit from to before after node blocks b = node_normal before blocks blocks after refl b.normal
+
+pub node_blocks_sized : (edit : EditKind) (from to : ℕ) (before after node blocks : List (List (ℕ × ℕ))) → IsNodeBlocks edit from to before after node blocks → AreBlocks blocks
+node_blocks_sized edit from to before after node blocks b = fill_rule_prefix 128 blocks after (fill_rule_suffix 128 before (blocks ++ after) b.sized)
 
 -- ---- one element replaced
 
@@ -450,11 +478,11 @@ replaced_in_place {X} nodes before after middle node place parts at =
     let last : drop (place + 1) nodes ≡ after = ap (λ (l : List X). drop (place + 1) l) parts ∙ drop_first before after node (place + 1) (omega arith) in
     λ i. first i ++ (middle ++ last i)
 
-pub node_edit_stored : (edit : RangeEdit) (from to place : ℕ) (nodes nodes' new : List (List (List (ℕ × ℕ)))) (first : List (List (ℕ × ℕ))) (second : Option (List (List (ℕ × ℕ)))) → nodes' ≡ nodes → IsNodeEdit edit from to nodes' place first second → new ≡ take place nodes ++ (one_or_two first second ++ drop (place + 1) nodes) → IsStored [] new
+pub node_edit_stored : (edit : EditKind) (from to place : ℕ) (nodes nodes' new : List (List (List (ℕ × ℕ)))) (first : List (List (ℕ × ℕ))) (second : Option (List (List (ℕ × ℕ)))) → nodes' ≡ nodes → IsNodeEdit edit from to nodes' place first second → new ≡ take place nodes ++ (one_or_two first second ++ drop (place + 1) nodes) → IsStored [] new
 node_edit_stored edit from to place nodes nodes' new first second is r made =
     subst (λ (l : List (List (List (ℕ × ℕ)))). IsStored [] l) (sym (made ∙ replaced_in_place nodes r.before r.after (one_or_two first second) r.node place (sym is ∙ r.parts) r.at)) r.stored
 
-pub node_edit_edits : (edit : RangeEdit) (from to place : ℕ) (nodes nodes' new : List (List (List (ℕ × ℕ)))) (first : List (List (ℕ × ℕ))) (second : Option (List (List (ℕ × ℕ)))) → nodes' ≡ nodes → IsNodeEdit edit from to nodes' place first second → new ≡ take place nodes ++ (one_or_two first second ++ drop (place + 1) nodes) → IsEdited edit from to (concat (concat nodes)) (concat (concat new))
+pub node_edit_edits : (edit : EditKind) (from to place : ℕ) (nodes nodes' new : List (List (List (ℕ × ℕ)))) (first : List (List (ℕ × ℕ))) (second : Option (List (List (ℕ × ℕ)))) → nodes' ≡ nodes → IsNodeEdit edit from to nodes' place first second → new ≡ take place nodes ++ (one_or_two first second ++ drop (place + 1) nodes) → IsEdited edit from to (concat (concat nodes)) (concat (concat new))
 node_edit_edits edit from to place nodes nodes' new first second is r made =
     subst (λ (l : List (List (List (ℕ × ℕ)))). IsEdited edit from to (concat (concat nodes)) (concat (concat l))) (sym (made ∙ replaced_in_place nodes r.before r.after (one_or_two first second) r.node place (sym is ∙ r.parts) r.at))
     (subst (λ (l : List (List (List (ℕ × ℕ)))). IsEdited edit from to (concat (concat l)) (concat (concat (r.before ++ (one_or_two first second ++ r.after))))) is r.is_edited)

@@ -14,7 +14,7 @@ use Rattle.moc_blocks.specs.Private.Blocks.{next_of, width_of, AreNodes, IsStore
 use Rattle.moc_blocks.specs.Private.Built.{EndsBelow, first_length, last_length}
 use Rattle.moc_blocks.specs.Private.Walks.{all_ranges, EndsBy, EndsAfterAt}
 use Rattle.moc_blocks.specs.Private.Edits.{with_range_inserted, IsSplit, IsGap, HasGap, AddsRange, AreEditedRanges}
-use Rattle.moc_blocks.specs.declared.edits.rebuild.RangeEdit.TheVariants.{Insert}
+use Rattle.moc_blocks.specs.declared.edits.rebuild.EditKind.TheVariants.{Insert}
 use Rattle.moc_blocks.proofs.Blocking.{IsNormal-prefix, IsNormal-suffix, append_empty, range_at, width-append}
 use Rattle.moc_blocks.proofs.Editing.{range_inserted_at_cut, concat_around_node, reaching_start, merged_range_at_end, node_blocks_after_regrowth, run_normal}
 use Rattle.moc_blocks.proofs.Filling.{fill_rule_suffix}
@@ -112,8 +112,8 @@ inserted_there (b ∷ bs) (suc block) run there normal = inserted_there bs block
 pub gap_normal : (node : List (List (ℕ × ℕ))) (block place : ℕ) (range : ℕ × ℕ) → HasGap node block place range → IsNormal (insert (get_or node block []) place range)
 gap_normal node block place range gap = inserted_there node block (insert (get_or node block []) place range) gap.there gap.normal
 
-pub gap_not_full_range : (node : List (List (ℕ × ℕ))) (block place : ℕ) (range : ℕ × ℕ) → HasGap node block place range → range.0 < range.1
-gap_not_full_range node block place range gap =
+pub range_in_gap_is_filled : (node : List (List (ℕ × ℕ))) (block place : ℕ) (range : ℕ × ℕ) → HasGap node block place range → range.0 < range.1
+range_in_gap_is_filled node block place range gap =
     let run = get_or node block [] in
     subst (λ (r : ℕ × ℕ). r.0 < r.1) (get_or-insert_at run place range range gap.inside)
     (range_at (insert run place range) place range (gap_normal node block place range gap) (omega (arith, insert_length run place range gap.inside, gap.inside)))

@@ -7,10 +7,10 @@ use Rattle.moc_blocks.specs.Blocks.{concat, ObeysFillRule, AreBlocks}
 use Rattle.moc_blocks.specs.Private.Blocks.{width_of, starts_from, AreNodes, IsStored}
 use Rattle.moc_blocks.specs.Private.Built.{first_length, last_length}
 use Rattle.moc_blocks.specs.Private.Edits.{IsSplit, IsNodeEdit, IsBlockEdit, IsEdited}
-use Rattle.moc_blocks.specs.declared.edits.rebuild.RangeEdit.{RangeEdit}
+use Rattle.moc_blocks.specs.declared.edits.rebuild.EditKind.{EditKind}
 use Rattle.moc_blocks.proofs.Blocking.{width-append, width_bounded, range_count_bounded, append_empty, concat-append}
 use Rattle.moc_blocks.proofs.Filling.{fill_rule_suffix}
-use Rattle.moc_blocks.proofs.Editing.{first_sized, node_normal, node_edit_all, node_edit_stored, node_edit_edits, set_split}
+use Rattle.moc_blocks.proofs.Editing.{node_blocks_sized, node_normal, node_edit_all, node_edit_stored, node_edit_edits, set_split}
 
 pub width_replaced : (bs : List (List (ℕ × ℕ))) (i : ℕ) (old new : List (ℕ × ℕ)) → i < length bs → old ≡ get_or bs i old → width_of (concat (slice_set bs i new)) + width_of old ≡ width_of (concat bs) + width_of new
 width_replaced [] i old new lt is = absurd (omega arith)
@@ -52,28 +52,28 @@ beside_next {X} most (m ∷ ms) x ok some = ok.2
 
 -- ---- a block after an edit, in its place
 
-pub block_edit_node : (edit : RangeEdit) (from to node block : ℕ) (nodes nodes' : List (List (List (ℕ × ℕ)))) (ranges : List (ℕ × ℕ)) (found : List (List (ℕ × ℕ))) → nodes' ≡ nodes → (s : IsBlockEdit edit from to nodes' node block ranges) → found ≡ get_or nodes node found → found ≡ s.old
+pub block_edit_node : (edit : EditKind) (from to node block : ℕ) (nodes nodes' : List (List (List (ℕ × ℕ)))) (ranges : List (ℕ × ℕ)) (found : List (List (ℕ × ℕ))) → nodes' ≡ nodes → (s : IsBlockEdit edit from to nodes' node block ranges) → found ≡ get_or nodes node found → found ≡ s.old
 block_edit_node edit from to node block nodes nodes' ranges found same s is =
     is ∙ ap (λ (l : List (List (List (ℕ × ℕ)))). get_or l node found) (sym same ∙ s.parts) ∙ get_between s.before s.after s.old found node s.at
 
 -- the blocks of the node, with the new block
-pub block_edit_blocks : (edit : RangeEdit) (from to node block : ℕ) (nodes nodes' : List (List (List (ℕ × ℕ)))) (ranges new : List (ℕ × ℕ)) (found : List (List (ℕ × ℕ))) → nodes' ≡ nodes → (s : IsBlockEdit edit from to nodes' node block ranges) → found ≡ get_or nodes node found → new ≡ ranges → slice_set found block new ≡ s.left ++ ranges ∷ s.right
+pub block_edit_blocks : (edit : EditKind) (from to node block : ℕ) (nodes nodes' : List (List (List (ℕ × ℕ)))) (ranges new : List (ℕ × ℕ)) (found : List (List (ℕ × ℕ))) → nodes' ≡ nodes → (s : IsBlockEdit edit from to nodes' node block ranges) → found ≡ get_or nodes node found → new ≡ ranges → slice_set found block new ≡ s.left ++ ranges ∷ s.right
 block_edit_blocks edit from to node block nodes nodes' ranges new found same s is made =
     let whole = block_edit_node edit from to node block nodes nodes' ranges found same s is ∙ s.edited_block.parts in
     (λ i. slice_set (whole i) block (made i)) ∙ set_between s.left s.right s.run ranges block s.place
 
-pub block_edit_normal : (edit : RangeEdit) (from to node block : ℕ) (nodes nodes' : List (List (List (ℕ × ℕ)))) (ranges new : List (ℕ × ℕ)) (found : List (List (ℕ × ℕ))) → nodes' ≡ nodes → IsBlockEdit edit from to nodes' node block ranges → found ≡ get_or nodes node found → new ≡ ranges → IsNormal (concat (slice_set found block new))
+pub block_edit_normal : (edit : EditKind) (from to node block : ℕ) (nodes nodes' : List (List (List (ℕ × ℕ)))) (ranges new : List (ℕ × ℕ)) (found : List (List (ℕ × ℕ))) → nodes' ≡ nodes → IsBlockEdit edit from to nodes' node block ranges → found ≡ get_or nodes node found → new ≡ ranges → IsNormal (concat (slice_set found block new))
 block_edit_normal edit from to node block nodes nodes' ranges new found same s is made =
     node_normal (concat s.before) (slice_set found block new) (s.left ++ ranges ∷ s.right) (concat s.after) (block_edit_blocks edit from to node block nodes nodes' ranges new found same s is made) s.edited_block.node_blocks.normal
 
-pub block_edit_sized : (edit : RangeEdit) (from to node block : ℕ) (nodes nodes' : List (List (List (ℕ × ℕ)))) (ranges new : List (ℕ × ℕ)) (found : List (List (ℕ × ℕ))) → nodes' ≡ nodes → IsBlockEdit edit from to nodes' node block ranges → found ≡ get_or nodes node found → new ≡ ranges → AreBlocks (slice_set found block new)
+pub block_edit_sized : (edit : EditKind) (from to node block : ℕ) (nodes nodes' : List (List (List (ℕ × ℕ)))) (ranges new : List (ℕ × ℕ)) (found : List (List (ℕ × ℕ))) → nodes' ≡ nodes → IsBlockEdit edit from to nodes' node block ranges → found ≡ get_or nodes node found → new ≡ ranges → AreBlocks (slice_set found block new)
 block_edit_sized edit from to node block nodes nodes' ranges new found same s is made =
     let blocks = s.left ++ ranges ∷ s.right in
     subst AreBlocks (sym (block_edit_blocks edit from to node block nodes nodes' ranges new found same s is made))
-    (first_sized (concat s.before) (concat s.after) blocks blocks [] (append_empty blocks) s.edited_block.node_blocks.sized)
+    (node_blocks_sized edit from to (concat s.before) (concat s.after) s.old blocks s.edited_block.node_blocks)
 
 -- the node has as many blocks as before, so the fill rule still holds between the others
-block_edit_split : (edit : RangeEdit) (from to node block : ℕ) (nodes : List (List (List (ℕ × ℕ)))) (ranges : List (ℕ × ℕ)) → IsStored [] nodes → (s : IsBlockEdit edit from to nodes node block ranges) → IsSplit 16 (last_length s.before) (first_length s.after) (s.left ++ ranges ∷ s.right) (s.left ++ ranges ∷ s.right) []
+block_edit_split : (edit : EditKind) (from to node block : ℕ) (nodes : List (List (List (ℕ × ℕ)))) (ranges : List (ℕ × ℕ)) → IsStored [] nodes → (s : IsBlockEdit edit from to nodes node block ranges) → IsSplit 16 (last_length s.before) (first_length s.after) (s.left ++ ranges ∷ s.right) (s.left ++ ranges ∷ s.right) []
 block_edit_split edit from to node block nodes ranges stored s =
     let blocks = s.left ++ ranges ∷ s.right in
     let wide = subst (λ (l : List (List (List (ℕ × ℕ)))). ObeysFillRule 16 l) s.parts stored.wide in
@@ -86,17 +86,17 @@ block_edit_split edit from to node block nodes ranges stored s =
       back = λ some. omega (arith, many, beside_next 16 s.after s.old here some);
     }
 
-block_edit_in_node : (edit : RangeEdit) (from to node block : ℕ) (nodes : List (List (List (ℕ × ℕ)))) (ranges : List (ℕ × ℕ)) (put : List (List (ℕ × ℕ))) → IsStored [] nodes → (s : IsBlockEdit edit from to nodes node block ranges) → put ≡ s.left ++ ranges ∷ s.right → IsNodeEdit edit from to nodes node put None
+block_edit_in_node : (edit : EditKind) (from to node block : ℕ) (nodes : List (List (List (ℕ × ℕ)))) (ranges : List (ℕ × ℕ)) (put : List (List (ℕ × ℕ))) → IsStored [] nodes → (s : IsBlockEdit edit from to nodes node block ranges) → put ≡ s.left ++ ranges ∷ s.right → IsNodeEdit edit from to nodes node put None
 block_edit_in_node edit from to node block nodes ranges put stored s is =
     let blocks = s.left ++ ranges ∷ s.right in
     subst (λ n. IsNodeEdit edit from to nodes n put None) (sym s.at)
     (node_edit_all edit from to nodes s.before s.after s.old blocks blocks [] put None _ _ stored s.parts s.edited_block.node_blocks refl refl (block_edit_split edit from to node block nodes ranges stored s) is refl)
 
-place_inside : (edit : RangeEdit) (from to node block : ℕ) (nodes : List (List (List (ℕ × ℕ)))) (ranges : List (ℕ × ℕ)) → IsBlockEdit edit from to nodes node block ranges → node < length nodes
+place_inside : (edit : EditKind) (from to node block : ℕ) (nodes : List (List (List (ℕ × ℕ)))) (ranges : List (ℕ × ℕ)) → IsBlockEdit edit from to nodes node block ranges → node < length nodes
 place_inside edit from to node block nodes ranges s = omega (arith, s.at, ap length s.parts, length-append s.before (s.old ∷ s.after))
 
 -- the nodes, with the new block
-pub stored_after_block_edit : (edit : RangeEdit) (from to node block : ℕ) (nodes nodes' : List (List (List (ℕ × ℕ)))) (ranges new : List (ℕ × ℕ)) (found put : List (List (ℕ × ℕ))) → IsStored [] nodes → nodes' ≡ nodes → IsBlockEdit edit from to nodes' node block ranges → found ≡ get_or nodes node found → new ≡ ranges → put ≡ slice_set found block new → IsStored [] (slice_set nodes node put) × IsEdited edit from to (concat (concat nodes)) (concat (concat (slice_set nodes node put)))
+pub stored_after_block_edit : (edit : EditKind) (from to node block : ℕ) (nodes nodes' : List (List (List (ℕ × ℕ)))) (ranges new : List (ℕ × ℕ)) (found put : List (List (ℕ × ℕ))) → IsStored [] nodes → nodes' ≡ nodes → IsBlockEdit edit from to nodes' node block ranges → found ≡ get_or nodes node found → new ≡ ranges → put ≡ slice_set found block new → IsStored [] (slice_set nodes node put) × IsEdited edit from to (concat (concat nodes)) (concat (concat (slice_set nodes node put)))
 stored_after_block_edit edit from to node block nodes nodes' ranges new found put stored same s is made with_block_replaced =
     let stored' = subst (λ (l : List (List (List (ℕ × ℕ)))). IsStored [] l) (sym same) stored in
     let renewed = block_edit_in_node edit from to node block nodes' ranges put stored' s (with_block_replaced ∙ block_edit_blocks edit from to node block nodes nodes' ranges new found same s is made) in
@@ -172,7 +172,7 @@ width_set ns i n m size old again new lt is is_new is_n is_m is_size =
     let there : again ≡ new = is_new ∙ set_then_get ns i new again lt in
     omega (arith, node_width ns i old new lt is, ap (λ (l : List (List (ℕ × ℕ))). width_of (concat l)) there, node_pixels ns i n size old lt is is_n is_size)
 
-pub block_edit_inside : (edit : RangeEdit) (from to node block : ℕ) (nodes nodes' : List (List (List (ℕ × ℕ)))) (ranges : List (ℕ × ℕ)) → nodes' ≡ nodes → IsBlockEdit edit from to nodes' node block ranges → node < length nodes
+pub block_edit_inside : (edit : EditKind) (from to node block : ℕ) (nodes nodes' : List (List (List (ℕ × ℕ)))) (ranges : List (ℕ × ℕ)) → nodes' ≡ nodes → IsBlockEdit edit from to nodes' node block ranges → node < length nodes
 block_edit_inside edit from to node block nodes nodes' ranges same s = omega (arith, ap length same, place_inside edit from to node block nodes' ranges s)
 
 -- the cached numbers of nodes after one was replaced

@@ -1,5 +1,5 @@
 -- A set as blocks of ranges.
-use Rattle.std.specs.Prelude.{◌≡◌, ℕ, ◌+◌, ◌<◌, ◌≤◌, ◌^◌, List, [], ◌∷◌, ◌++◌, length, ⊤}
+use Rattle.std.specs.Prelude.{ℕ, ◌+◌, ◌<◌, ◌≤◌, ◌^◌, List, [], ◌∷◌, ◌++◌, length, ⊤}
 use Rattle.moc_blocks.specs.RangeList.{NumberSet, AreRangesOf}
 
 -- the concatenation of lists

@@ -61,8 +61,8 @@ fn answer_error(error: LineError, text: &mut Vec<u8>) -> Result<(), Memory>
     }
 }
 
-/// Answers a line of several commands, as [`answer_commands`] does. Its first semicolon is at `first`. This is a
-/// function of its own, because a call pays for all variables of a function: a line of one command needs fewer.
+/// Executes a line of several commands, as [`answer_commands`] does. Its first semicolon is at `first`. The function is
+/// separate, because each call initializes the stack of a whole function: a line of one command needs less of it.
 #[inline(never)]
 fn answer_batch<E: Executor>(
     executor: &mut E,

@@ -60,8 +60,8 @@ fn read_operand(alloc: Global, text: &[u8]) -> Result<Operand, LineError>
     }
 }
 
-/// Parses an operand, as [`read_operand`] does. This is a function of its own, because a call pays for all variables
-/// of a function: an operand without an order needs fewer.
+/// Parses an operand, as [`read_operand`] does. The function is separate, because each call initializes the stack of a
+/// whole function: an operand without an order needs less of it.
 #[inline(never)]
 fn read_ordered(alloc: Global, text: &[u8]) -> Result<Operand, LineError>
     ensures { ParsesAs (λ operand. operand) result (operand_of text.now) }

@@ -200,11 +200,11 @@ impl RangeList {
         self.nodes.insert_in_gap(from, to)
     }
 
-    /// Inserts a range if this changes only one block, and returns the number of new pixels. The block is rebuilt. It
-    /// is replaced in place if no other list shares the blocks of its node and it stays one block; otherwise it is put
-    /// into a new node that shares the other blocks. Returns `None` if the range touches more than one block, if the
-    /// fill rule would be broken, or if a list without blocks would have more than 128 ranges; the list is then
-    /// unchanged.
+    /// Inserts a range if this changes only one block, or two adjacent blocks of a node, and returns the number of new
+    /// pixels. A block is rebuilt. It is replaced in place if no other list shares the blocks of its node and it stays
+    /// one block; otherwise it is put into a new node that shares the other blocks. Two blocks are rebuilt if the fill
+    /// rule requires it. Returns `None` if the range touches more blocks, if the fill rule would still be broken, or if
+    /// a list without blocks would have more than 128 ranges; the list is then unchanged.
     ///
     /// # Errors
     ///
@@ -226,11 +226,10 @@ impl RangeList {
         self.nodes.insert(alloc, from, to)
     }
 
-    /// Removes the pixels of a range if this changes only one block, and returns the number of removed pixels. The
-    /// block is rebuilt. It is replaced in place if no other list shares the blocks of its node and it stays one block;
-    /// otherwise it is put into a new node that shares the other blocks. Returns `None` if the range touches more than
-    /// one block, if the block would be empty, if the fill rule would be broken, or if a list without blocks would have
-    /// more than 128 ranges; the list is then unchanged.
+    /// Removes the pixels of a range if this changes only one block, or two adjacent blocks of a node, and returns the
+    /// number of removed pixels. Blocks are rebuilt and replaced as by `insert`; two blocks also if one would be empty.
+    /// Returns `None` if the range touches more blocks, if the fill rule would still be broken, or if a list without
+    /// blocks would have more than 128 ranges; the list is then unchanged.
     ///
     /// # Errors
     ///

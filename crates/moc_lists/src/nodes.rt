@@ -7,10 +7,10 @@ ghost use Rattle.moc_blocks.specs.Blocks.{concat};
 ghost use Rattle.moc_blocks.specs.Private.Blocks.{largest_u64, shift_starts, width_of, AreStored, IsCountStarted};
 ghost use Rattle.moc_blocks.specs.Private.Blocks.{IsStored};
 ghost use Rattle.moc_blocks.specs.Private.Edits.{with_replaced_item, one_or_two, Inserts, IsEdited, Removes};
-ghost use Rattle.moc_blocks.specs.declared.edits.rebuild.RangeEdit.{RangeEdit};
+ghost use Rattle.moc_blocks.specs.declared.edits.rebuild.EditKind.{EditKind};
 
 use moc_blocks::{
-    Block, BlockEdit, Edit, Gap, Node, NodeEdit, RangeEdit, edit_nodes, find_gap, share_nodes,
+    Block, BlockEdit, Edit, EditKind, Gap, Node, NodeEdit, edit_nodes, find_gap, share_nodes,
 };
 use std::alloc::{AllocError, Global};
 use std::marker::Model;
@@ -290,14 +290,15 @@ impl Nodes {
         Ok(())
     }
 
-    /// Inserts or removes a range if this changes only one block, which is rebuilt, and returns whether this was done.
+    /// Inserts or removes a range if this changes only one block, which is rebuilt, and returns whether it succeeded.
     /// The block is replaced in place if its node is not shared and it stays one block; otherwise its node is rebuilt.
-    /// Returns `false` if the range changes more, if the block would be empty, or if the fill rule would be broken; the
-    /// nodes are then unchanged.
+    /// If that would leave an empty block or break the fill rule, the block and a neighbour in its node are rebuilt.
+    /// Returns `false` if the range changes more, or if the fill rule would still be broken; the nodes are then
+    /// unchanged.
     fn edit(
         &mut self,
         alloc: Global,
-        edit: RangeEdit,
+        edit: EditKind,
         from: u64,
         to: u64,
     ) -> Result<bool, AllocError>
@@ -335,8 +336,8 @@ impl Nodes {
         Ok(true)
     }
 
-    /// Inserts a range if this changes only one block, and returns the number of new pixels. Otherwise, or if the fill
-    /// rule would be broken, returns `None`; the nodes are then unchanged.
+    /// Inserts a range if this changes only one block, or two adjacent blocks of a node, and returns the number of new
+    /// pixels. Otherwise, or if the fill rule would be broken, returns `None`; the nodes are then unchanged.
     pub(crate) fn insert(
         &mut self,
         alloc: Global,
@@ -350,14 +351,14 @@ impl Nodes {
         ensures inserted { Inserts from to (concat (concat self.old)) (concat (concat self.new)) result }
     {
         let before = self.size;
-        if !self.edit(alloc, RangeEdit::Insert, from, to)? {
+        if !self.edit(alloc, EditKind::Insert, from, to)? {
             return Ok(None);
         }
         Ok(Some(self.size - before))
     }
 
-    /// Removes the pixels of a range if this changes only one block, and returns the number of removed pixels.
-    /// Otherwise, if the block would be empty, or if the fill rule would be broken, returns `None`; the nodes are then
+    /// Removes the pixels of a range if this changes only one block, or two adjacent blocks of a node, and returns the
+    /// number of removed pixels. Otherwise, or if the fill rule would be broken, returns `None`; the nodes are then
     /// unchanged.
     pub(crate) fn remove(
         &mut self,
@@ -372,7 +373,7 @@ impl Nodes {
         ensures removed { Removes from to (concat (concat self.old)) (concat (concat self.new)) result }
     {
         let before = self.size;
-        if !self.edit(alloc, RangeEdit::Remove, from, to)? {
+        if !self.edit(alloc, EditKind::Remove, from, to)? {
             return Ok(None);
         }
         Ok(Some(before - self.size))

@@ -22,8 +22,8 @@ use Rattle.moc_operations.proofs.Walking.{and_swap, from_current_of_steps}
 inside : (a b c d from to q : ℕ) (later more : Bool) → b ≤ d → from ≡ max a c → to ≡ min b d → q < b → more ≡ false → (((nat_le a q && nat_lt q b) || later) && ((nat_le c q && nat_lt q d) || more)) ≡ ((nat_le from q && nat_lt q to) || (later && ((nat_le c q && nat_lt q d) || more)))
 inside a b c d from to q later more ends f w lt none = grind (arith, nat_tests)
 
-common_of_overlapping : (a b c d from to q : ℕ) (later more : Bool) → b ≤ d → from ≡ max a c → to ≡ min b d → b ≤ q → (((nat_le a q && nat_lt q b) || later) && ((nat_le c q && nat_lt q d) || more)) ≡ ((nat_le from q && nat_lt q to) || (later && ((nat_le c q && nat_lt q d) || more)))
-common_of_overlapping a b c d from to q later more ends f w ge = grind (arith, nat_tests)
+common_past_first_end : (a b c d from to q : ℕ) (later more : Bool) → b ≤ d → from ≡ max a c → to ≡ min b d → b ≤ q → (((nat_le a q && nat_lt q b) || later) && ((nat_le c q && nat_lt q d) || more)) ≡ ((nat_le from q && nat_lt q to) || (later && ((nat_le c q && nat_lt q d) || more)))
+common_past_first_end a b c d from to q later more ends f w ge = grind (arith, nat_tests)
 
 in_empty_range : (from to q : ℕ) (k : Bool) → to ≤ from → k ≡ (k || (nat_le from q && nat_lt q to))
 in_empty_range from to q k le = grind (arith, nat_tests)
@@ -41,7 +41,7 @@ none_before_start x q (range ∷ ranges) ascending after le = let rest = none_be
 pub ascending_overlap : (x y : ℕ × ℕ) (xs ys : List (ℕ × ℕ)) (from to q : ℕ) → IsAscending (y ∷ ys) → x.1 ≤ y.1 → from ≡ max x.0 y.0 → to ≡ min x.1 y.1 → (in_ranges (x ∷ xs) q && in_ranges (y ∷ ys) q) ≡ (in_range (from, to) q || (in_ranges xs q && in_ranges (y ∷ ys) q))
 ascending_overlap x y xs ys from to q ry ends f t = elim (cases_lt q x.1) [
   | inl lt ↦ inside x.0 x.1 y.0 y.1 from to q (in_ranges xs q) (in_ranges ys q) ends f t lt (none_before_start y.1 q ys ry.2 ry.1 (omega arith))
-  | inr ge ↦ common_of_overlapping x.0 x.1 y.0 y.1 from to q (in_ranges xs q) (in_ranges ys q) ends f t ge
+  | inr ge ↦ common_past_first_end x.0 x.1 y.0 y.1 from to q (in_ranges xs q) (in_ranges ys q) ends f t ge
 ]
 
 pub common_of_ranges : (x y : ℕ × ℕ) (xs ys : List (ℕ × ℕ)) (from to q : ℕ) → IsNormal (y ∷ ys) → x.1 ≤ y.1 → from ≡ max x.0 y.0 → to ≡ min x.1 y.1 → (in_ranges (x ∷ xs) q && in_ranges (y ∷ ys) q) ≡ (in_range (from, to) q || (in_ranges xs q && in_ranges (y ∷ ys) q))

@@ -19,7 +19,7 @@ use Rattle.moc_parts.proofs.Members.{absurd_bool, has-empty, has-union, and_true
 use Rattle.moc_parts.proofs.DegradingParts.{base_pixel_in_cells}
 
 -- a pixel of a cell is in the base pixel of the cell
-in_face : (k index p : ℕ) → k ≤ 29 → set.contains (span k index) p ≡ true → face_of k index ≡ p / base_pixel_size
+pub in_face : (k index p : ℕ) → k ≤ 29 → set.contains (span k index) p ≡ true → face_of k index ≡ p / base_pixel_size
 in_face k index p l h =
     let e : p / cell_size k ≡ index = eqb-true _ _ (and_true _ _ (sym (contains-span k index p) ∙ h)).1 in
     sym (ap (λ n. p / n) (base_pixel_in_cells k l) ∙ sym (div-div-eq-div-mul p (cell_size k) (4 ^ k)) ∙ ap (λ n. n / 4 ^ k) e)

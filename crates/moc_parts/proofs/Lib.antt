@@ -16,3 +16,4 @@ pub mod Drafting
 pub mod Changing
 pub mod OptionalLists
 pub mod SingleParts
+pub mod CellCommands

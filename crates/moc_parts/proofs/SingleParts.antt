@@ -1,5 +1,5 @@
 -- Sets within one part, and commands whose footprint is a single part.
-use Rattle.std.proofs.Common.{◌≡◌, ℕ, ◌+◌, ◌/◌, ◌<◌, ◌≤◌, Bool, true, false, ◌&&◌, List, Option, None, Some, MatchOption, Result, Ok, Err, OnOk, OnErr, length, get_or, inl, inr, refl, sym, ap, subst, ◌∙◌, arith, eq-eqb, eqb-true}
+use Rattle.std.proofs.Common.{◌≡◌, ℕ, ◌+◌, ◌/◌, ◌<◌, ◌≤◌, true, false, ◌&&◌, List, Option, None, Some, MatchOption, Result, Ok, Err, OnOk, OnErr, length, get_or, inl, inr, refl, sym, ap, subst, ◌∙◌, arith, eq-eqb, eqb-true}
 use Rattle.std.specs.Prelude.{is_some, nat_eq, nat_lt, set as set_at}
 use Rattle.std.specs.FinSet as set
 use Rattle.std.proofs.lemmas.Bool.{cases_Bool, cases_eq}

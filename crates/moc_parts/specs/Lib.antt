@@ -1,5 +1,6 @@
 pub mod Objects
 pub mod Commands
+pub mod CellCommands
 pub mod Batches
 pub mod Parts
 pub mod Prepared

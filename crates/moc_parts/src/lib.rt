@@ -10,6 +10,7 @@ mod footprint;
 mod lists;
 mod map;
 mod part;
+mod part_command;
 mod prepared;
 mod reply;
 mod single;
@@ -21,6 +22,7 @@ pub use batch::{Batch, BatchError, MAX_COMMANDS};
 pub use command::{Command, Operand};
 pub use map::Map;
 pub use part::{Part, PartSet};
+pub use part_command::{CellAction, CellCommand, PlainCommand};
 pub use prepared::{Prepared, prepare, prepare_changes, reply_of};
 pub use reply::{Replies, Reply};
 pub use theorems::{

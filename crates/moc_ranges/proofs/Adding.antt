@@ -45,7 +45,7 @@ contained_adds_nothing a b all =
     let none : set.difference b a ≡ set.empty = same_members _ _ (λ q. set.contains-difference nat_cmp_total b a q ∙ new_not (set.contains a q) (set.contains b q) (all q) ∙ sym (set.contains-empty nat_cmp q)) in
     ap set.len none ∙ set.len-empty nat_cmp
 
-reversed_range_is_empty : (from to q : ℕ) → to ≤ from → (nat_le from q && nat_lt q to) ≡ false
+pub reversed_range_is_empty : (from to q : ℕ) → to ≤ from → (nat_le from q && nat_lt q to) ≡ false
 reversed_range_is_empty from to q le = grind (arith, nat_tests)
 
 pub no_numbers : (from to : ℕ) (a : NumberSet) → to ≤ from → (q : ℕ) → set.contains (numbers from to) q ≡ true → set.contains a q ≡ true

@@ -1,7 +1,8 @@
 -- The results of searches in a set.
 use Rattle.std.proofs.Common.{◌≡◌, ℕ, ◌+◌, ◌<◌, ◌≤◌, ◌*◌, ◌/◌, Bool, true, false, not, ◌&&◌, ◌||◌, ◌⊎◌, List, [], ◌∷◌}
 use Rattle.std.proofs.Common.{◌++◌, nat_eq, nat_le, nat_lt, max, Option, None, Some, MatchOption, inl, inr, refl, sym}
-use Rattle.std.proofs.Common.{ap, subst, ◌∙◌, arith}
+use Rattle.std.proofs.Common.{ap, subst, ◌-◌, ◌∙◌, arith}
+use Rattle.std.proofs.lemmas.List.Sums.{sum_by-cons}
 use Rattle.std.proofs.lemmas.Bool.{cases_lt, cases_Bool, false≢true, false_from_ne_true, and_parts, leb-true, ltb-true}
 use Rattle.std.proofs.lemmas.Bool.{lt-ltb}
 use Rattle.std.proofs.lemmas.Bool.Decides.{nat_tests}
@@ -15,12 +16,13 @@ use Rattle.moc_blocks.specs.Lemmas.Members.{contains-numbers, same_members, in_r
 use Rattle.moc_ranges.specs.Lemmas.Members.{meets-some, meets-none, contains-part_of, contains-pixels}
 use Rattle.moc_ranges.specs.Operations.{base_pixel_size, pixels, meets, part_of}
 use Rattle.moc_blocks.specs.Private.Walks.{EndsBy, IsFirstAfter}
-use Rattle.moc_blocks.specs.Lemmas.Ranges.{later_only}
+use Rattle.moc_blocks.specs.Lemmas.Ranges.{later_only, len-set_of}
 use Rattle.moc_ranges.specs.Private.Walks.{IsNextRange, IsEmptyFrom}
 use Rattle.moc_ranges.specs.Lemmas.Ranges.{at_end}
 use Rattle.moc_blocks.proofs.Blocking.{IsNormal-suffix}
 use Rattle.moc_blocks.proofs.Basics.{none_after_limit}
-use Rattle.moc_ranges.proofs.Views.{and_no, none_in_part, in_base}
+use Rattle.moc_ranges.proofs.Views.{and_no, none_in_part, in_base, range_view}
+use Rattle.moc_ranges.proofs.Adding.{reversed_range_is_empty}
 
 -- the ranges that a search has skipped
 pub record IsSearching (limit : ℕ) (rest whole : List (ℕ × ℕ)) : Type 0 where
@@ -185,3 +187,41 @@ empty_seen None true s t a is normal e same = ((λ yes. set_of_no_ranges s a is 
 empty_seen None false s t a is normal e same = absurd (false≢true same)
 empty_seen (Some x) true s t a is normal e same = absurd (false≢true (sym same))
 empty_seen (Some x) false s t a is normal e same = ((λ yes. absurd (false≢true yes)), (λ none. absurd (nonempty_set_of_ranges x s t a is normal e none)))
+
+in_common : (from to start q : ℕ) (has : Bool) → (from ≤ q → q < to → has ≡ nat_le start q) → (has && (nat_le from q && nat_lt q to)) ≡ (nat_le (max start from) q && nat_lt q to)
+in_common from to start q has is = elim (cases_lt q from) [
+  | inl below ↦ grind (arith, nat_tests)
+  | inr begun ↦ elim (cases_lt q to) [
+    | inl inside ↦ let same = is begun inside in grind (arith, nat_tests)
+    | inr past ↦ grind (arith, nat_tests)
+  ]
+]
+
+-- the pixels of a set in a range that ends where its next range does, or before
+common_next : (a : NumberSet) (from to : ℕ) (range : ℕ × ℕ) → IsNextRange from a range → to ≤ range.1 → set.intersection a (numbers from to) ≡ numbers (max range.0 from) to
+common_next a from to range n le = same_members _ _ (λ q.
+    set.contains-intersection nat_cmp_total a (numbers from to) q ∙ ap (λ b. set.contains a q && b) (contains-numbers from to q)
+    ∙ in_common from to range.0 q (set.contains a q) (λ low high. n.has q low (omega arith))
+    ∙ sym (contains-numbers (max range.0 from) to q))
+
+len-numbers : (from to : ℕ) → to ≤ pixel_count → set.len (numbers from to) ≡ to - from
+len-numbers from to within = elim (cases_lt from to) [
+  | inl lt ↦ ap set.len (sym (range_view from to)) ∙ len-set_of ((from, to) ∷ []) (lt, within, tt, tt) ∙ omega (arith, sum_by-cons (λ (range : ℕ × ℕ). range.1 - range.0) (from, to) [])
+  | inr ge ↦
+      let none : numbers from to ≡ set.empty = same_members _ _ (λ q. contains-numbers from to q ∙ reversed_range_is_empty from to q ge ∙ sym (set.contains-empty nat_cmp q)) in
+      ap set.len none ∙ set.len-empty nat_cmp ∙ omega arith
+]
+
+pub common_count_next : (a : NumberSet) (from to : ℕ) (range : ℕ × ℕ) → IsNextRange from a range → to ≤ range.1 → set.len (set.intersection a (numbers from to)) ≡ to - max range.0 from
+common_count_next a from to range n le = ap set.len (common_next a from to range n le) ∙ len-numbers (max range.0 from) to (omega (arith, n.within))
+
+pub common_none_left : (a : NumberSet) (from to : ℕ) → IsEmptyFrom from a → set.len (set.intersection a (numbers from to)) ≡ 0
+common_none_left a from to n =
+    let none : set.intersection a (numbers from to) ≡ set.empty = same_members _ _ (λ q.
+    set.contains-intersection nat_cmp_total a (numbers from to) q
+    ∙ elim (cases_Bool (set.contains (numbers from to) q)) [
+      | inl here ↦ ap (λ b. b && set.contains (numbers from to) q) (n.none q (from_numbers from to q here).0)
+      | inr out ↦ ap (λ b. set.contains a q && b) out ∙ and_false (set.contains a q)
+    ]
+    ∙ sym (set.contains-empty nat_cmp q)) in
+    ap set.len none ∙ set.len-empty nat_cmp

@@ -19,6 +19,7 @@ use crate::errors::{Memory, RangesError};
 use crate::from_ranges::{build, check_pairs, sort_nonempty};
 use crate::pixels::PIXEL_COUNT;
 use moc_lists::{Chunks, MAX_STEPS, RangeList, Ranges, Steps};
+use moc_operations::count_common;
 use std::alloc::{AllocError, Global};
 use std::fmt;
 use std::marker::Model;
@@ -220,6 +221,22 @@ impl Coverage {
             Some((start, end)) => start <= from && to <= end,
             None => false,
         }
+    }
+
+    /// Returns the number of pixels of the set in a half-open range.
+    fn count_range(&self, from: u64, to: u64) -> u64
+        requires ascending { from < to }
+        requires within { to ≤ pixel_count }
+        ensures { result ≡ set.len (set.intersection self.now (numbers from to)) }
+    {
+        let Some((start, end)) = self.first_ending_after(from) else {
+            return 0;
+        };
+        if to <= end {
+            return to.saturating_sub(start.max(from));
+        }
+        let range = [(from, to)];
+        count_common(self.list.ranges(), Ranges::of(&range))
     }
 
     /// Returns the set of all pixels of the sky. O(1).

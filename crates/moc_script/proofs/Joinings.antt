@@ -197,9 +197,9 @@ only_one (x ∷ []) d one = refl
 only_one (x ∷ y ∷ xs) d one = absurd (omega arith)
 
 -- the same, written with the text after them
-pub concat_of_single : {E : Type 0} (all : List Texts) (text following : List ℕ) (a b : SinkState) (r : Result (Unit {0}) E) → length all ≡ 1 → text ≡ concat (get_or all 0 [])
+pub single_text_is_merged : {E : Type 0} (all : List Texts) (text following : List ℕ) (a b : SinkState) (r : Result (Unit {0}) E) → length all ≡ 1 → text ≡ concat (get_or all 0 [])
     → Sends {E = E} (text ++ following) a [] b r → MergesTo {E = E} all following a b r
-concat_of_single all text following a b r one is sends count for = (
+single_text_is_merged all text following a b r one is sends count for = (
   text,
   record {
     left = [] ∷ [];

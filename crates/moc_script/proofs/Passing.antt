@@ -73,8 +73,8 @@ Ends = List (Result LaneOutput LaneFailure)
 err_of : (x y : LaneFailure) → (let end : Result LaneOutput LaneFailure = Err x in end ≡ Err y) → x ≡ y
 err_of x y same = cc
 
-never_ends : (end : LaneOutput) (e : LaneFailure) → (let it : Result LaneOutput LaneFailure = Ok end in it ≡ Err e) → ⊥
-never_ends end e same = cc
+ok_is_not_err : (end : LaneOutput) (e : LaneFailure) → (let it : Result LaneOutput LaneFailure = Ok end in it ≡ Err e) → ⊥
+ok_is_not_err end e same = cc
 
 -- precedence is transitive
 precedes_transitive : (a b c : LaneFailure) → Precedes a b → Precedes b c → Precedes a c
@@ -94,13 +94,13 @@ precedes_itself (Stopped a) = omega arith
 first_failure_after_ok : (ends : Ends) (first : Option LaneFailure) (end : LaneOutput) → IsFirstFailure ends first → IsFirstFailure (ends ++ Ok end ∷ []) first
 first_failure_after_ok ends None end was = λ e here. elim (Contains-push_cases ends (Ok end) (Err e) here) [
   | inl before ↦ was e before
-  | inr same ↦ never_ends end e same
+  | inr same ↦ ok_is_not_err end e same
 ]
 first_failure_after_ok ends (Some first) end was = (
   Contains-append_left ends (Ok end ∷ []) (Err first) was.0,
   λ e here. elim (Contains-push_cases ends (Ok end) (Err e) here) [
     | inl before ↦ was.1 e before
-    | inr same ↦ absurd (never_ends end e same)
+    | inr same ↦ absurd (ok_is_not_err end e same)
   ],
 )
 

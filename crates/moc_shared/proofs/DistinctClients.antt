@@ -11,12 +11,12 @@ use Rattle.moc_shared.specs.declared.record.Record.{Record}
 use Rattle.moc_shared.specs.declared.record.View.{View}
 use Rattle.moc_shared.specs.History.{times_standing, StandsFor}
 use Rattle.moc_shared.specs.Private.Invariant.{records, IsPresent, times_in_view, times_in_views}
-use Rattle.moc_shared.proofs.Basics.{cons_cases, empty_range_or, sum_of, sum_at, sum_at_two}
+use Rattle.moc_shared.proofs.Basics.{cons_cases, nothing_in_empty_list, sum_of, sum_at, sum_at_two}
 
 -- two elements that both count in a sum of at most 1 are equal
 one_counted : {A : Type 0} (f : A → ℕ) (xs : List A) (x y : A) → sum_by f xs ≤ 1 → Contains xs x → Contains xs y
     → 0 < f x → 0 < f y → x ≡ y
-one_counted f [] x y within_max hx hy px py = absurd (empty_range_or x hx)
+one_counted f [] x y within_max hx hy px py = absurd (nothing_in_empty_list x hx)
 one_counted f (z ∷ zs) x y within_max hx hy px py =
     let c = sum_by-cons f z zs in
     ⊎_elim

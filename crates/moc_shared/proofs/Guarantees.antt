@@ -20,7 +20,7 @@ use Rattle.moc_parts.specs.Batches.{footprint_of_all}
 use Rattle.moc_shared.specs.Batches.{BatchCall, BatchRecord, batch_answer}
 use Rattle.moc_shared.specs.Clients.{start_of, clients_of, record_of, IsClientOf, IsHoldingOf, SeeSameHistory, TakesIn}
 use Rattle.moc_shared.specs.Clients.{AddsMarks, TakesEffect, MissesPart, HasNoEffect, FailsOutOfMemory, FailsOutOfMemoryHolding}
-use Rattle.moc_shared.proofs.Basics.{here, there, empty_range_or, cons_cases, starts_itself, stood_with_call}
+use Rattle.moc_shared.proofs.Basics.{here, there, nothing_in_empty_list, cons_cases, starts_itself, stood_with_call}
 use Rattle.moc_shared.proofs.SlotIndices.{slot_index_of_note}
 
 abbrev Same : ℕ × ℕ → ℕ × ℕ → Type 0
@@ -32,7 +32,7 @@ marks_of n notes = map (λ t. (n, t.part)) notes
 
 mark_of_client : (n : ℕ) (notes : List PartNote) (c b : ℕ) → Contains (marks_of n notes) (c, b) → (c ≡ n)
     × ((y : Option NumberSet) × Contains notes (note b y))
-mark_of_client n [] c b h = absurd (empty_range_or (c, b) h)
+mark_of_client n [] c b h = absurd (nothing_in_empty_list (c, b) h)
 mark_of_client n (t ∷ ts) c b h = ⊎_elim
     (λ (e : Same (n, t.part) (c, b)). (
       sym (ap (λ (z : ℕ × ℕ). z.0) e),
@@ -178,7 +178,7 @@ client_of_taken the a b a1 m m' of_a of_b e same determined =
 
 no_entry_added : (op : List Command) (r : BatchRecord) (marks : List (ℕ × ℕ)) → (extra : List (ℕ × ℕ))
     × (marks ≡ extra ++ marks) × ((c b : ℕ) → Contains extra (c, b) → (c ≡ r.number) × IsTrue (footprint_of_all op b))
-no_entry_added op r marks = ([], refl, λ c b h. let x : ℕ × ℕ = (c, b) in absurd (empty_range_or x h))
+no_entry_added op r marks = ([], refl, λ c b h. let x : ℕ × ℕ = (c, b) in absurd (nothing_in_empty_list x h))
 
 pub undone_immediately : (op : List Command) (r : BatchRecord) → HasNoEffect op r r
 undone_immediately op r =

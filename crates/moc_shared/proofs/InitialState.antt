@@ -18,11 +18,11 @@ use Rattle.moc_shared.specs.History.{IsConsistent, StandsFor, times_standing, ne
 use Rattle.moc_shared.specs.Seats.{table_index, note}
 use Rattle.moc_shared.specs.Private.Invariant.{records, times_in_view, times_in_views, IsConsistentView, TableInvariant}
 use Rattle.moc_shared.specs.Private.InitialViews.{no_client, view_for, new_client_records, first_view}
-use Rattle.moc_shared.proofs.Basics.{here, empty_range_or, only, cons_cases}
+use Rattle.moc_shared.proofs.Basics.{here, nothing_in_empty_list, only, cons_cases}
 
 module _ {O R : Type 0} where
   newcomer_is : (c k : ℕ) (r : Record O R) → Contains (new_client_records c k) r → (d : ℕ) × (d < c + k) × (new_client_record d ≡ r)
-  newcomer_is c zero r h = absurd (empty_range_or r h)
+  newcomer_is c zero r h = absurd (nothing_in_empty_list r h)
   newcomer_is c (suc k) r h = ⊎_elim
       (λ (e : new_client_record c ≡ r). (c, omega arith, e))
       (λ (t : Contains (new_client_records (suc c) k) r). let q = newcomer_is (suc c) k r t in let l = q.1 in
@@ -81,8 +81,8 @@ module _ {S X O R Y : Type 0} (n : ℕ) (content : S → Y) (part : ℕ → X �
   misses_none : (r : Record O R) (h b : ℕ) → (no_client ≡ r) ⊎ ((d : ℕ) × (d < 0 + clients) × (new_client_record d ≡ r))
       → Contains r.misses (h, b) → ⊥
   misses_none r h b w m =
-      ⊎_elim (λ (e : no_client ≡ r). empty_range_or (h, b) (subst (λ (q : Record O R). Contains q.misses (h, b)) (sym e) m))
-      (λ (t : (d : ℕ) × (d < 0 + clients) × (new_client_record d ≡ r)). empty_range_or (h, b)
+      ⊎_elim (λ (e : no_client ≡ r). nothing_in_empty_list (h, b) (subst (λ (q : Record O R). Contains q.misses (h, b)) (sym e) m))
+      (λ (t : (d : ℕ) × (d < 0 + clients) × (new_client_record d ≡ r)). nothing_in_empty_list (h, b)
       (subst (λ (q : Record O R). Contains q.misses (h, b)) (sym t.2) m)) w
 
   pub begins : (words : List ℕ) (xs : List S) → length words ≡ table_index n → length xs ≡ table_index n → ((b : ℕ) → slice_index words b ≡ 0)
@@ -100,7 +100,7 @@ module _ {S X O R Y : Type 0} (n : ℕ) (content : S → Y) (part : ℕ → X �
         legal = tt;
         seen_by_some = (first.mine, (0, first, refl, here first.mine first.others), mine_fresh clients);
         set_is_valid = set_is_valid;
-        clients_are_known = λ e h. absurd (empty_range_or e h);
+        clients_are_known = λ e h. absurd (nothing_in_empty_list e h);
         word_count = word_count;
         slot_count = mapped_length xs ∙ slot_count;
         spare = λ b spare. zeros b;
@@ -111,7 +111,7 @@ module _ {S X O R Y : Type 0} (n : ℕ) (content : S → Y) (part : ℕ → X �
               same_map = λ c p. map_is rs;
               fits = λ r h. ⊎_elim
                   (λ (z : no_client ≡ r). subst (λ (q : Record O R). IsConsistent [] q × IsConsistent q.seen q) z
-                  ((([], refl), λ c i. absurd (empty_range_or c i)), (([], refl), λ c i. absurd (empty_range_or c i))))
+                  ((([], refl), λ c i. absurd (nothing_in_empty_list c i)), (([], refl), λ c i. absurd (nothing_in_empty_list c i))))
                   (λ (t : (d : ℕ) × (d < 0 + clients) × (new_client_record d ≡ r)). subst
                   (λ (q : Record O R). IsConsistent [] q × IsConsistent q.seen q) t.2 (fresh t.0, fresh t.0))
                   (kind r h);
@@ -124,7 +124,7 @@ module _ {S X O R Y : Type 0} (n : ℕ) (content : S → Y) (part : ℕ → X �
                   (kind r h);
               holding =
                   λ b y h. absurd
-                  (empty_range_or (note b y) (subst (λ (l : List (Note Y)). Contains l (note b y)) (holds_none rs) h));
+                  (nothing_in_empty_list (note b y) (subst (λ (l : List (Note Y)). Contains l (note b y)) (holds_none rs) h));
             };
         misses_are_marks = λ r q pr pq h b m st. absurd
             (misses_none r h b (kind r (subst (λ (u : V). Contains (records u) r) (sym (which pr.0 pr.1 pr.2)) pr.3))

@@ -10,7 +10,7 @@ use Rattle.moc_shared.specs.declared.record.View.{View}
 use Rattle.moc_shared.specs.History.{IsConsistent, StandsFor, state_after, IsHistory}
 use Rattle.moc_shared.specs.Seats.{table_index, note}
 use Rattle.moc_shared.specs.Private.Invariant.{IsFree, SomeHolds, TableInvariant}
-use Rattle.moc_shared.proofs.Basics.{here, empty_range_or}
+use Rattle.moc_shared.proofs.Basics.{here, nothing_in_empty_list}
 use Rattle.moc_shared.proofs.DistinctClients.{stood_of, one_view}
 
 module _ {S X O R Y : Type 0} (n : ℕ) (content : S → Y) (part : ℕ → X → Y) (answer : X → O → X × R)
@@ -55,7 +55,7 @@ module _ {S X O R Y : Type 0} (n : ℕ) (content : S → Y) (part : ℕ → X �
             let same : h.0 ≡ id = one_view c s.views id h.0 v u (k.clients_are_distinct c) at h.3 (omega arith) (omega arith) in
             let one : u ≡ v =
             some-injective u v (sym h.3 ∙ subst (λ (j : ℕ). get_elem? s.views j ≡ some v) (sym same) at) in
-            empty_range_or (note b h.2)
+            nothing_in_empty_list (note b h.2)
             (subst (λ (y : List (Note Y)). Contains y (note b h.2)) idle
             (subst (λ (y : V). Contains y.holds (note b h.2)) one h.4)))
             (k.each_part b l)),
@@ -74,10 +74,10 @@ module _ {S X O R Y : Type 0} (n : ℕ) (content : S → Y) (part : ℕ → X �
     pub out : get_elem? state.homes (table_index b) ≡ some none
     pub words_are : state.words ≡ words
 
-  pub saturated_last : (words : List ℕ) (xs : List S) (id : ℕ) (v : V) → v.holds ≡ []
+  pub nonzero_words_are_held : (words : List ℕ) (xs : List S) (id : ℕ) (v : V) → v.holds ≡ []
       → Final (Seen (λ s. TableInvariant n content part answer valid start clients s) id v) words xs
       → (b : ℕ) → b < n → slice_index words (table_index b) ≢ 0 → Held_last words v b
-  saturated_last words xs id v idle (s, (k, at), same_words, long, values) b l nz =
+  nonzero_words_are_held words xs id v idle (s, (k, at), same_words, long, values) b l nz =
       let A = state_after answer start k.log in
       let nz' : slice_index s.words (table_index b) ≢ 0 =
       (λ z. nz (sym (ap (λ (w : List ℕ). slice_index w (table_index b)) same_words) ∙ z)) in ⊎_elim
@@ -100,7 +100,7 @@ module _ {S X O R Y : Type 0} (n : ℕ) (content : S → Y) (part : ℕ → X �
             let same : h.0 ≡ id = one_view c s.views id h.0 v u (k.clients_are_distinct c) at h.3 (omega arith) (omega arith) in
             let one : u ≡ v =
             some-injective u v (sym h.3 ∙ subst (λ (j : ℕ). get_elem? s.views j ≡ some v) (sym same) at) in
-            empty_range_or (note b h.2)
+            nothing_in_empty_list (note b h.2)
             (subst (λ (y : List (Note Y)). Contains y (note b h.2)) idle
             (subst (λ (y : V). Contains y.holds (note b h.2)) one h.4));
         word_is = d.word_is;

@@ -25,7 +25,7 @@ use Rattle.moc_shared.specs.Private.Invariant.{TableInvariant, parts_of_notes, I
 use Rattle.moc_shared.specs.Private.Seats.{IsCarried}
 use Rattle.moc_shared.specs.Private.OperationEffects.{HasEffect}
 use Rattle.moc_shared.specs.Private.StepEffects.{with_part, with_miss, with_holds, after_call, rest_of_list, TakesOrMisses, TakesPart, GivesPart, EndsWithCall, CallTakesEffect}
-use Rattle.moc_shared.proofs.Basics.{here, there, empty_range_or, only, cons_cases, sum_set_same, stands_by, stood_with_call}
+use Rattle.moc_shared.proofs.Basics.{here, there, nothing_in_empty_list, only, cons_cases, sum_set_same, stands_by, stood_with_call}
 use Rattle.moc_shared.proofs.Basics.{fits_longer, fits_with_call, starts_itself, result_with, legal_with}
 use Rattle.moc_shared.proofs.DistinctClients.{stood_of, one_view, one_record, present_cases}
 
@@ -408,7 +408,7 @@ module _ {S X O R Y : Type 0} (n : ℕ) (content : S → Y) (part : ℕ → X �
       (λ c. refl)
 
   part_in : (ts : List (Note Y)) (b : ℕ) (y : Y) → Contains ts (note b y) → Contains (parts_of_notes ts) b
-  part_in [] b y h = absurd (empty_range_or (note b y) h)
+  part_in [] b y h = absurd (nothing_in_empty_list (note b y) h)
   part_in (t ∷ ts) b y h = ⊎_elim
       (λ (e : t ≡ note b y). subst (λ (c : ℕ). Contains (parts_of_notes (t ∷ ts)) c) (ap (λ (z : Note Y). z.part) e)
       (here t.part (parts_of_notes ts)))
@@ -416,7 +416,7 @@ module _ {S X O R Y : Type 0} (n : ℕ) (content : S → Y) (part : ℕ → X �
       (cons_cases t ts (note b y) h)
 
   note_in : (ts : List (Note Y)) (b : ℕ) → Contains (parts_of_notes ts) b → (y : Y) × Contains ts (note b y)
-  note_in [] b h = absurd (empty_range_or b h)
+  note_in [] b h = absurd (nothing_in_empty_list b h)
   note_in (t ∷ ts) b h = ⊎_elim
       (λ (e : t.part ≡ b). (t.content, subst (λ (c : ℕ). Contains (t ∷ ts) (note c t.content)) e (here t ts)))
       (λ (c : Contains (parts_of_notes ts) b). let r = note_in ts b c in (r.0, there t ts (note b r.0) r.1))

@@ -21,7 +21,7 @@ use Rattle.moc_shared.specs.Seats.{note}
 use Rattle.moc_shared.specs.Private.Invariant.{records, IsPresent, times_in_view, times_in_views, SomeHolds, IsConsistentView, TableInvariant}
 use Rattle.moc_shared.specs.Private.StepEffects.{with_seen, merged_record, with_history, merged, joined_views, first_record, ReadsHistory, MergesRecords, MergesWith}
 use Rattle.moc_shared.specs.Private.InitialViews.{no_client, idle_view, view_for}
-use Rattle.moc_shared.proofs.Basics.{here, there, empty_range_or, only, cons_cases, sum_set, sum_set_same, starts_itself}
+use Rattle.moc_shared.proofs.Basics.{here, there, nothing_in_empty_list, only, cons_cases, sum_set, sum_set_same, starts_itself}
 use Rattle.moc_shared.proofs.DistinctClients.{stood_of, present_cases}
 
 module _ {S X O R Y : Type 0} (n : ℕ) (content : S → Y) (part : ℕ → X → Y) (answer : X → O → X × R)
@@ -89,7 +89,7 @@ module _ {S X O R Y : Type 0} (n : ℕ) (content : S → Y) (part : ℕ → X �
 
   seen_cases : (log : List (Call O R)) (rs : List (Record O R)) (r : Record O R) → Contains (map (with_seen log) rs) r
       → (q : Record O R) × Contains rs q × (with_seen log q ≡ r)
-  seen_cases log [] r h = absurd (empty_range_or r h)
+  seen_cases log [] r h = absurd (nothing_in_empty_list r h)
   seen_cases log (x ∷ xs) r h =
       ⊎_elim (λ (e : with_seen log x ≡ r). (x, here x xs, e))
       (λ (t : Contains (map (with_seen log) xs) r). let u = seen_cases log xs r t in (u.0, there x xs u.0 u.1, u.2))
@@ -296,9 +296,9 @@ module _ {S X O R Y : Type 0} (n : ℕ) (content : S → Y) (part : ℕ → X �
       (λ (t : (j ≡ other) × (spent ≡ x)). subst (FitsIn log s.words s.homes) t.1 record {
         same_map = λ c p. let z = sum_spent c in absurd (omega arith);
         fits = λ r h. subst (λ (q : Record O R). IsConsistent log q × IsConsistent q.seen q) (spent_is r h)
-            (((log, refl), λ c i. absurd (empty_range_or c i)), (([], refl), λ c i. absurd (empty_range_or c i)));
+            (((log, refl), λ c i. absurd (nothing_in_empty_list c i)), (([], refl), λ c i. absurd (nothing_in_empty_list c i)));
         known = λ r h c st. absurd (none_stood c (subst (λ (q : Record O R). StandsFor q c) (sym (spent_is r h)) st));
-        holding = λ b y h. absurd (empty_range_or (note b y) (subst (λ (l : List (Note Y)). Contains l (note b y)) empty h));
+        holding = λ b y h. absurd (nothing_in_empty_list (note b y) (subst (λ (l : List (Note Y)). Contains l (note b y)) empty h));
       })
       (λ (t : (j ≢ other) × (get_elem? mid j ≡ some x)). ⊎_elim
       (λ (q : (j ≡ id) × (u ≡ x)). subst (FitsIn log s.words s.homes) q.1 record {
@@ -326,7 +326,7 @@ module _ {S X O R Y : Type 0} (n : ℕ) (content : S → Y) (part : ℕ → X �
       (λ (z : no_client ≡ r). absurd (none_stood h (subst (λ (q : Record O R). StandsFor q h) (sym z) st)))
       (λ (o : IsPresent s.views r). (r, o, st, λ b m. m)) (was r p))
       (λ r h b p m. ⊎_elim
-      (λ (z : no_client ≡ r). absurd (empty_range_or (h, b) (subst (λ (q : Record O R). Contains q.misses (h, b)) (sym z) m)))
+      (λ (z : no_client ≡ r). absurd (nothing_in_empty_list (h, b) (subst (λ (q : Record O R). Contains q.misses (h, b)) (sym z) m)))
       (λ (o : IsPresent s.views r). (r, o, m)) (was r p))
       (λ c. let a = sum_set (times_in_view c) s.views id v u at in let b = sum_set (times_in_view c) mid other w spent at_mid in
       let d = sum_u c in let e = sum_spent c in omega arith)
@@ -379,7 +379,7 @@ module _ {S X O R Y : Type 0} (n : ℕ) (content : S → Y) (part : ℕ → X �
       goes b (i, x, y, e, h) = dite (ℕ_discrete i other)
           (λ z. let one : x ≡ w = some-injective x w
           (sym e ∙ subst (λ (j : ℕ). get_elem? s.views j ≡ some w) (sym z) there_is) in
-          absurd (empty_range_or (note b y)
+          absurd (nothing_in_empty_list (note b y)
           (subst (λ (l : List (Note Y)). Contains l (note b y)) free
           (subst (λ (q : V). Contains q.holds (note b y)) one h))))
           (λ ne. dite (ℕ_discrete i id)
@@ -454,19 +454,19 @@ module _ {S X O R Y : Type 0} (n : ℕ) (content : S → Y) (part : ℕ → X �
         same_map = λ c p. (same_start ∙ map_of.0, same_clients ∙ map_of.1);
         fits = λ r h. ⊎_elim
             (λ (z : no_client ≡ r). subst (λ (y : Record O R). IsConsistent log y × IsConsistent y.seen y) z
-            (((log, refl), λ c i. absurd (empty_range_or c i)), (([], refl), λ c i. absurd (empty_range_or c i))))
+            (((log, refl), λ c i. absurd (nothing_in_empty_list c i)), (([], refl), λ c i. absurd (nothing_in_empty_list c i))))
             (λ (o : Contains v.others r). old.fits r (there v.mine v.others r o)) (theirs r h);
         known = λ r h c st. ⊎_elim
             (λ (z : no_client ≡ r). absurd (none_stood c (subst (λ (y : Record O R). StandsFor y c) (sym z) st)))
             (λ (o : Contains v.others r). old.known r (there v.mine v.others r o) c st) (theirs r h);
-        holding = λ b y h. absurd (empty_range_or (note b y) (subst (λ (l : List (Note Y)). Contains l (note b y)) empty h));
+        holding = λ b y h. absurd (nothing_in_empty_list (note b y) (subst (λ (l : List (Note Y)). Contains l (note b y)) empty h));
       })
       (at_snoc mid right x j e))
       (λ r h p st. ⊎_elim
       (λ (z : no_client ≡ r). absurd (none_stood h (subst (λ (q : Record O R). StandsFor q h) (sym z) st)))
       (λ (o : IsPresent s.views r). (r, o, st, λ b m. m)) (was r p))
       (λ r h b p m. ⊎_elim
-      (λ (z : no_client ≡ r). absurd (empty_range_or (h, b) (subst (λ (q : Record O R). Contains q.misses (h, b)) (sym z) m)))
+      (λ (z : no_client ≡ r). absurd (nothing_in_empty_list (h, b) (subst (λ (q : Record O R). Contains q.misses (h, b)) (sym z) m)))
       (λ (o : IsPresent s.views r). (r, o, m)) (was r p))
       (λ c. let a = sum_set (times_in_view c) s.views id v left at in let b = sum_by_push (times_in_view c) mid right in
       let d = two c in let e = sums c in let f : times_in_view c left ≡ times_standing c v.mine = zero-add (times_standing c v.mine) in
@@ -528,7 +528,7 @@ module _ {S X O R Y : Type 0} (n : ℕ) (content : S → Y) (part : ℕ → X �
           }
       cut [] e =
           cut_kept s k id v (idle_view v.start v.clients) stands at refl refl refl (λ r h. inl (only no_client r h))
-          (λ r h. absurd (empty_range_or r (subst (λ (l : List (Record O R)). Contains l r) e h)))
+          (λ r h. absurd (nothing_in_empty_list r (subst (λ (l : List (Record O R)). Contains l r) e h)))
           (λ c. sym (ap (sum_by (times_standing c)) e))
       cut (r ∷ rs) e =
           cut_kept s k id v (view_for v.start v.clients (r ∷ rs)) stands at refl refl refl

@@ -26,7 +26,7 @@ use Rattle.moc_shared.specs.Private.Invariant.{parts_of_notes}
 use Rattle.moc_shared.specs.Private.Seats.{PartNote, content, shared, part, IsInSky, slot_at, note_if, notes_below, list_of, AreWithinOwnParts, IsFootprint}
 use Rattle.moc_shared.specs.Private.Slots.{changed_content, lists_of, AreCopies, Edits, replies_to}
 use Rattle.moc_shared.specs.Batches.{batch_answer}
-use Rattle.moc_shared.proofs.Basics.{empty_range_or}
+use Rattle.moc_shared.proofs.Basics.{nothing_in_empty_list}
 use Rattle.moc_shared.proofs.SlotIndices.{notes_none, notes_next, notes_upto, note_place, place_note, notes_below_lt}
 use Rattle.moc_shared.proofs.SlotIndices.{part_note}
 use Rattle.moc_shared.proofs.Unions.{union_at, union_within, in_sky, get_beyond, and_true}
@@ -165,9 +165,9 @@ part_if_congruence true a b n same = ap Some (same refl)
 part_if_congruence false a b n same = refl
 
 -- the set of a slot is the part of the union
-pointer_in_own_part : (slots : List (Option Pointer)) (b : ℕ) → AreWithinOwnParts slots
+part_of_union_is_slot : (slots : List (Option Pointer)) (b : ℕ) → AreWithinOwnParts slots
     → part_of (union_of (lists_of slots)) b ≡ list_of (slot_at slots b)
-pointer_in_own_part slots b own =
+part_of_union_is_slot slots b own =
     same_members _ _ (λ q. contains-part_of set_is_valid b q ∙ one q (ℕ_discrete (q / base_pixel_size) b))
   where
     set_is_valid : NumberSet
@@ -211,7 +211,7 @@ edits_from cs previous edited p long own set_is_valid changes each =
     λ (a : NumberSet) (v : IsWithin a pixels) (agree : AgreeOn (footprint_of_all cs) u a) (b : ℕ) (l : b < 12).
     let e : content (slot_at edited b) ≡ part_if (footprint_of_all cs b) (set_after_all a cs) b = each b l
     ∙ changed_is (slot_at previous b) (get_or p.lists b None) (part_of u b) (set_after_all u cs) b (footprint_of_all cs b)
-    (sym (pointer_in_own_part previous b own)) (set_is_valid b l) (changes.parts b l)
+    (sym (part_of_union_is_slot previous b own)) (set_is_valid b l) (changes.parts b l)
     ∙ part_if_congruence (footprint_of_all cs b) (set_after_all u cs) (set_after_all a cs) b (determined.inside a v agree b) in
     e in
     record {
@@ -297,7 +297,7 @@ pub update_has_contents : (previous edited : List (Option Pointer)) (b : ℕ) �
     → parts_of_notes (notes_below edited 12) ≡ parts_of_notes (notes_below previous 12) → ((k : ℕ) → slot_at edited k ≡ None) → ⊥
 update_has_contents previous edited b l some same none =
     let empty : notes_below edited 12 ≡ [] = notes_upto edited 0 12 (λ k l. none k) ∙ notes_none edited in
-    empty_range_or b
+    nothing_in_empty_list b
     (subst (λ (l : List ℕ). Contains l b) (sym same ∙ ap (λ (l : List PartNote). parts_of_notes l) empty)
     (slot_of_note previous b l some))
 

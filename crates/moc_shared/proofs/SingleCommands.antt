@@ -23,11 +23,11 @@ use Rattle.moc_shared.specs.Private.Seats.{PartNote, IsCarried, part, IsInSky}
 use Rattle.moc_shared.specs.Private.OperationEffects.{HasEffect}
 use Rattle.moc_shared.specs.Private.Held.{HoldsOnly}
 use Rattle.moc_shared.specs.Private.StepEffects.{with_part, with_parts, with_miss, with_misses, with_holds, with_mark}
-use Rattle.moc_shared.specs.Private.Slots.{BatchTakesEffect, MissesTaking, AreWaits, has_one_of, in_footprint}
+use Rattle.moc_shared.specs.Private.Slots.{BatchTakesEffect, MissesTaking, AreWaits, is_only_part, in_footprint}
 use Rattle.moc_shared.specs.Batches.{BatchCall, BatchRecord, batch_answer}
 use Rattle.moc_shared.specs.Clients.{start_of, clients_of, TakesEffect, HasNoEffect}
 use Rattle.moc_shared.specs.Clients.{TakesEffectAfterWaiting, FailsOutOfMemoryWaiting}
-use Rattle.moc_shared.proofs.Basics.{here, empty_range_or, only}
+use Rattle.moc_shared.proofs.Basics.{here, nothing_in_empty_list, only}
 use Rattle.moc_shared.proofs.Guarantees.{Stays, client_unchanged_with_parts, client_unchanged_after_call, client_unchanged_after_release, notes_at_end, notes_after_undo, undone_immediately}
 use Rattle.moc_shared.proofs.WaitingViews.{waits_from, client_unchanged_after_waiting}
 
@@ -37,27 +37,6 @@ or_false false = refl
 
 some_is_injective : (a b : NumberSet) → Some a ≡ Some b → a ≡ b
 some_is_injective a b e = cc
-
--- ---- pixels that are already there
-
-or_with_implied : (a b : Bool) → (b ≡ true → a ≡ true) → a ≡ (a || b)
-or_with_implied true b has = refl
-or_with_implied false true has = absurd (true≢false (sym (has refl)))
-or_with_implied false false has = refl
-
-new_not : (a b : Bool) → (b ≡ true → a ≡ true) → (b && not a) ≡ false
-new_not true true has = refl
-new_not true false has = refl
-new_not false true has = absurd (true≢false (sym (has refl)))
-new_not false false has = refl
-
-pub union_with_subset : (a b : NumberSet) → finset.is_subset b a ≡ true → a ≡ finset.union a b
-union_with_subset a b all = same_members _ _ (λ q. or_with_implied (finset.contains a q) (finset.contains b q) (finset.is_subset-contains nat_cmp_total b a all q) ∙ sym (finset.contains-union nat_cmp_total a b q))
-
-pub none_new : (a b : NumberSet) → finset.is_subset b a ≡ true → 0 ≡ finset.len (finset.difference b a)
-none_new a b all =
-    let none : finset.difference b a ≡ finset.empty = same_members _ _ (λ q. finset.contains-difference nat_cmp_total b a q ∙ new_not (finset.contains a q) (finset.contains b q) (finset.is_subset-contains nat_cmp_total b a all q) ∙ sym (finset.contains-empty nat_cmp q)) in
-    sym (ap finset.len none ∙ finset.len-empty nat_cmp)
 
 -- ---- the effect of the command, by locality
 
@@ -95,14 +74,14 @@ module _ (c : Command) (b : ℕ) (met : (k : ℕ) → footprint c k ≡ nat_eq b
   noted_alone y p z h = subst (λ (k : ℕ). footprint_of_all cs k ≡ true)
       (ap (λ (t : PartNote). t.part) (only (note b y) (note p z) h)) touched_it
 
-  pub waits_alone : (v : ClientView) (waits : List (ℕ × ℕ)) → AreWaits (has_one_of b) v waits → AreWaits (in_footprint cs) v waits
+  pub waits_alone : (v : ClientView) (waits : List (ℕ × ℕ)) → AreWaits (is_only_part b) v waits → AreWaits (in_footprint cs) v waits
   waits_alone v waits each h d i = let n = each h d i in
       let same : b ≡ d = n.0 in
       (subst (λ (k : ℕ). footprint_of_all cs k ≡ true) same touched_it, n.1, n.2)
 
   pub ended_alone : (the : SharedMap) (reply : Reply) (number : ℕ) (init u w : ClientView) (y : Option NumberSet)
       (waits : List (ℕ × ℕ)) → init.start ≡ start_of the → init.clients ≡ clients_of the → number ≡ init.mine.number
-      → u ≡ with_parts (with_misses init waits) (note b y ∷ []) → AreWaits (has_one_of b) init waits
+      → u ≡ with_parts (with_misses init waits) (note b y ∷ []) → AreWaits (is_only_part b) init waits
       → BatchTakesEffect cs (reply ∷ []) [] u w → TakesEffectAfterWaiting the (call_by number cs (reply ∷ [])) init.mine w.mine
   ended_alone the reply number init u w y waits start clients number_is held each determined = (
     (with_misses init waits).mine,
@@ -113,7 +92,7 @@ module _ (c : Command) (b : ℕ) (met : (k : ℕ) → footprint c k ≡ nat_eq b
 
   pub undone_alone : (the : SharedMap) (init u w : ClientView) (y : Option NumberSet) (waits : List (ℕ × ℕ))
       → init.clients ≡ clients_of the → u ≡ with_parts (with_misses init waits) (note b y ∷ [])
-      → AreWaits (has_one_of b) init waits → w ≡ with_holds u [] → FailsOutOfMemoryWaiting the cs init.mine w.mine
+      → AreWaits (is_only_part b) init waits → w ≡ with_holds u [] → FailsOutOfMemoryWaiting the cs init.mine w.mine
   undone_alone the init u w y waits clients held each gave = (
     (with_misses init waits).mine,
     waits_from the cs init waits clients (waits_alone init waits each),
@@ -138,7 +117,7 @@ module _ (c : Command) (b : ℕ) (met : (k : ℕ) → footprint c k ≡ nat_eq b
   missed_alone v w h below none is known other = (
     [],
     is ∙ (λ i. record (with_miss v h b) { holds = none i }),
-    (λ p y i. absurd (empty_range_or (note p y) i)),
+    (λ p y i. absurd (nothing_in_empty_list (note p y) i)),
     touched_it,
     below,
     known,
@@ -212,4 +191,4 @@ at_err (Err e) p = p
 
 pub failed_at_once : (the : SharedMap) (cs : List Command) (r : BatchRecord) → FailsOutOfMemoryWaiting the cs r r
 failed_at_once the cs r =
-    (r, ([], refl, λ h b i. let x : ℕ × ℕ = (h, b) in absurd (empty_range_or x i)), inl (undone_immediately cs r))
+    (r, ([], refl, λ h b i. let x : ℕ × ℕ = (h, b) in absurd (nothing_in_empty_list x i)), inl (undone_immediately cs r))

@@ -18,7 +18,7 @@ use Rattle.moc_parts.specs.Batches.{footprint_of_all}
 use Rattle.atomic_table.specs.Table.{Me}
 use Rattle.moc_shared.specs.History.{StandsFor}
 use Rattle.moc_shared.proofs.CarriedSlots.{no_entries_of_no_keys}
-use Rattle.moc_shared.proofs.Basics.{here, there, empty_range_or, cons_cases}
+use Rattle.moc_shared.proofs.Basics.{here, there, nothing_in_empty_list, cons_cases}
 
 pub notes_none : (previous : List (Option Pointer)) → notes_below previous 0 ≡ []
 unfolding notes_below
@@ -57,7 +57,7 @@ lt_if b p y (Some x) notes below c =
 pub notes_below_lt : (previous : List (Option Pointer)) (b p : ℕ) (y : Option NumberSet)
     → Contains (notes_below previous b) (note p y) → p < b
 notes_below_lt previous zero p y h =
-    absurd (empty_range_or (note p y) (subst (λ (l : List (PartNote)). Contains l (note p y)) (notes_none previous) h))
+    absurd (nothing_in_empty_list (note p y) (subst (λ (l : List (PartNote)). Contains l (note p y)) (notes_none previous) h))
 notes_below_lt previous (suc b) p y h =
     lt_if b p y (slot_at previous b) (notes_below previous b) (notes_below_lt previous b p y)
     (subst (λ (l : List (PartNote)). Contains l (note p y)) (notes_next previous b) h)
@@ -91,10 +91,10 @@ given_back init v w contents after b c x is up some taken gave =
     ∙ ap (λ (l : List (Option Pointer)). notes_below l c) (sym taken) in
     gave ∙ (λ i. with_holds (is i) (left i))
 
-pub part_between_slots : (init v : ClientView) (contents after : List (Option Pointer)) (b c : ℕ)
+pub notes_below_empty_slot : (init v : ClientView) (contents after : List (Option Pointer)) (b c : ℕ)
     → v ≡ with_holds init (notes_below contents b) → b ≡ suc c → slot_at contents c ≡ None
     → after ≡ set contents c None → v ≡ with_holds init (notes_below after c)
-part_between_slots init v contents after b c is up none taken = is
+notes_below_empty_slot init v contents after b c is up none taken = is
     ∙ ap (with_holds init)
     (ap (notes_below contents) up ∙ notes_without contents c none ∙ sym (notes_set contents c c None (le_refl c))
     ∙ ap (λ (l : List (Option Pointer)). notes_below l c) (sym taken))
@@ -193,7 +193,7 @@ slot_of_contained_note b (Some x) notes t h = there (note b (shared x)) notes t 
 pub note_place : (previous : List (Option Pointer)) (n p : ℕ) (y : Option NumberSet)
     → Contains (notes_below previous n) (note p y) → (x : Pointer) × (slot_at previous p ≡ Some x) × (shared x ≡ y)
 note_place previous zero p y h =
-    absurd (empty_range_or (note p y) (subst (λ (l : List (PartNote)). Contains l (note p y)) (notes_none previous) h))
+    absurd (nothing_in_empty_list (note p y) (subst (λ (l : List (PartNote)). Contains l (note p y)) (notes_none previous) h))
 note_place previous (suc b) p y h =
     place_if previous b p y (slot_at previous b) refl (note_place previous b p y)
     (subst (λ (l : List (PartNote)). Contains l (note p y)) (notes_next previous b) h)
@@ -230,13 +230,13 @@ pub view_unchanged_if_refused : (init v w u : ClientView) (previous : List (Opti
 view_unchanged_if_refused init v w u previous b h is misses_are_marks gave = gave
     ∙ ap (λ (x : ClientView). with_holds x []) (misses_are_marks ∙ ap (λ (x : ClientView). with_miss x h b) is)
 
-pub known_part_owner : (init v : ClientView) (notes : List (PartNote)) (h : ℕ) → v ≡ with_parts init notes → (h < v.clients)
+pub holder_known_before : (init v : ClientView) (notes : List (PartNote)) (h : ℕ) → v ≡ with_parts init notes → (h < v.clients)
     → ¬ StandsFor v.mine h → (h < init.clients) × ¬ StandsFor init.mine h
-known_part_owner init v notes h is below apart =
+holder_known_before init v notes h is below apart =
     subst (λ (x : ClientView). (h < x.clients) × ¬ StandsFor x.mine h) is (below, apart)
 
 note_of : (ts : List (PartNote)) (b : ℕ) → Contains (parts_of_notes ts) b → (y : Option NumberSet) × Contains ts (note b y)
-note_of [] b h = absurd (empty_range_or b h)
+note_of [] b h = absurd (nothing_in_empty_list b h)
 note_of (t ∷ ts) b h = ⊎_elim
     (λ (e : t.part ≡ b). (t.content, subst (λ (c : ℕ). Contains (t ∷ ts) (note c t.content)) e (here t ts)))
     (λ (c : Contains (parts_of_notes ts) b). let r = note_of ts b c in (r.0, there t ts (note b r.0) r.1))
@@ -266,13 +266,13 @@ top_note contents after b x within word_count behind some taken =
     ∙ notes_upto contents (suc b) (11 - b) (λ k l. behind k l) ∙ notes_some contents b x some
     ∙ ap (λ (l : List (PartNote)). note b (shared x) ∷ l) (sym rest)
 
-pub top_slot_separate : (after : List (Option Pointer)) (n b : ℕ) → slot_at after b ≡ None
+pub no_note_of_empty_slot : (after : List (Option Pointer)) (n b : ℕ) → slot_at after b ≡ None
     → Contains (parts_of_notes (notes_below after n)) b → ⊥
-top_slot_separate after n b none h = let q = note_of (notes_below after n) b h in let p = note_place after n b q.0 q.1 in
+no_note_of_empty_slot after n b none h = let q = note_of (notes_below after n) b h in let p = note_place after n b q.0 q.1 in
     let clash : Some p.0 ≡ None = sym p.1 ∙ none in absurd (cc)
 
 pub part_note : (ts : List PartNote) (b : ℕ) (y : Option NumberSet) → Contains ts (note b y) → Contains (parts_of_notes ts) b
-part_note [] b y h = absurd (empty_range_or (note b y) h)
+part_note [] b y h = absurd (nothing_in_empty_list (note b y) h)
 part_note (t ∷ ts) b y h = ⊎_elim
     (λ (e : t ≡ note b y). subst (λ (c : ℕ). Contains (parts_of_notes (t ∷ ts)) c) (ap (λ (z : PartNote). z.part) e)
     (here t.part (parts_of_notes ts)))

@@ -8,30 +8,30 @@ use Rattle.moc_shared.specs.History.{StandsFor}
 use Rattle.moc_shared.specs.Seats.{Pointer, ClientView}
 use Rattle.moc_shared.specs.Private.Seats.{shared, notes_below}
 use Rattle.moc_shared.specs.Private.StepEffects.{with_part, with_parts, with_miss, with_misses}
-use Rattle.moc_shared.specs.Private.Slots.{in_footprint, has_one_of, AreWaits}
+use Rattle.moc_shared.specs.Private.Slots.{in_footprint, is_only_part, AreWaits}
 use Rattle.moc_parts.specs.Batches.{footprint_of_all}
 use Rattle.moc_shared.specs.Clients.{clients_of, Waits}
-use Rattle.moc_shared.proofs.Basics.{empty_range_or, cons_cases}
+use Rattle.moc_shared.proofs.Basics.{nothing_in_empty_list, cons_cases}
 use Rattle.moc_shared.proofs.SlotIndices.{view_with_taken_part}
 use Rattle.moc_shared.proofs.Guarantees.{Stays}
 
 pub no_wait : (parts : ℕ → Type 0) (v : ClientView) → AreWaits parts v []
-no_wait parts v h b i = let x : ℕ × ℕ = (h, b) in absurd (empty_range_or x i)
+no_wait parts v h b i = let x : ℕ × ℕ = (h, b) in absurd (nothing_in_empty_list x i)
 
 abbrev Pair : ℕ × ℕ → ℕ × ℕ → Type 0
 Pair x y = x ≡ y
 
 -- one more wait
 pub one_wait : (init v w : ClientView) (b h : ℕ) (waits : List (ℕ × ℕ)) → v ≡ with_misses init waits
-    → AreWaits (has_one_of b) init waits → w ≡ with_miss v h b → h < v.clients → ¬ StandsFor v.mine h
-    → (more : List (ℕ × ℕ)) × (w ≡ with_misses init more) × AreWaits (has_one_of b) init more
+    → AreWaits (is_only_part b) init waits → w ≡ with_miss v h b → h < v.clients → ¬ StandsFor v.mine h
+    → (more : List (ℕ × ℕ)) × (w ≡ with_misses init more) × AreWaits (is_only_part b) init more
 one_wait init v w b h waits is each misses_are_marks below apart = (
   (h, b) ∷ waits,
   misses_are_marks ∙ ap (λ (x : ClientView). with_miss x h b) is,
   λ g c i. ⊎_elim
       (λ (e : Pair (h, b) (g, c)). let known = subst (λ (x : ClientView). (h < x.clients) × ¬ StandsFor x.mine h) is
       (below, apart) in
-      subst (λ (z : ℕ × ℕ). has_one_of b z.1 × (z.0 < init.clients) × ¬ StandsFor init.mine z.0) e
+      subst (λ (z : ℕ × ℕ). is_only_part b z.1 × (z.0 < init.clients) × ¬ StandsFor init.mine z.0) e
       (refl, known.0, known.1))
       (λ (t : Contains waits (g, c)). each g c t)
       (cons_cases (h, b) waits (g, c) i),
@@ -41,7 +41,7 @@ one_wait init v w b h waits is each misses_are_marks below apart = (
 pub view_after_taking : (cs : List Command) (init v w : ClientView) (previous after : List (Option Pointer)) (b c : ℕ) (x : Pointer)
     (waits more : List (ℕ × ℕ))
     → v ≡ with_parts (with_misses init waits) (notes_below previous b) → AreWaits (in_footprint cs) init waits
-    → w ≡ with_part (with_misses v more) b (shared x) → AreWaits (has_one_of b) v more
+    → w ≡ with_part (with_misses v more) b (shared x) → AreWaits (is_only_part b) v more
     → footprint_of_all cs b ≡ true → c ≡ suc b → after ≡ set previous b (Some x) → b < length previous
     → (all : List (ℕ × ℕ)) × (w ≡ with_parts (with_misses init all) (notes_below after c))
     × AreWaits (in_footprint cs) init all

@@ -78,8 +78,8 @@ module _ (k i step : ℕ) (items : List ℕ) (found : Found k i step items) wher
   late_so_far off h = elim (cases_lt 4 step) [ inl s ↦ found.late s | inr s ↦ absurd (off (omega arith)) ]
 
   -- a step that leads to no cell
-  pub no_range_contains : (step ≡ 4 → ⊥) → ((j : ℕ) → IsAtStep k i step j → ⊥) → Found k i (step + 1) items
-  no_range_contains off none = record {
+  pub found_after_step_without_cell : (step ≡ 4 → ⊥) → ((j : ℕ) → IsAtStep k i step j → ⊥) → Found k i (step + 1) items
+  found_after_step_without_cell off none = record {
     ascending = found.ascending;
     early = λ h. omega (arith, found.early (omega arith));
     late = λ h. omega (arith, late_so_far off h);

@@ -25,7 +25,7 @@ use Rattle.moc_steps.proofs.Permitted.{midway_of, end_permitted, end_taken}
 use Rattle.moc_steps.proofs.EndStep.{replied_begin, names_map}
 use Rattle.moc_steps.proofs.AnyObject.{reached_explained}
 use Rattle.moc_steps.proofs.Values.{get-values, values-remove}
-use Rattle.moc_steps.proofs.Preserved.{Table, holder_same, open_step_unchanged}
+use Rattle.moc_steps.proofs.Preserved.{Table, holder_same, next_world_invariant}
 use Rattle.moc_steps.proofs.PreservedSteps.{Goes, entry_of, runs, previous_is}
 
 -- an entry with its reply
@@ -123,7 +123,7 @@ module _ (n : ℕ) (m : Table) (ps : List NumberSet) (hs : List (Option ℕ)) (e
         order = (order_is ∙ sym (ap (completed batches v c) (runs n m ps hs es kept c s has))) i;
       }) in (
         is,
-        open_step_unchanged n n m (map.remove m c) ps ps hs hs es es' (machine.Step.End c) kept tt tt h is
+        next_world_invariant n n m (map.remove m c) ps ps hs hs es es' (machine.Step.End c) kept tt tt h is
             (λ reached d l. kept.held d l ∙ sym (holder_same v (world_of n (map.remove m c) ps es') reached d (λ q. elim (same_or q c) [
               | inl e ↦ ap (λ x. holds_in_call batches (client_at batches (world_of n (map.remove m c) ps es') x) d) e
                   ∙ ap (λ x. holds_in_call batches x d) (get-values (λ (s : ClientState). s.running) (map.remove m c) c ∙ ap (option_map (λ (s : ClientState). s.running)) (get-remove_same m c))

@@ -117,13 +117,13 @@ small_step l (machine.Step.End c) h b = λ q r is. elim (same_or q c) [
 ]
 
 -- the invariant of the next world, from its holders and the indices of its entries
-pub open_step_unchanged : (n n' : ℕ) (m m' : Table) (ps ps' : List NumberSet) (hs hs' : List (Option ℕ)) (es es' : List Entry) (step : machine.Step (List Command))
+pub next_world_invariant : (n n' : ℕ) (m m' : Table) (ps ps' : List NumberSet) (hs hs' : List (Option ℕ)) (es es' : List Entry) (step : machine.Step (List Command))
     → IsWorld n m ps hs es → AreLocal batches (step ∷ []) → BeginsSmall step → refusal batches (world_of n m ps es).locks step ≡ None
     → world_of n' m' ps' es' ≡ world_after batches (world_of n m ps es) step
     → (IsReachable batches (world_of n' m' ps' es') → (b : ℕ) → b < 12 → get_or hs' b None ≡ holder batches (clients_of m') b)
     → ((c : ℕ) (s : ClientState) → map.get m' c ≡ Some s → HasEntryIndex (operation_numbers (entries_of es')) s.running s.entry_index)
     → IsWorld n' m' ps' hs' es'
-open_step_unchanged n n' m m' ps ps' hs hs' es es' step kept local small permitted is held placed =
+next_world_invariant n n' m m' ps ps' hs hs' es es' step kept local small permitted is held placed =
     let reached : IsReachable batches (world_of n' m' ps' es') = subst (λ w. IsReachable batches w) (sym is) (step_reached batches (world_of n m ps es) step kept.reached local permitted) in
     record {
       reached = reached;

@@ -43,7 +43,7 @@ use Rattle.moc_steps.proofs.EditStep.{has_part, names_push}
 use Rattle.moc_steps.proofs.AnyObject.{reached_explained}
 use Rattle.moc_steps.proofs.Values.{get-values, values-insert}
 use Rattle.moc_steps.proofs.Preserved.{Table, clients_of, taken_content_is, clients_changed, previous_same, holder_of, holder_nobody}
-use Rattle.moc_steps.proofs.Preserved.{holder_same, same_on, open_step_unchanged, at_each}
+use Rattle.moc_steps.proofs.Preserved.{holder_same, same_on, next_world_invariant, at_each}
 
 -- a step from one world to the next that preserves the invariant
 abbrev pub Goes : ℕ → Table → List NumberSet → List Entry → machine.Step (List Command) → ℕ → Table → List NumberSet → List (Option ℕ) → List Entry → Type 0
@@ -97,7 +97,7 @@ module _ (n : ℕ) (m : Table) (ps : List NumberSet) (hs : List (Option ℕ)) (e
       }) in
       subst (λ m'. Goes n m ps es (machine.Step.Quit c) n m' ps hs es) (sym (table_is m c s Quit t.1)) (
         is,
-        open_step_unchanged n n m (map.insert m c s') ps ps hs hs es es (machine.Step.Quit c) kept tt tt h is
+        next_world_invariant n n m (map.insert m c s') ps ps hs hs es es (machine.Step.Quit c) kept tt tt h is
             (λ reached b l. kept.held b l ∙ sym (holder_same (world_of n m ps es) (world_of n (map.insert m c s') ps es) reached b
             (same_on n n m ps ps es es c b s s' t.1 (ap (λ x. x && not (set.contains s.running.given b)) (taken_alike batches s'.running s.running refl refl b)))))
             (at_each m c s' (λ q z. HasEntryIndex (operation_numbers (entries_of es)) z.running z.entry_index) (kept.placed c s t.1) (λ q z d g. kept.placed q z g)),
@@ -120,7 +120,7 @@ module _ (n : ℕ) (m : Table) (ps : List NumberSet) (hs : List (Option ℕ)) (e
       let b_low : b < 12 = (taken_footprint batches s.running b (and_true _ _ g.0).0).0 in
       subst (λ m'. Goes n m ps es (machine.Step.Give c b) n m' ps (set_at hs b None) es) (sym (table_is m c s (Give b) t.1)) (
         is,
-        open_step_unchanged n n m (map.insert m c s') ps ps hs (set_at hs b None) es es (machine.Step.Give c b) kept tt tt h is
+        next_world_invariant n n m (map.insert m c s') ps ps hs (set_at hs b None) es es (machine.Step.Give c b) kept tt tt h is
             (λ reached d l. elim (same_or d b) [
               | inl e ↦ ap (λ x. get_or (set_at hs b None) x None) e ∙ get_set_same hs b None None (subst (λ x. b < x) (sym twelve_hs) b_low)
                   ∙ sym (ap (holder batches (clients_of (map.insert m c s'))) e ∙ holder_nobody (clients_of (map.insert m c s')) b (λ q r at. elim (same_or q c) [
@@ -185,7 +185,7 @@ module _ (n : ℕ) (m : Table) (ps : List NumberSet) (hs : List (Option ℕ)) (e
       }) in
       subst (λ m'. Goes n m ps es (machine.Step.Take c) n m' ps (set_at hs q (Some c)) es) (sym (table_is m c s (Take q list) has)) (
         is,
-        open_step_unchanged n n m (map.insert m c s') ps ps hs (set_at hs q (Some c)) es es (machine.Step.Take c) kept tt tt h is
+        next_world_invariant n n m (map.insert m c s') ps ps hs (set_at hs q (Some c)) es es (machine.Step.Take c) kept tt tt h is
             (λ reached d l. elim (same_or d q) [
               | inl e ↦ ap (λ x. get_or (set_at hs q (Some c)) x None) e ∙ get_set_same hs q (Some c) None (subst (λ x. q < x) (sym twelve_hs) (next_footprint batches r q next).0)
                   ∙ sym (ap (holder batches (clients_of (map.insert m c s'))) e ∙ holder_of (world_of n (map.insert m c s') ps es) reached c q s'.running
@@ -212,7 +212,7 @@ module _ (n : ℕ) (m : Table) (ps : List NumberSet) (hs : List (Option ℕ)) (e
         order = (order_is ∙ sym (ap (appended batches (entries_of es) c) (runs c s has))) i;
       }) in (
         is,
-        open_step_unchanged n n m (map.insert m c s') ps (set_at ps b list) hs hs es es' (machine.Step.Edit c b) kept tt tt h is
+        next_world_invariant n n m (map.insert m c s') ps (set_at ps b list) hs hs es es' (machine.Step.Edit c b) kept tt tt h is
             (λ reached d l. kept.held d l ∙ sym (holder_same v (world_of n (map.insert m c s') (set_at ps b list) es') reached d
             (same_on n n m ps (set_at ps b list) es es' c d s s' has
             (ap (λ r. holds batches r d) run_is ∙ ap (λ x. x && not (set.contains s.running.given d)) (taken_alike batches (record s.running { edited = set.insert s.running.edited b }) s.running refl refl d)))))
@@ -232,7 +232,7 @@ module _ (n : ℕ) (m : Table) (ps : List NumberSet) (hs : List (Option ℕ)) (e
         order = entries_of es;
       }) in (
         is,
-        open_step_unchanged n (suc n) m (map.insert m c s') ps ps hs hs es es (machine.Step.Begin c op) kept (local, tt) l h is
+        next_world_invariant n (suc n) m (map.insert m c s') ps ps hs hs es es (machine.Step.Begin c op) kept (local, tt) l h is
             (λ reached d k. kept.held d k ∙ sym (holder_same v (world_of (suc n) (map.insert m c s') ps es) reached d (λ q. elim (same_or q c) [
               | inl e ↦ ap (λ x. holds_in_call batches (client_at batches (world_of (suc n) (map.insert m c s') ps es) x) d) e
                   ∙ ap (λ x. holds_in_call batches x d) (get-values (λ (s : ClientState). s.running) (map.insert m c s') c ∙ ap (option_map (λ (s : ClientState). s.running)) (get-insert_same m c s'))

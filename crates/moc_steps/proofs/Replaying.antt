@@ -37,9 +37,9 @@ steps_of_next [] i x h = absurd (cc)
 steps_of_next (s ∷ steps) zero x h = (λ j. step_of (some_same (Some s) s x refl h j) ∷ steps_of_none steps j) ∙ ap (λ ys. ys ++ step_of x ∷ []) (sym (steps_of_none (s ∷ steps)))
 steps_of_next (s ∷ steps) (suc i) x h = ap (λ ys. step_of s ∷ ys) (steps_of_next steps i x h)
 
-take_all_steps : (steps : List Step) → take (length steps) steps ≡ steps
-take_all_steps [] = refl
-take_all_steps (x ∷ steps) = ap (λ ys. x ∷ ys) (take_all_steps steps)
+footprint_is_taken : (steps : List Step) → take (length steps) steps ≡ steps
+footprint_is_taken [] = refl
+footprint_is_taken (x ∷ steps) = ap (λ ys. x ∷ ys) (footprint_is_taken steps)
 
 pub leads_from_start : (start : NumberSet) (steps : List Step) (w : BatchWorld) → IsWithin start pixels → w ≡ start_world batches start → Leads start steps 0 w
 leads_from_start start steps w within is = (
@@ -62,7 +62,7 @@ leads_after_step start steps i x w w' h at local permitted is =
 
 pub leads_complete : (start : NumberSet) (steps : List Step) (n : ℕ) (w : BatchWorld) → Leads start steps n w → n ≡ length steps → (w ≡ reached_world batches start (steps_of steps)) × AreValidSteps batches start (steps_of steps)
 leads_complete start steps n w h e =
-    let all : steps_of (take n steps) ≡ steps_of steps = ap (λ k. steps_of (take k steps)) e ∙ ap steps_of (take_all_steps steps) in
+    let all : steps_of (take n steps) ≡ steps_of steps = ap (λ k. steps_of (take k steps)) e ∙ ap steps_of (footprint_is_taken steps) in
     (h.0 ∙ ap (reached_world batches start) all, subst (AreValidSteps batches start) all h.1)
 
 pub leads_to_one_order : (start : NumberSet) (steps : List Step) → AreValidSteps batches start (steps_of steps) → HasOneOrder batches start (steps_of steps)

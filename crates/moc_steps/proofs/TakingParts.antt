@@ -209,8 +209,8 @@ module _ {Op Reply : Type 0} (o : Object Op Reply) where
   taken_footprint r b h = of_parts r.operation b (contained_in_take b r.taken (footprint_parts o r.operation) h)
 
   -- a client without a next part has taken exactly its footprint
-  pub take_all_steps : (r : Running Op) (b : ℕ) → next_part o r ≡ None → b < 12 → has_taken o r b ≡ o.footprint r.operation b
-  take_all_steps r b none l = elim (true_or_false (o.footprint r.operation b)) [
+  pub footprint_is_taken : (r : Running Op) (b : ℕ) → next_part o r ≡ None → b < 12 → has_taken o r b ≡ o.footprint r.operation b
+  footprint_is_taken r b none l = elim (true_or_false (o.footprint r.operation b)) [
     | inl f ↦ has_all r b none l f ∙ sym f
     | inr f ↦ not_true_false (has_taken o r b) (λ t. absurd_bool (o.footprint r.operation b) (taken_footprint r b t).1 f) ∙ sym f
   ]

@@ -35,9 +35,9 @@ end_has_no_rest (b ∷ p) rest h e = end_has_no_rest p rest (both_true (is_word_
 word_bytes_of_word : (bytes : List ℕ) → IsWordPart bytes → take_while is_word_byte bytes ≡ bytes
 word_bytes_of_word bytes h = ap (take_while is_word_byte) (sym (append-nil bytes)) ∙ take_while-part bytes [] h ∙ append-nil bytes
 
-never_ends : (bytes : List ℕ) → 0 < length bytes → IsWordPart bytes → is_end bytes ≡ false
-never_ends [] some h = absurd (omega arith)
-never_ends (b ∷ bytes) some h =
+word_part_is_not_end : (bytes : List ℕ) → 0 < length bytes → IsWordPart bytes → is_end bytes ≡ false
+word_part_is_not_end [] some h = absurd (omega arith)
+word_part_is_not_end (b ∷ bytes) some h =
     let k = both_true (is_word_byte b) (list_all is_word_byte bytes) h in
     elim (is_separator b) as (λ v. not v ≡ true → v ≡ false) [ true ↦ λ e. absurd cc | false ↦ λ e. refl ] k.0
 
@@ -61,7 +61,7 @@ from_scan w h (Err f) o =
     (subst (λ (bytes : List ℕ). HasShapeError (record { at = w.at + length w.bytes - length w.bytes; bytes = bytes }) f) (word_bytes_of_word w.bytes h.1) o)
 
 word_is : (w : Word) → IsWord w → NumbersOutcome w (word_numbers w)
-word_is w h = from_scan w h (scan_word (w.at + length w.bytes) w.bytes) (word_outcome (w.at + length w.bytes) w.bytes (omega arith) (never_ends w.bytes h.0 h.1))
+word_is w h = from_scan w h (scan_word (w.at + length w.bytes) w.bytes) (word_outcome (w.at + length w.bytes) w.bytes (omega arith) (word_part_is_not_end w.bytes h.0 h.1))
 
 -- ---- capped numbers have the errors of the exact numbers
 

@@ -71,10 +71,10 @@ no_cells_of_lower_order k j [] lt rise = refl
 no_cells_of_lower_order k j (c ∷ cells) lt rise =
     rw (ne_eqb c.order k (λ e. omega (arith, rise.0, e))) (no_cells_of_lower_order k c.order cells (omega (arith, rise.0)) rise.1)
 
-all_ascending : (k j : ℕ) (cells : List CellNumber) → k ≤ j → AreAscending j cells → cells_from k cells ≡ cells
-all_ascending k j [] le rise = refl
-all_ascending k j (c ∷ cells) le rise =
-    rw (le-leb k c.order (omega (arith, rise.0))) (ap (λ (l : List CellNumber). c ∷ l) (all_ascending k c.order cells (omega (arith, rise.0)) rise.1))
+ascending_cells_are_kept : (k j : ℕ) (cells : List CellNumber) → k ≤ j → AreAscending j cells → cells_from k cells ≡ cells
+ascending_cells_are_kept k j [] le rise = refl
+ascending_cells_are_kept k j (c ∷ cells) le rise =
+    rw (le-leb k c.order (omega (arith, rise.0))) (ap (λ (l : List CellNumber). c ∷ l) (ascending_cells_are_kept k c.order cells (omega (arith, rise.0)) rise.1))
 
 -- the cells from an order on are those of the order and those from the next order on
 pub order_first : (k j : ℕ) (cells : List CellNumber) → AreAscending j cells → cells_from k cells ≡ of_order k cells ++ cells_from (k + 1) cells
@@ -84,8 +84,8 @@ order_first k j (c ∷ cells) rise = elim (cases_lt c.order k) [
       rw (lt-leb k c.order lt, lt-leb (k + 1) c.order (omega arith), ne_eqb c.order k (λ e. omega (arith, e))) (order_first k c.order cells rise.1)
   | inr le ↦ elim (cases_lt k c.order) [
     | inl lt ↦
-        all_ascending k c.order (c ∷ cells) le (omega arith, rise.1)
-        ∙ (λ i. sym (no_cells_of_lower_order k c.order (c ∷ cells) lt (omega arith, rise.1)) i ++ sym (all_ascending (k + 1) c.order (c ∷ cells) (omega arith) (omega arith, rise.1)) i)
+        ascending_cells_are_kept k c.order (c ∷ cells) le (omega arith, rise.1)
+        ∙ (λ i. sym (no_cells_of_lower_order k c.order (c ∷ cells) lt (omega arith, rise.1)) i ++ sym (ascending_cells_are_kept (k + 1) c.order (c ∷ cells) (omega arith) (omega arith, rise.1)) i)
     | inr ge ↦
         rw (le-leb k c.order le, lt-leb (k + 1) c.order (omega arith), eq-eqb c.order k (omega arith)) (ap (λ (l : List CellNumber). c ∷ l) (order_first k c.order cells rise.1))
   ]

@@ -5,12 +5,12 @@ use Rattle.std.specs.Prelude.{MatchOption, MatchResult}
 use Rattle.std.specs.List.{insert}
 use Rattle.moc_blocks.specs.RangeList.{IsNormal}
 use Rattle.moc_blocks.specs.Lemmas.Members.{in_range, in_ranges}
-use Rattle.moc_blocks.specs.Blocks.{concat, ObeysFillRule, AreBlocks, max_block_ranges}
+use Rattle.moc_blocks.specs.Blocks.{concat, ObeysFillRule, AreBlocks, max_block_ranges, max_node_blocks}
 use Rattle.moc_blocks.specs.Private.Blocks.{next_of, width_of, IsStored}
 use Rattle.moc_blocks.specs.Private.Built.{first_length, last_length, EndsBelow}
 use Rattle.moc_blocks.specs.Private.Walks.{all_ranges}
-use Rattle.moc_blocks.specs.declared.edits.rebuild.RangeEdit.{RangeEdit}
-use Rattle.moc_blocks.specs.declared.edits.rebuild.RangeEdit.TheVariants.{Insert, Remove}
+use Rattle.moc_blocks.specs.declared.edits.rebuild.EditKind.{EditKind}
+use Rattle.moc_blocks.specs.declared.edits.rebuild.EditKind.TheVariants.{Insert, Remove}
 use Rattle.moc_blocks.specs.declared.edits.rebuild.Edit.{Edit}
 use Rattle.moc_blocks.specs.declared.edits.rebuild.Edit.TheVariants.{Block, Node}
 
@@ -19,6 +19,14 @@ pub record IsSplitAtRun {T : Type 0} (ranges : T → List (ℕ × ℕ)) (from : 
     (after : List T) : Type 0 where
   pub parts : whole ≡ before ++ run ∷ after
   pub below : EndsBelow from (all_ranges ranges before)
+
+-- two adjacent blocks, one of which is the block at a place, with the blocks before and after them
+pub record IsPair (left : List (List (ℕ × ℕ))) (run : List (ℕ × ℕ)) (right before : List (List (ℕ × ℕ)))
+    (first second : List (ℕ × ℕ)) (after : List (List (ℕ × ℕ))) : Type 0 where
+  pub parts : left ++ run ∷ right ≡ before ++ first ∷ (second ∷ after)
+  -- the blocks before the two are the first of those before the block
+  pub skipped : List (List (ℕ × ℕ))
+  pub starts : left ≡ before ++ skipped
 
 -- a range was merged with the ranges that it touches, and `rest` is the list after it
 pub record IsMergedRange (start to : ℕ) (ranges : List (ℕ × ℕ)) (end : ℕ) (rest : List (ℕ × ℕ)) : Type 0 where
@@ -40,16 +48,16 @@ parts_from limit (range ∷ ranges) =
     cond (nat_lt limit range.1) ((max range.0 limit, range.1) ∷ parts_from limit ranges) (parts_from limit ranges)
 
 -- whether a pixel is in a list after an edit, from whether it was in the list and whether it is in the range
-abbrev pub after_edit : RangeEdit → Bool → Bool → Bool
+abbrev pub after_edit : EditKind → Bool → Bool → Bool
 after_edit Insert was inside = was || inside
 after_edit Remove was inside = was && not inside
 
 -- a list has the pixels of an old list after an edit with a range
-abbrev pub IsEdited : RangeEdit → ℕ → ℕ → List (ℕ × ℕ) → List (ℕ × ℕ) → Type 0
+abbrev pub IsEdited : EditKind → ℕ → ℕ → List (ℕ × ℕ) → List (ℕ × ℕ) → Type 0
 IsEdited edit from to old new = (q : ℕ) → in_ranges new q ≡ after_edit edit (in_ranges old q) (in_range (from, to) q)
 
 -- the ranges of a block after an edit with a range; they begin and end no further out than the old ones and the range
-pub record AreEditedRanges (edit : RangeEdit) (from to : ℕ) (old new : List (ℕ × ℕ)) : Type 0 where
+pub record AreEditedRanges (edit : EditKind) (from to : ℕ) (old new : List (ℕ × ℕ)) : Type 0 where
   pub normal : IsNormal new
   pub first : min from (next_of old) ≤ next_of new
   pub below : (f : ℕ) → to < f → EndsBelow f old → EndsBelow f new
@@ -90,14 +98,14 @@ Removes from to old new result =
     MatchResult result (λ removed. MatchOption removed (new ≡ old) (RemovesRange from to old new)) (λ _. new ≡ old)
 
 -- the new blocks of a node after an edit, between the blocks before and after the node
-pub record IsNodeBlocks (edit : RangeEdit) (from to : ℕ) (before after node blocks : List (List (ℕ × ℕ))) : Type 0 where
+pub record IsNodeBlocks (edit : EditKind) (from to : ℕ) (before after node blocks : List (List (ℕ × ℕ))) : Type 0 where
   pub some : 0 < length blocks
   pub sized : AreBlocks (before ++ (blocks ++ after))
   pub normal : IsNormal (concat (before ++ (blocks ++ after)))
   pub is_edited : IsEdited edit from to (concat (before ++ (node ++ after))) (concat (before ++ (blocks ++ after)))
 
 -- a block of a node was edited, and is now one block or two; `left` and `right` are the blocks around it in this node
-pub record IsEditedBlock (edit : RangeEdit) (from to : ℕ) (before after node left : List (List (ℕ × ℕ)))
+pub record IsEditedBlock (edit : EditKind) (from to : ℕ) (before after node left : List (List (ℕ × ℕ)))
     (run : List (ℕ × ℕ)) (right : List (List (ℕ × ℕ))) (first second : List (ℕ × ℕ)) : Type 0 where
   pub parts : node ≡ left ++ run ∷ right
   pub filled : AreBlocks (pieces first second)
@@ -105,7 +113,7 @@ pub record IsEditedBlock (edit : RangeEdit) (from to : ℕ) (before after node l
   pub node_blocks : IsNodeBlocks edit from to before after node (left ++ (pieces first second ++ right))
 
 -- the block at the given position of the node at the given position was edited; these are its ranges now
-pub record IsBlockEdit (edit : RangeEdit) (from to : ℕ) (nodes : List (List (List (ℕ × ℕ)))) (node block : ℕ)
+pub record IsBlockEdit (edit : EditKind) (from to : ℕ) (nodes : List (List (List (ℕ × ℕ)))) (node block : ℕ)
     (ranges : List (ℕ × ℕ)) : Type 0 where
   pub before : List (List (List (ℕ × ℕ)))
   pub old : List (List (ℕ × ℕ))
@@ -145,7 +153,7 @@ one_or_two first None = first ∷ []
 one_or_two first (Some second) = first ∷ (second ∷ [])
 
 -- the node at a position is replaced by one or two nodes because of an edit
-pub record IsNodeEdit (edit : RangeEdit) (from to : ℕ) (nodes : List (List (List (ℕ × ℕ)))) (place : ℕ)
+pub record IsNodeEdit (edit : EditKind) (from to : ℕ) (nodes : List (List (List (ℕ × ℕ)))) (place : ℕ)
     (first : List (List (ℕ × ℕ))) (second : Option (List (List (ℕ × ℕ)))) : Type 0 where
   pub before : List (List (List (ℕ × ℕ)))
   pub node : List (List (ℕ × ℕ))
@@ -156,8 +164,22 @@ pub record IsNodeEdit (edit : RangeEdit) (from to : ℕ) (nodes : List (List (Li
   pub is_edited : IsEdited edit from to (concat (concat nodes))
       (concat (concat (before ++ (one_or_two first second ++ after))))
 
+-- a node between others is replaced by one or two nodes with the given blocks
+pub record ReplacesNodeBy (before after : List (List (List (ℕ × ℕ)))) (blocks : List (List (ℕ × ℕ))) (place : ℕ)
+    (first : List (List (ℕ × ℕ))) (second : Option (List (List (ℕ × ℕ)))) : Type 0 where
+  pub at : place ≡ length before
+  -- the blocks of the second node, if there is one
+  pub rest : List (List (ℕ × ℕ))
+  pub split : IsSplit max_node_blocks (last_length before) (first_length after) blocks first rest
+  pub last : MatchOption second (rest ≡ []) (λ node. (node ≡ rest) × (0 < length rest))
+
+-- the edit replaces a node between others by one or two nodes with the given blocks
+abbrev pub ReplacesNode : List (List (List (ℕ × ℕ))) → List (List (List (ℕ × ℕ))) → List (List (ℕ × ℕ)) → Edit → Type 0
+ReplacesNode before after blocks (Block e) = ⊥
+ReplacesNode before after blocks (Node e) = ReplacesNodeBy before after blocks e.place e.first e.second
+
 -- a block or a node is replaced because of an edit
-abbrev pub IsEdit : RangeEdit → ℕ → ℕ → List (List (List (ℕ × ℕ))) → Edit → Type 0
+abbrev pub IsEdit : EditKind → ℕ → ℕ → List (List (List (ℕ × ℕ))) → Edit → Type 0
 IsEdit edit from to nodes (Block e) = IsBlockEdit edit from to nodes e.node e.block e.ranges.items
 IsEdit edit from to nodes (Node e) = IsNodeEdit edit from to nodes e.place e.first e.second
 

@@ -3,7 +3,7 @@ ghost use Rattle.std.specs.Prelude.{◌≡◌, ◌+◌, ◌<◌, ◌≤◌, [], 
 ghost use Rattle.moc_blocks.specs.RangeList.{pixel_count, IsNormal};
 ghost use Rattle.moc_blocks.specs.Private.Blocks.{next_of};
 ghost use Rattle.moc_blocks.specs.Private.Edits.{AreEditedRanges, IsMergedRange};
-ghost use Rattle.moc_blocks.specs.declared.edits.rebuild.RangeEdit.TheVariants.{Insert};
+ghost use Rattle.moc_blocks.specs.declared.edits.rebuild.EditKind.TheVariants.{Insert};
 
 use crate::runs::count_ended;
 use std::alloc::{AllocError, Global};

@@ -1,15 +1,16 @@
 //! Rebuilds the block that an edit with a range changes, and its node if needed.
-ghost use Rattle.std.specs.Prelude.{◌≡◌, ◌+◌, ◌<◌, ◌≤◌, ◌++◌, [], length, IfOk, IfSome, MatchOption, OnOk};
+ghost use Rattle.std.specs.Prelude.{◌≡◌, ◌+◌, ◌<◌, ◌≤◌, ◌++◌, ◌∷◌, [], length, IfOk, IfSome, MatchOption, OnOk};
 ghost use Rattle.moc_blocks.specs.RangeList.{pixel_count, IsNormal};
 ghost use Rattle.moc_blocks.specs.Blocks.{concat, AreBlocks};
 ghost use Rattle.moc_blocks.specs.Private.Blocks.{IsStored};
 ghost use Rattle.moc_blocks.specs.Private.Built.{first_length, EndsBelow};
-ghost use Rattle.moc_blocks.specs.Private.Edits.{pieces, AreEditedRanges, IsEditedBlock, IsEdit};
-ghost use Rattle.moc_blocks.specs.declared.edits.rebuild.RangeEdit.{RangeEdit};
+ghost use Rattle.moc_blocks.specs.Private.Edits.{pieces, AreEditedRanges, IsEditedBlock, IsEdit, ReplacesNode};
+ghost use Rattle.moc_blocks.specs.declared.edits.rebuild.EditKind.{EditKind};
 
 use crate::block::{Block, MAX_BLOCK_RANGES};
 use crate::cursor::{Cursor, start_of_next};
 use crate::edits::cutting::without_range;
+use crate::edits::pairs::edit_pair;
 use crate::edits::place::{SplitAtRun, find_run};
 use crate::edits::reach::with_range;
 use crate::edits::splitting::{SplitList, split_list};
@@ -19,7 +20,7 @@ use std::alloc::{AllocError, Global};
 
 /// What is done with a range: its pixels are inserted into a list, or removed from it.
 #[derive(Clone, Copy)]
-pub enum RangeEdit {
+pub enum EditKind {
     /// The pixels of the range are inserted.
     Insert,
     /// The pixels of the range are removed.
@@ -27,7 +28,7 @@ pub enum RangeEdit {
 }
 
 /// Returns the number of ranges of the next block, or 0 if the list is empty.
-fn ranges_in_next(blocks: &[Block], nodes: &[Node]) -> usize
+pub(crate) fn ranges_in_next(blocks: &[Block], nodes: &[Node]) -> usize
     ensures { result ≡ first_length (blocks.now ++ concat nodes.now) }
 {
     if blocks.is_empty() {
@@ -76,29 +77,29 @@ fn push_shared(blocks: &mut Vec<Block>, more: &[Block]) -> Result<(), AllocError
     Ok(())
 }
 
-/// Returns the blocks around `place`, with the blocks of a list of ranges that was split in place of the block there.
-fn with_block_replaced(
+/// Returns blocks that share their ranges with the given blocks, and between them those of a list that was split.
+pub(crate) fn with_pieces_between(
     alloc: Global,
-    place: SplitAtRun<'_, Block>,
+    before: &[Block],
     cut: SplitList<(u64, u64)>,
+    after: &[Block],
 ) -> Result<Vec<Block>, AllocError>
     requires filled { AreBlocks (pieces cut.first.items cut.second.items) }
     requires normal { IsNormal (cut.first.items ++ cut.second.items) }
-    ensures { IfOk result (λ v.
-        v.items ≡ place.entry.before.now ++ (pieces cut.first.items cut.second.items ++ place.entry.after.now)) }
+    ensures { IfOk result (λ v. v.items ≡ before.now ++ (pieces cut.first.items cut.second.items ++ after.now)) }
 {
     let mut blocks = Vec::with_capacity(alloc, MAX_NODE_BLOCKS + 1)?;
-    push_shared(&mut blocks, place.before)?;
+    push_shared(&mut blocks, before)?;
     push_pieces(alloc, &mut blocks, cut)?;
-    push_shared(&mut blocks, place.after)?;
+    push_shared(&mut blocks, after)?;
     Ok(blocks)
 }
 
 /// Returns the ranges of a block after an edit.
-fn edit_ranges(
+pub(crate) fn edit_ranges(
     alloc: Global,
     ranges: &[(u64, u64)],
-    edit: RangeEdit,
+    edit: EditKind,
     from: u64,
     to: u64,
 ) -> Result<Vec<(u64, u64)>, AllocError>
@@ -108,8 +109,8 @@ fn edit_ranges(
     ensures { IfOk result (λ v. AreEditedRanges edit from to ranges.now v.items) }
 {
     match edit {
-        RangeEdit::Insert => with_range(alloc, ranges, from, to),
-        RangeEdit::Remove => without_range(alloc, ranges, from, to),
+        EditKind::Insert => with_range(alloc, ranges, from, to),
+        EditKind::Remove => without_range(alloc, ranges, from, to),
     }
 }
 
@@ -125,7 +126,7 @@ struct EditedBlock<'a> {
 fn edit_block<'a>(
     alloc: Global,
     around: &SplitAtRun<'a, Node>,
-    edit: RangeEdit,
+    edit: EditKind,
     from: u64,
     to: u64,
 ) -> Result<Option<EditedBlock<'a>>, AllocError>
@@ -200,39 +201,17 @@ pub enum Edit {
     Node(NodeEdit),
 }
 
-/// Inserts or removes a range, and rebuilds the block that it belongs to. The node of this block is rebuilt as well if
-/// it is shared, or if the block is split. Returns `None` if the range touches more than one block, if the block would
-/// be empty, or if the fill rule would be broken.
-///
-/// # Errors
-///
-/// Fails if an allocation fails.
-pub fn edit_nodes(
+/// Returns the edit that replaces a node by one or two nodes of the given blocks. Returns `None` if there are no blocks,
+/// or if the fill rule would be broken.
+fn replace_node(
     alloc: Global,
-    nodes: &[Node],
-    edit: RangeEdit,
-    from: u64,
-    to: u64,
+    place: &SplitAtRun<'_, Node>,
+    blocks: Vec<Block>,
 ) -> Result<Option<Edit>, AllocError>
-    requires stored { IsStored [] nodes.now }
-    requires filled { from < to }
-    requires within { to ≤ pixel_count }
-    ensures { IfOk result (λ r. IfSome r (IsEdit edit from to nodes.entry.now)) }
+    requires normal { IsNormal (concat blocks.items) }
+    requires sized { AreBlocks blocks.items }
+    ensures { IfOk result (λ r. IfSome r (ReplacesNode place.now.before.now place.now.after.now blocks.items)) }
 {
-    let Some(place) = find_run(nodes, from) else {
-        return Ok(None);
-    };
-    let Some(EditedBlock { place: own, cut }) = edit_block(alloc, &place, edit, from, to)? else {
-        return Ok(None);
-    };
-    if cut.second.is_empty() && !place.run.is_shared() {
-        return Ok(Some(Edit::Block(BlockEdit {
-            node: place.before.len(),
-            block: own.before.len(),
-            ranges: cut.first,
-        })));
-    }
-    let blocks = with_block_replaced(alloc, own, cut)?;
     let front = blocks_in_last(place.before);
     let back = blocks_in_first(place.after);
     let Some(SplitList { first, second }) = split_list(alloc, blocks, MAX_NODE_BLOCKS, front, back)?
@@ -246,4 +225,62 @@ pub fn edit_nodes(
         first,
         second,
     })))
+}
+
+/// Edits the block of a range together with a neighbour in its node, and rebuilds the node.
+fn edit_two_blocks(
+    alloc: Global,
+    place: &SplitAtRun<'_, Node>,
+    edit: EditKind,
+    from: u64,
+    to: u64,
+) -> Result<Option<Edit>, AllocError>
+    requires stored { IsStored [] (place.now.before.now ++ place.now.run.now ∷ place.now.after.now) }
+    requires filled { from < to }
+    requires within { to ≤ pixel_count }
+    requires below { EndsBelow from (concat (concat place.now.before.now)) }
+    ensures { IfOk result (λ r. IfSome r
+        (IsEdit edit from to (place.now.before.now ++ place.now.run.now ∷ place.now.after.now))) }
+{
+    let Some(blocks) = edit_pair(alloc, place, edit, from, to)? else {
+        return Ok(None);
+    };
+    replace_node(alloc, place, blocks)
+}
+
+/// Inserts or removes a range, and rebuilds the block that it belongs to. The node of this block is rebuilt as well if
+/// it is shared, or if the block is split. If the range reaches the next block, if the block would be empty, or if the
+/// fill rule would be broken, the block and a neighbour in its node are rebuilt together. Returns `None` if this does
+/// not help.
+///
+/// # Errors
+///
+/// Fails if an allocation fails.
+pub fn edit_nodes(
+    alloc: Global,
+    nodes: &[Node],
+    edit: EditKind,
+    from: u64,
+    to: u64,
+) -> Result<Option<Edit>, AllocError>
+    requires stored { IsStored [] nodes.now }
+    requires filled { from < to }
+    requires within { to ≤ pixel_count }
+    ensures { IfOk result (λ r. IfSome r (IsEdit edit from to nodes.entry.now)) }
+{
+    let Some(place) = find_run(nodes, from) else {
+        return Ok(None);
+    };
+    let Some(EditedBlock { place: own, cut }) = edit_block(alloc, &place, edit, from, to)? else {
+        return edit_two_blocks(alloc, &place, edit, from, to);
+    };
+    if cut.second.is_empty() && !place.run.is_shared() {
+        return Ok(Some(Edit::Block(BlockEdit {
+            node: place.before.len(),
+            block: own.before.len(),
+            ranges: cut.first,
+        })));
+    }
+    let blocks = with_pieces_between(alloc, own.before, cut, own.after)?;
+    replace_node(alloc, &place, blocks)
 }

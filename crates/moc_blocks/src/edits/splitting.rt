@@ -29,8 +29,12 @@ fn split_position(most: usize, count: usize, before: usize) -> usize
     if count <= most {
         return count;
     }
-    let half = most / 2;
-    if before > half { half } else { half + 1 }
+    let half = count / 2;
+    if before > most.saturating_sub(half) {
+        half
+    } else {
+        half + 1
+    }
 }
 
 /// Returns a list whole, or split into two if it has more than `most` items, between lists of the given lengths.

@@ -3,7 +3,7 @@ use Rattle.std.specs.Prelude.{◌≡◌, ℕ, ◌+◌, ◌*◌, ◌/◌, true, n
 use Rattle.std.specs.FinSet as set
 use Rattle.std.specs.Ordering.{nat_cmp}
 use Rattle.std.specs.Cmp.{IsEquivalence, nat_cmp_total}
-use Rattle.std.proofs.Common.{arith, ◌∙◌, false, refl, sym, ap, inl, inr}
+use Rattle.std.proofs.Common.{arith, ◌∙◌, false, sym, ap, inl, inr}
 use Rattle.std.proofs.lemmas.Bool.Decides.{nat_tests}
 use Rattle.std.proofs.lemmas.Bool.{and_parts, and_from, cases_lt, lt-ltb}
 use Rattle.moc_sphere.specs.CellNumber.{CellNumber, cell_size}

@@ -1,5 +1,5 @@
 //! Coverages by cell.
-ghost use Rattle.std.specs.Prelude.{◌≡◌, ℕ, ◌<◌, ◌≤◌, ◌==◌, IfOk, length, sum};
+ghost use Rattle.std.specs.Prelude.{◌≡◌, ℕ, ◌<◌, ◌≤◌, ◌==◌, IfOk, OnOk, OnErr, length, sum};
 ghost use Rattle.std.specs.List.{filter};
 ghost use Rattle.std.specs.FinSet as set;
 ghost use Rattle.moc_blocks.specs.RangeList.{IsNormal};
@@ -46,6 +46,46 @@ impl Coverage {
     {
         let (from, to) = cell.span();
         self.covers_range(from, to)
+    }
+
+    /// Returns the number of pixels of the set in this cell. Does not allocate.
+    ///
+    /// # Complexity
+    ///
+    /// O(log n), and one step for each further range, block or node that the cell meets.
+    pub fn count_cell(&self, cell: Cell) -> u64
+        ensures { result ≡ set.len (set.intersection self.now (span cell.order cell.index)) }
+    {
+        let (from, to) = cell.span();
+        self.count_range(from, to)
+    }
+
+    /// Inserts the pixels of this cell, and returns the number of new pixels. Has the cost of `insert_range`.
+    ///
+    /// # Errors
+    ///
+    /// Fails with `Memory` if an allocation fails; the set is unchanged.
+    pub fn insert_cell(&mut self, alloc: Global, cell: Cell) -> Result<u64, Memory>
+        ensures set { OnOk result (self.new ≡ set.union self.old (span cell.order cell.index)) }
+        ensures added { IfOk result (λ n. n ≡ set.len (set.difference (span cell.order cell.index) self.old)) }
+        ensures unchanged { OnErr result (self.new ≡ self.old) }
+    {
+        let (from, to) = cell.span();
+        self.insert_range(alloc, from, to)
+    }
+
+    /// Removes the pixels of this cell, and returns the number of removed pixels. Has the cost of `remove_range`.
+    ///
+    /// # Errors
+    ///
+    /// Fails with `Memory` if an allocation fails; the set is unchanged.
+    pub fn remove_cell(&mut self, alloc: Global, cell: Cell) -> Result<u64, Memory>
+        ensures set { OnOk result (self.new ≡ set.difference self.old (span cell.order cell.index)) }
+        ensures removed { IfOk result (λ n. n ≡ set.len (set.intersection self.old (span cell.order cell.index))) }
+        ensures unchanged { OnErr result (self.new ≡ self.old) }
+    {
+        let (from, to) = cell.span();
+        self.remove_range(alloc, from, to)
     }
 
     /// Returns the set degraded to an order: all pixels of each cell of this order in which the set has a pixel.

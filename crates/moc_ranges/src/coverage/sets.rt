@@ -102,11 +102,15 @@ impl Coverage {
     ///
     /// One pass over both sets that skips blocks and nodes that the next range of the other does not reach or covers: a
     /// set of m ranges and one of n take O(m log n) and one step for each node that one range covers, and never more
-    /// than O(n + m).
+    /// than O(n + m). If the other set is one range that ends in one range of this set or in the gap before it, the
+    /// cost is that of one binary search.
     pub fn count_common(&self, other: &Coverage) -> u64
         ensures size { result ≡ set.len (set.intersection self.now other.now) }
     {
-        count_common(self.ranges(), other.ranges())
+        match other.ranges().slice() {
+            Some([range]) => self.count_range(range.0, range.1),
+            _ => count_common(self.ranges(), other.ranges()),
+        }
     }
 
     /// Returns whether two sets have a pixel in common. Does not allocate.

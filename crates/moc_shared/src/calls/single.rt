@@ -10,7 +10,7 @@ ghost use Rattle.moc_shared.specs.Private.Slots.{BatchTakesEffect};
 use crate::table::locks::{LockTable, Pointer, SeatToken};
 use crate::table::slots::share;
 use crate::table::steps::{end_single, give_part};
-use moc_parts::{Command, Part, Reply, batches_are_local};
+use moc_parts::{Command, Part, PlainCommand, Reply, batches_are_local};
 use moc_ranges::Memory;
 use std::alloc::Global;
 use std::marker::Brand;
@@ -29,10 +29,14 @@ pub(crate) fn single_part(command: &Command) -> Option<Part>
 }
 
 /// Executes a command on the set of a pointer. The list is changed in place if the pointer is its only owner.
-fn execute_on(alloc: Global, command: &Command, pointer: &mut Pointer) -> Result<Reply, Memory>
-    requires { IsPlain command.now }
-    ensures set { OnOk result (arc_value pointer.new ≡ set_after (arc_value pointer.old) command.now) }
-    ensures reply { IfOk result (λ r. r ≡ reply_on (arc_value pointer.old) command.now) }
+fn execute_on<C: PlainCommand>(
+    alloc: Global,
+    command: &C,
+    pointer: &mut Pointer,
+) -> Result<Reply, Memory>
+    requires { IsPlain (C.command command.now) }
+    ensures set { OnOk result (arc_value pointer.new ≡ set_after (arc_value pointer.old) (C.command command.now)) }
+    ensures reply { IfOk result (λ r. r ≡ reply_on (arc_value pointer.old) (C.command command.now)) }
     ensures unchanged { OnErr result (arc_value pointer.new ≡ arc_value pointer.old) }
 {
     if !command.is_update() {
@@ -46,16 +50,18 @@ fn execute_on(alloc: Global, command: &Command, pointer: &mut Pointer) -> Result
 
 /// Executes a command on a copy of the list, and replaces the pointer, unless the list is unchanged. Makes no copy if
 /// the list already has all pixels of an `Add`.
-fn execute_on_copy(alloc: Global, command: &Command, pointer: &mut Pointer) -> Result<Reply, Memory>
-    requires { IsPlain command.now }
-    ensures set { OnOk result (arc_value pointer.new ≡ set_after (arc_value pointer.old) command.now) }
-    ensures reply { IfOk result (λ r. r ≡ reply_on (arc_value pointer.old) command.now) }
+fn execute_on_copy<C: PlainCommand>(
+    alloc: Global,
+    command: &C,
+    pointer: &mut Pointer,
+) -> Result<Reply, Memory>
+    requires { IsPlain (C.command command.now) }
+    ensures set { OnOk result (arc_value pointer.new ≡ set_after (arc_value pointer.old) (C.command command.now)) }
+    ensures reply { IfOk result (λ r. r ≡ reply_on (arc_value pointer.old) (C.command command.now)) }
     ensures unchanged { OnErr result (arc_value pointer.new ≡ arc_value pointer.old) }
 {
-    if let Command::Add(x) = command {
-        if pointer.covers(&x.set) {
-            return Ok(Reply::Changed(0));
-        }
+    if command.adds_nothing(pointer) {
+        return Ok(Reply::Changed(0));
     }
     let mut list = pointer.try_copy(alloc)?;
     let reply = command.execute_on(alloc, &mut list)?;
@@ -67,20 +73,21 @@ fn execute_on_copy(alloc: Global, command: &Command, pointer: &mut Pointer) -> R
 
 /// Executes a command on its held part, and gives the part back. Either the command takes effect, or the map is
 /// unchanged.
-pub(crate) fn execute_single(
+pub(crate) fn execute_single<C: PlainCommand>(
     table: &LockTable,
     alloc: Global,
     seat: &mut SeatToken,
     part: Part,
     pointer: Pointer,
-    command: &Command,
+    command: &C,
 ) -> Result<Reply, Memory>
     requires place { IsOfTable seat.old.table_id table.now.table_id }
     requires held { HoldsOnly part (arc_value pointer) seat.old.me }
-    requires single { NeedsOnly command.now part }
+    requires single { NeedsOnly (C.command command.now) part }
     ensures same { (seat.new.table_id ≡ seat.old.table_id) × (seat.new.id ≡ seat.old.id) }
     ensures idle { seat.new.me.1 ≡ [] }
-    ensures ok { IfOk result (λ r. BatchTakesEffect (command.now ∷ []) (r ∷ []) [] seat.old.me.0 seat.new.me.0) }
+    ensures ok { IfOk result (λ r.
+        BatchTakesEffect (C.command command.now ∷ []) (r ∷ []) [] seat.old.me.0 seat.new.me.0) }
     ensures err { OnErr result (seat.new.me.0 ≡ with_holds seat.old.me.0 []) }
 {
     let mut pointer = pointer;
@@ -89,7 +96,7 @@ pub(crate) fn execute_single(
             // The call makes the theorem of locality available to the proof: the reply is the same on all sets with
             // this part.
             batches_are_local();
-            end_single::<Brand>(table, seat, part, pointer, command, &reply);
+            end_single::<Brand, C>(table, seat, part, pointer, command, &reply);
             Ok(reply)
         }
         Err(memory) => {

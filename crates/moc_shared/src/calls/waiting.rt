@@ -6,7 +6,7 @@ ghost use Rattle.moc_shared.specs.Private.Invariant.{IsSingleClient};
 ghost use Rattle.moc_shared.specs.Private.Seats.{IsCarried, shared, notes_below};
 ghost use Rattle.moc_shared.specs.Private.Seats.{AreWithinOwnParts, IsFootprint, IsWithinPart, IsOfTable};
 ghost use Rattle.moc_shared.specs.Private.StepEffects.{with_part, with_parts, with_misses};
-ghost use Rattle.moc_shared.specs.Private.Slots.{in_footprint, has_one_of, AreWaits};
+ghost use Rattle.moc_shared.specs.Private.Slots.{in_footprint, is_only_part, AreWaits};
 
 use crate::table::layout::index;
 use crate::table::locks::{LockTable, Pointer, SeatToken};
@@ -60,7 +60,7 @@ pub(crate) fn wait_for_slot<R: Wait>(
     ensures own { IsWithinPart part (Some result) }
     ensures taken_or_missed { (waits : List (ℕ × ℕ))
         × (seat.new.me.0 ≡ with_part (with_misses seat.old.me.0 waits) part (shared result))
-        × AreWaits (has_one_of part) seat.old.me.0 waits }
+        × AreWaits (is_only_part part) seat.old.me.0 waits }
 {
     let mut tries = 0;
     for _ in rt.forever() {

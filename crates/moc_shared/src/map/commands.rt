@@ -1,5 +1,6 @@
 //! Executing single commands on a map.
 ghost use Rattle.std.specs.Prelude.{◌≡◌, [], ◌∷◌, IfOk, IfErr, OnErr};
+ghost use Rattle.moc_parts.specs.CellCommands.{command_on_cell};
 ghost use Rattle.moc_parts.specs.Commands.{NeedsOnly};
 ghost use Rattle.moc_shared.specs.Clients.{number_of, record_of, call_of};
 ghost use Rattle.moc_shared.specs.Clients.{IsClientOf, TakesEffect, AfterTryApply};
@@ -12,7 +13,7 @@ use crate::client::Client;
 use crate::errors::{Busy, TryError};
 use crate::map::SharedMap;
 use crate::table::steps::take_slot;
-use moc_parts::{Batch, Command, Part, Replies, Reply};
+use moc_parts::{Batch, CellCommand, Command, Part, PlainCommand, Replies, Reply};
 use moc_ranges::Memory;
 use std::sync::Wait;
 
@@ -78,16 +79,42 @@ impl SharedMap {
         }
     }
 
-    /// Executes a command on its single part, or fails if another client holds it.
-    fn try_in_part(
+    /// Executes a command on one cell like `try_answer` with the `Command` on the set of the cell. Does not wait, and
+    /// does not allocate this set.
+    ///
+    /// # Errors
+    /// Fails with `Busy` if another client holds the part of the cell, and with `Memory` if an allocation fails. The map
+    /// is then unchanged, and the client holds no part.
+    ///
+    /// # Complexity
+    /// One compare-exchange, and the cost of `Coverage::insert_cell`, `remove_cell` or `count_cell`. A count allocates
+    /// nothing.
+    pub fn try_answer_cell(
         &self,
         client: &mut Client,
-        command: &Command,
+        command: &CellCommand,
+    ) -> Result<Reply, TryError>
+        requires map { IsClientOf self.now client.old }
+        ensures map { IsClientOf self.now client.new }
+        ensures number { number_of client.new ≡ number_of client.old }
+        ensures ok { IfOk result (λ r. TakesEffect self.now
+            (call_of client.old (command_on_cell command.now ∷ []) (r ∷ [])) (record_of client.old) (record_of client.new)) }
+        ensures err { IfErr result (λ e. AfterTryApply self.now (command_on_cell command.now ∷ []) e
+            (record_of client.old) (record_of client.new)) }
+    {
+        self.try_in_part(client, command, command.part())
+    }
+
+    /// Executes a command on its single part, or fails if another client holds it.
+    fn try_in_part<C: PlainCommand>(
+        &self,
+        client: &mut Client,
+        command: &C,
         part: Part,
     ) -> Result<Reply, TryError>
         requires map { IsClientOf self.now client.old }
-        requires single { NeedsOnly command.now part }
-        ensures { IsTryResult self.now command.now client.old client.new result }
+        requires single { NeedsOnly (C.command command.now) part }
+        ensures { IsTryResult self.now (C.command command.now) client.old client.new result }
     {
         let mark = client.mark();
         let table = &self.table.shared;

@@ -16,7 +16,7 @@ ghost use Rattle.moc_shared.specs.Batches.{batch_answer};
 use crate::table::layout::index;
 use crate::table::locks::{End, EndingCall, Give, LockTable, Pointer, SeatToken, Take};
 use crate::table::slots::Slots;
-use moc_parts::{Batch, Command, Part, Reply};
+use moc_parts::{Batch, Part, PlainCommand, Reply};
 
 /// Tries to set the client's mark in the lock word of a part. Returns 0 if the part was free and is now held, and the
 /// mark of its holder otherwise.
@@ -116,24 +116,25 @@ pub(crate) fn end_call<C: EndingCall>(
 /// effect.
 ///
 /// The command and its reply are parameters only because the contract refers to them.
-pub(crate) fn end_single<C: EndingCall>(
+pub(crate) fn end_single<C: EndingCall, P: PlainCommand>(
     table: &LockTable,
     seat: &mut SeatToken,
     part: Part,
     new: Pointer,
-    command: &Command,
+    command: &P,
     reply: &Reply,
 )
     requires place { IsOfTable seat.old.table_id table.now.table_id }
     requires client { IsSingleClient seat.old.me.0 }
     requires carried { IsCarried seat.old.me }
-    requires call { (C.call ≡ call_by seat.old.me.0.mine.number (command.now ∷ []) (reply.now ∷ [])) × (C.notes ≡ []) }
+    requires call { (C.call ≡ call_by seat.old.me.0.mine.number (P.command command.now ∷ []) (reply.now ∷ []))
+        × (C.notes ≡ []) }
     requires held { parts_of_notes seat.old.me.0.holds ≡ part ∷ [] }
-    requires answered { HasEffect seats.part batch_answer IsInSky (command.now ∷ []) (reply.now ∷ [])
+    requires answered { HasEffect seats.part batch_answer IsInSky (P.command command.now ∷ []) (reply.now ∷ [])
         seat.old.me.0.holds (note part (shared new) ∷ []) }
     ensures same { (seat.new.table_id ≡ seat.old.table_id) × (seat.new.id ≡ seat.old.id) }
     ensures idle { seat.new.me.1 ≡ [] }
-    ensures ended { BatchTakesEffect (command.now ∷ []) (reply.now ∷ []) [] seat.old.me.0 seat.new.me.0 }
+    ensures ended { BatchTakesEffect (P.command command.now ∷ []) (reply.now ∷ []) [] seat.old.me.0 seat.new.me.0 }
 {
     let index = index(part);
     drop(table.exchange(seat, index, Some(new)));

@@ -152,8 +152,8 @@ not_too_coarse a (Some k) has coarse =
 both_ways : (p q : ℕ) → p < pixel_count → q < pixel_count → nat_lt p pixel_count ≡ nat_lt q pixel_count
 both_ways p q p_in q_in = lt-ltb p pixel_count p_in ∙ sym (lt-ltb q pixel_count q_in)
 
-empty_is_union : (k : ℕ) → IsUnionOfCells k set.empty
-empty_is_union k = record {
+empty_is_union_of_cells : (k : ℕ) → IsUnionOfCells k set.empty
+empty_is_union_of_cells k = record {
   each = λ p q p_in q_in same. set.contains-empty nat_cmp p ∙ sym (set.contains-empty nat_cmp q);
 }
 
@@ -165,18 +165,18 @@ union_of_two k a b of_a of_b = record {
       ∙ sym (set.contains-union nat_cmp_total a b q);
 }
 
-intersection_is_union : (k : ℕ) (a b : NumberSet) → IsUnionOfCells k a → IsUnionOfCells k b
+intersection_is_union_of_cells : (k : ℕ) (a b : NumberSet) → IsUnionOfCells k a → IsUnionOfCells k b
     → IsUnionOfCells k (set.intersection a b)
-intersection_is_union k a b of_a of_b = record {
+intersection_is_union_of_cells k a b of_a of_b = record {
   each = λ p q p_in q_in same.
       set.contains-intersection nat_cmp_total a b p
       ∙ ap₂ (λ x y. x && y) (of_a.each p q p_in q_in same) (of_b.each p q p_in q_in same)
       ∙ sym (set.contains-intersection nat_cmp_total a b q);
 }
 
-difference_is_union : (k : ℕ) (a b : NumberSet) → IsUnionOfCells k a → IsUnionOfCells k b
+difference_is_union_of_cells : (k : ℕ) (a b : NumberSet) → IsUnionOfCells k a → IsUnionOfCells k b
     → IsUnionOfCells k (set.difference a b)
-difference_is_union k a b of_a of_b = record {
+difference_is_union_of_cells k a b of_a of_b = record {
   each = λ p q p_in q_in same.
       set.contains-difference nat_cmp_total a b p
       ∙ ap₂ (λ x y. x && not y) (of_a.each p q p_in q_in same) (of_b.each p q p_in q_in same)
@@ -191,16 +191,16 @@ symmetric_union k a b of_a of_b = record {
       ∙ sym (contains-symmetric a b q);
 }
 
-complement_is_union : (k : ℕ) (a : NumberSet) → IsUnionOfCells k a → IsUnionOfCells k (complement a)
-complement_is_union k a of_a = record {
+complement_is_union_of_cells : (k : ℕ) (a : NumberSet) → IsUnionOfCells k a → IsUnionOfCells k (complement a)
+complement_is_union_of_cells k a of_a = record {
   each = λ p q p_in q_in same.
       contains-complement a p
       ∙ ap₂ (λ x y. x && not y) (both_ways p q p_in q_in) (of_a.each p q p_in q_in same)
       ∙ sym (contains-complement a q);
 }
 
-degrade_is_union : (k : ℕ) (a : NumberSet) → IsUnionOfCells k (degrade a k)
-degrade_is_union k a = record {
+degraded_is_union_of_cells : (k : ℕ) (a : NumberSet) → IsUnionOfCells k (degrade a k)
+degraded_is_union_of_cells k a = record {
   each = λ p q p_in q_in same.
       contains-degrade a k p
       ∙ ap₂ (λ x i. x && meets a (span k i)) (both_ways p q p_in q_in) same
@@ -264,12 +264,12 @@ union_depth a b x y of_a of_b k le =
 pub intersection_depth : (a b : NumberSet) (x y : Option ℕ) → HasMaxOrder a x → HasMaxOrder b y
     → HasMaxOrder (set.intersection a b) (deeper x y)
 intersection_depth a b x y of_a of_b k le =
-    intersection_is_union k a b (of_a k (at_most_first x y k le)) (of_b k (at_most_second x y k le))
+    intersection_is_union_of_cells k a b (of_a k (at_most_first x y k le)) (of_b k (at_most_second x y k le))
 
 pub difference_depth : (a b : NumberSet) (x y : Option ℕ) → HasMaxOrder a x → HasMaxOrder b y
     → HasMaxOrder (set.difference a b) (deeper x y)
 difference_depth a b x y of_a of_b k le =
-    difference_is_union k a b (of_a k (at_most_first x y k le)) (of_b k (at_most_second x y k le))
+    difference_is_union_of_cells k a b (of_a k (at_most_first x y k le)) (of_b k (at_most_second x y k le))
 
 pub symmetric_depth : (a b : NumberSet) (x y : Option ℕ) → HasMaxOrder a x → HasMaxOrder b y
     → HasMaxOrder (symmetric a b) (deeper x y)
@@ -277,7 +277,7 @@ symmetric_depth a b x y of_a of_b k le =
     symmetric_union k a b (of_a k (at_most_first x y k le)) (of_b k (at_most_second x y k le))
 
 pub complement_depth : (a : NumberSet) (x : Option ℕ) → HasMaxOrder a x → HasMaxOrder (complement a) x
-complement_depth a x of_a k le = complement_is_union k a (of_a k le)
+complement_depth a x of_a k le = complement_is_union_of_cells k a (of_a k le)
 
 coarser_of : (x : Option ℕ) (o k : ℕ) → k < o → IsAtMost (option_map (λ j. min j o) x) k → IsAtMost x k
 coarser_of None o k lt le = tt
@@ -287,7 +287,7 @@ pub degrade_depth : (a : NumberSet) (x : Option ℕ) (o : ℕ) → HasMaxOrder a
     → HasMaxOrder (degrade a o) (option_map (λ j. min j o) x)
 degrade_depth a x o of_a k le = elim (cases_lt k o) [
   | inl lt ↦ degrade_of_union k o a (omega arith) (of_a k (coarser_of x o k lt le))
-  | inr deep ↦ union_of_deeper o k (degrade a o) (omega arith) (degrade_is_union o a)
+  | inr deep ↦ union_of_deeper o k (degrade a o) (omega arith) (degraded_is_union_of_cells o a)
 ]
 
 -- ---- sets that texts represent
@@ -307,8 +307,8 @@ spans_are_union j first last = record {
 }
 
 item_is_union : (k : ℕ) (j : Option ℕ) (i : Option Item) → IsAtMost j k → IsUnionOfCells k (item_pixels j i)
-item_is_union k j None le = empty_is_union k
-item_is_union k None (Some i) le = empty_is_union k
+item_is_union k j None le = empty_is_union_of_cells k
+item_is_union k None (Some i) le = empty_is_union_of_cells k
 item_is_union k (Some j) (Some i) le = union_of_deeper j k _ le (spans_are_union j i.first.value (last_cell i).value)
 
 in_force : (before : Option ℕ) (mark : Option Numeral) (k : ℕ) → IsAtMost before k
@@ -318,7 +318,7 @@ in_force before (Some n) k le own = own
 
 words_are_union : (k : ℕ) (before : Option ℕ) (ns : List WordNumbers) → IsAtMost before k → IsAtMost (deepest_of ns) k
     → IsUnionOfCells k (pixels_of_words before ns)
-words_are_union k before [] le most = empty_is_union k
+words_are_union k before [] le most = empty_is_union_of_cells k
 words_are_union k before (n ∷ ns) le most =
     let here = in_force before n.mark k le (at_most_first (current_order None n.mark) (deepest_of ns) k most) in
     let rest = at_most_second (current_order None n.mark) (deepest_of ns) k most in
@@ -333,20 +333,20 @@ ascii_depth text a moc_order represents k le =
     (words_are_union k None represents.numbers tt (subst (λ (x : Option ℕ). IsAtMost x k) represents.moc_order_is le))
 
 cell_is_union : (k j : ℕ) (i : Option ℕ) → j ≤ k → IsUnionOfCells k (cell_pixels j i)
-cell_is_union k j None le = empty_is_union k
+cell_is_union k j None le = empty_is_union_of_cells k
 cell_is_union k j (Some i) le = union_of_deeper j k (span j i) le (span_is_union j i)
 
 items_union : (k j : ℕ) (ds : Items) → j ≤ k → IsUnionOfCells k (items_pixels j ds)
-items_union k j no_items le = empty_is_union k
+items_union k j no_items le = empty_is_union_of_cells k
 items_union k j (item d ds) le = union_of_two k _ _ (cell_is_union k j (whole_number d) le) (items_union k j ds le)
 
 array_is_union : (k : ℕ) (j : Option ℕ) (ds : Option Items) → IsAtMost j k → IsUnionOfCells k (array_pixels j ds)
 array_is_union k (Some j) (Some ds) le = items_union k j ds le
-array_is_union k None ds le = empty_is_union k
-array_is_union k (Some j) None le = empty_is_union k
+array_is_union k None ds le = empty_is_union_of_cells k
+array_is_union k (Some j) None le = empty_is_union_of_cells k
 
 members_are_union : (k : ℕ) (ms : Members) → IsAtMost (deepest_name ms) k → IsUnionOfCells k (members_pixels ms)
-members_are_union k no_members most = empty_is_union k
+members_are_union k no_members most = empty_is_union_of_cells k
 members_are_union k (member name d ms) most =
     union_of_two k _ _
     (array_is_union k (order_of_name name) (as_array d) (at_most_first (order_of_name name) (deepest_name ms) k most))

@@ -1,7 +1,7 @@
 use Rattle.std.proofs.Common.{◌∙◌, ap, List, ℕ, subst, refl}
 use Rattle.moc_blocks.specs.Private.Blocks.{width_of}
 use Rattle.moc_blocks.specs.Private.Edits.{AreEditedRanges}
-use Rattle.moc_blocks.specs.declared.edits.rebuild.RangeEdit.TheVariants.{Insert}
+use Rattle.moc_blocks.specs.declared.edits.rebuild.EditKind.TheVariants.{Insert}
 use Rattle.moc_blocks.proofs.Editing.{inserted_adds}
 use Rattle.moc_blocks.proofs.edits.insert_small.Goals as goal
 

@@ -1,7 +1,7 @@
 use Rattle.std.proofs.Common.{◌≡◌, ◌<◌, sym, subst, arith, ◌∙◌}
 use Rattle.moc_sphere.specs.CellNumber.{cell_count}
 use Rattle.moc_sphere.specs.Private.Sides.{IsAtStep}
-use Rattle.moc_sphere.proofs.Search.{Found, no_range_contains, found_skip, found_some, found_iff_touches}
+use Rattle.moc_sphere.proofs.Search.{Found, found_after_step_without_cell, found_skip, found_some, found_iff_touches}
 use Rattle.moc_sphere.proofs.FaceBounds.{index_below}
 use Rattle.moc_sphere.proofs.neighbours.touching_across.Goals as goal
 use Rattle.moc_sphere.proofs.neighbours.touching_across.Goals.{then-step-ne4+in-Some, then-step-ne4+in_default, else-step-ne4}
@@ -36,7 +36,7 @@ loop-step-preserved c =
       | then-step-ne4+in_default w ↦
           rw w.cells-is (record {
             room = c.loop-step.invariant.room;
-            found = no_range_contains k i d c.loop-step.cells.items f w.if-step-ne4.true w.in_default.ensures;
+            found = found_after_step_without_cell k i d c.loop-step.cells.items f w.if-step-ne4.true w.in_default.ensures;
           })
       | else-step-ne4 w ↦
           rw w.cells-is (record {

@@ -6,12 +6,12 @@ use Rattle.moc_blocks.specs.Private.Blocks.{first_of, last_of, width_of}
 use Rattle.moc_blocks.specs.Blocks.{concat, AreBlocks}
 use Rattle.moc_blocks.specs.Private.Edits.{with_range_inserted}
 use Rattle.moc_blocks.proofs.Blocking.{first_of-concat, last_of-concat, length_last, width_bounded, range_count_bounded}
-use Rattle.moc_blocks.proofs.Inserting.{gap_not_full_range, gap_normal, inserted_is, inserted_width, inserted_count, on_true}
+use Rattle.moc_blocks.proofs.Inserting.{range_in_gap_is_filled, gap_normal, inserted_is, inserted_width, inserted_count, on_true}
 use Rattle.moc_blocks.proofs.Replacing.{as_many}
 use Rattle.moc_blocks.proofs.node.Node.insert.Goals as goal
 
 pub insert-requires-clause-filled : goal.insert-requires-clause-filled
-insert-requires-clause-filled c = gap_not_full_range c.args.self.now c.args.block c.args.place c.args.range c.requires
+insert-requires-clause-filled c = range_in_gap_is_filled c.args.self.now c.args.block c.args.place c.args.range c.requires
 
 pub insert-requires-clause-normal : goal.insert-requires-clause-normal
 insert-requires-clause-normal c =
@@ -23,7 +23,7 @@ insert-requires-clause-normal c =
     (gap_normal c.args.self.now c.args.block c.args.place c.args.range c.requires)
 
 pub overflow_sub-self : goal.overflow_sub-self
-overflow_sub-self c = omega (arith, gap_not_full_range c.args.self.now c.args.block c.args.place c.args.range c.requires)
+overflow_sub-self c = omega (arith, range_in_gap_is_filled c.args.self.now c.args.block c.args.place c.args.range c.requires)
 
 pub overflow_add-self : goal.overflow_add-self
 overflow_add-self c =

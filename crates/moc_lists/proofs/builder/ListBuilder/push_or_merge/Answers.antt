@@ -1,4 +1,4 @@
-use Rattle.std.proofs.Common.{ℕ, ◌≤◌, ◌||◌, ◌++◌, ◌∷◌, [], length, ap, sym, subst, ◌∙◌, refl, arith}
+use Rattle.std.proofs.Common.{◌≤◌, ◌||◌, ◌++◌, ◌∷◌, [], length, ap, sym, subst, ◌∙◌, refl, arith}
 use Rattle.moc_blocks.specs.Lemmas.Members.{in_range, in_ranges}
 use Rattle.moc_blocks.specs.Private.Blocks.{last_of}
 use Rattle.moc_blocks.specs.Private.Built.{GrowingList, growing_list, ranges_of, CanMerge, BeginsBy}

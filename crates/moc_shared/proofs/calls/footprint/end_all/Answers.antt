@@ -6,7 +6,7 @@ use Rattle.moc_shared.specs.Private.Seats.{PartNote, part, IsInSky, slot_at, not
 use Rattle.moc_shared.specs.Private.OperationEffects.{HasEffect}
 use Rattle.moc_shared.specs.Private.Slots.{replies_to}
 use Rattle.moc_shared.specs.Batches.{batch_answer}
-use Rattle.moc_shared.proofs.SlotIndices.{top_note, none_from, top_slot_separate, place_set_same}
+use Rattle.moc_shared.proofs.SlotIndices.{top_note, none_from, no_note_of_empty_slot, place_set_same}
 use Rattle.moc_shared.proofs.Guarantees.{single_client_after_call}
 use Rattle.moc_shared.proofs.Replying.{update_has_contents}
 use Rattle.moc_shared.proofs.calls.footprint.end_all.Goals as goal
@@ -25,7 +25,7 @@ end_call-requires-clause-held c =
     (sym c.take_at.ensures.0 ∙ c.in-Some-take_at.is) c.take_at.ensures.1 in (
       ap (λ (l : List PartNote). parts_of_notes l) c.requires.held.held ∙ sym c.requires.edited.same_parts
           ∙ ap (λ (l : List PartNote). parts_of_notes l) top,
-      top_slot_separate c.take_at.new.slots 12 c.in-Some.part
+      no_note_of_empty_slot c.take_at.new.slots 12 c.in-Some.part
           (ap (λ (l : List (Option Pointer)). slot_at l c.in-Some.part) c.take_at.ensures.1
           ∙ place_set_same c.args.edited.now c.in-Some.part None word_count),
     )

@@ -2,7 +2,7 @@ use Rattle.std.proofs.Common.{rules, ◌≡◌, ℕ, suc, sym, ap, ◌∙◌, ar
 use Rattle.moc_shared.specs.Seats.{Pointer}
 use Rattle.moc_shared.specs.Private.Seats.{notes_below}
 use Rattle.moc_shared.specs.Private.StepEffects.{with_holds}
-use Rattle.moc_shared.proofs.SlotIndices.{held_parts_below, next_note, given_back, part_between_slots, all_slots_given, not_below}
+use Rattle.moc_shared.proofs.SlotIndices.{held_parts_below, next_note, given_back, notes_below_empty_slot, all_slots_given, not_below}
 use Rattle.moc_shared.proofs.calls.footprint.give_below.Goals as goal
 
 pub loop-number-init : goal.loop-number-init
@@ -50,7 +50,7 @@ loop-number-preserved c =
     record {
       same = c.loop-number.invariant.same;
       carried = c.loop-number.invariant.carried;
-      holds = part_between_slots c.args.seat.now.me.0 c.loop-number.seat.me.0 c.loop-number.slots c.take_at.new.slots
+      holds = notes_below_empty_slot c.args.seat.now.me.0 c.loop-number.seat.me.0 c.loop-number.slots c.take_at.new.slots
           c.loop-number.number b c.loop-number.invariant.holds up (sym c.take_at.ensures.0 ∙ c.in_default.is) c.take_at.ensures.1
           ∙ ap (λ j. with_holds c.args.seat.now.me.0 (notes_below c.take_at.new.slots j)) c.of-part.ensures;
       within = search rules;

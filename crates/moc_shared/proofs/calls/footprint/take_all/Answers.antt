@@ -8,7 +8,7 @@ use Rattle.moc_shared.specs.Private.Seats.{PartNote, notes_below}
 use Rattle.moc_shared.specs.Private.Slots.{MissesTaking}
 use Rattle.moc_shared.proofs.SlotSets.{slots_within_after_set}
 use Rattle.moc_shared.proofs.SlotIndices.{start_parts, view_with_taken_part, parts_before_slot, parts_so_far, touched_so_far, slots_empty_after}
-use Rattle.moc_shared.proofs.SlotIndices.{not_below, slot_index_of_note, holds_below, view_unchanged_if_refused, known_part_owner}
+use Rattle.moc_shared.proofs.SlotIndices.{not_below, slot_index_of_note, holds_below, view_unchanged_if_refused, holder_known_before}
 use Rattle.moc_shared.proofs.calls.footprint.take_all.Goals as goal
 
 pub loop-part-init : goal.loop-part-init
@@ -59,7 +59,7 @@ returns-in-Err-clause-err c =
     let slots = c.loop-part.slots in
     let view = parts_before_slot init c.loop-part.seat.me.0 slots inv.next b inv.view after inv.beyond in
     let known =
-    known_part_owner init c.loop-part.seat.me.0 (notes_below slots b) c.in-Err.holder view c.in-Err.ensures.err.1
+    holder_known_before init c.loop-part.seat.me.0 (notes_below slots b) c.in-Err.holder view c.in-Err.ensures.err.1
     c.in-Err.ensures.err.2 in
     let so_far = parts_so_far cs slots inv.next b inv.so_far inv.beyond to.between in
     let refused : MissesTaking cs b c.in-Err.holder init c.give_all.new.seat.me.0 = (

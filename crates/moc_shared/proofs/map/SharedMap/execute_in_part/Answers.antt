@@ -5,7 +5,7 @@ use Rattle.moc_shared.specs.Seats.{table_index, note, Pointer}
 use Rattle.moc_shared.specs.Private.Invariant.{parts_of_notes}
 use Rattle.moc_shared.specs.Private.Seats.{PartNote, shared}
 use Rattle.moc_shared.specs.Private.StepEffects.{with_misses}
-use Rattle.moc_shared.proofs.Basics.{empty_range_or}
+use Rattle.moc_shared.proofs.Basics.{nothing_in_empty_list}
 use Rattle.moc_shared.proofs.Guarantees.{idle_after}
 use Rattle.moc_shared.proofs.SingleCommands.{single_client_holds, holds_only_part, ended_alone, undone_alone, client_unchanged_alone, client_unchanged_after_reply}
 use Rattle.moc_shared.proofs.map.SharedMap.execute_in_part.Goals as goal
@@ -16,7 +16,7 @@ wait_for_slot-pointer-requires-clause-carried g c = ap (λ (l : List (ℕ × Opt
 
 pub wait_for_slot-pointer-requires-clause-other : goal.wait_for_slot-pointer-requires-clause-other
 wait_for_slot-pointer-requires-clause-other g c =
-    λ y h. empty_range_or (note c.args.part y) (subst (λ (l : List PartNote). Contains l (note c.args.part y)) c.requires.map.no_part h)
+    λ y h. nothing_in_empty_list (note c.args.part y) (subst (λ (l : List PartNote). Contains l (note c.args.part y)) c.requires.map.no_part h)
 
 pub execute_single-requires-clause-held : goal.execute_single-requires-clause-held
 execute_single-requires-clause-held g c =
