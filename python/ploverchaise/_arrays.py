@@ -105,6 +105,10 @@ class Input(ABC):
         """Returns the memory of rows, as unsigned integers of 64 bits."""
 
     @abstractmethod
+    def private(self) -> Input:
+        """Returns the same integers in memory that no other code changes."""
+
+    @abstractmethod
     def new_output(self, code: str = "Q", width: int = 1) -> Output:
         """Returns an output with a row of `width` elements for each element. The type code of its elements is Q, I or B."""
 
@@ -211,6 +215,9 @@ class PlainInput(Input):
 
     def buffer(self, rows: slice) -> Buffer:
         return buffer_of(self.numbers, rows, self.width)
+
+    def private(self) -> PlainInput:
+        return self
 
     def new_output(self, code: str = "Q", width: int = 1) -> PlainOutput:
         return PlainOutput(zeros(code, len(self.numbers) * width), width, self.is_scalar)
@@ -341,6 +348,9 @@ class NumpyInput(Input):
     def buffer(self, rows: slice) -> Buffer:
         numbers = self.numbers(rows)
         return Buffer(numbers.ctypes.data, len(numbers) // self.width, numbers)
+
+    def private(self) -> NumpyInput:
+        return NumpyInput(self.elements.copy(), self.shape, self.width)
 
     def new_output(self, code: str = "Q", width: int = 1) -> NumpyOutput:
         import numpy

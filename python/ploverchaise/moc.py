@@ -9,10 +9,10 @@ from functools import partial
 from itertools import chain
 from typing import TYPE_CHECKING, Any, Literal, Self, SupportsIndex, TypeVar, overload
 
-from ._arrays import (ArrayLike, Buffer, Input, Integers, Numbers, Pairs, PlainInput, as_input, as_pairs, buffer_of,
+from ._arrays import (PIECE_LENGTH, ArrayLike, Buffer, Input, Integers, Numbers, Pairs, PlainInput, as_input, as_pairs, buffer_of,
                       pieces_of, without_missing, zeros)
 from ._codes import TOO_COARSE
-from ._library import (NO_ORDER, c_arguments, call_on_pieces, call_on_rows, call_with_store, check_result, open_store, run_interruptibly,
+from ._library import (NO_ORDER, c_arguments, call_on_rows, call_with_store, check_result, open_store, run_interruptibly,
                        store_functions, text_of)
 from ._regions import border_cells, components, ranges_by_value
 from ._signatures import Result, StoreHandle
@@ -38,8 +38,6 @@ _PARSERS = {"ascii": "read_ascii", "json": "read_json", "uniq": "read_uniq"}
 _FORMAT_NAMES = {"ascii": "ASCII", "json": "JSON", "uniq": "a NUNIQ list"}
 # A call with MOCs of more ranges, or with a longer text, may take long.
 _MAX_SHORT_RANGES, _MAX_SHORT_TEXT = 500_000, 2**22
-# A MOC is made of at most this number of cells or ranges at once. Longer pieces than elsewhere save unions.
-_PIECE_LENGTH = 2**19
 # At most this number of pixels is looked up without a copy of the MOC.
 _MAX_SHORT_LENGTH = 1000
 # The number of bytes that are read from a file, or written to it, without a step of Python code in between.
@@ -94,12 +92,12 @@ class MOC:
     @classmethod
     def _from_input(cls, function: str, order: int | None, numbers: Input) -> Self:
         """Returns the coverage that a function of the library makes of an order, if there is one, and numbers."""
-
         count = len(numbers)
-        if count <= _PIECE_LENGTH:
-            return call_on_rows(partial(cls._from_call, function, range_bound=count), order, slice(0, count), numbers)
-        make = partial(cls._from_call, function, range_bound=_PIECE_LENGTH)
-        return _unite(call_on_pieces(make, order, numbers, max_length=_PIECE_LENGTH))
+        make = partial(cls._from_call, function, range_bound=count)
+        if count <= PIECE_LENGTH:
+            return call_on_rows(make, order, slice(0, count), numbers)
+        private = numbers.private()
+        return run_interruptibly(lambda: call_on_rows(make, order, slice(0, count), private))
 
     @classmethod
     def _in_store(cls, store: StoreHandle, coverage_id: int, range_bound: int) -> Self:
