@@ -995,9 +995,9 @@ fn edits_of_one_set(rt: HostRuntime) {
     }
 }
 
-// A block of a new set ends after each 128th range.
+// Each 128th range of a new set is the last one of a block.
 #[test]
-fn edits_of_thirty_blocks(rt: HostRuntime) {
+fn edits_at_the_ends_of_blocks(rt: HostRuntime) {
     let alloc = rt.alloc();
     let full = triples(&rt, alloc, 4000);
     for block in 0..31 {
