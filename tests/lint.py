@@ -16,14 +16,18 @@ import sys
 from tally import Tally
 
 TOP = os.path.dirname(os.path.dirname(os.path.abspath(__file__)))
-SHELL_SCRIPTS = ["moc", ".ci/run", "bench/run.sh"]
+SHELL_SCRIPTS = ["moc", ".ci/run", "bench/run.sh", "tools/install/moc.sh"]
 FLAKE8 = ["flake8", "--isolated", "--max-line-length", "140"]
 # The imports that mypy follows are checked with their own folder, and packages for arrays are optional.
 MYPY = ["mypy", "--strict", "--config-file=", "--cache-dir", os.devnull, "--follow-imports", "silent",
         "--ignore-missing-imports"]
+# The examples call packages without types.
+MORE_OPTIONS = {"examples": ["--allow-untyped-calls"]}
 # The folders of Python scripts, each with the folders of the modules that its scripts import. Each folder is checked separately, because
 # some modules of different folders have the same names.
-PYTHON_FOLDERS: list[tuple[str, list[str]]] = [("tests", ["tools"]), ("tests/package", ["python"]), ("tools", []), ("bench", ["python"])]
+PYTHON_FOLDERS: list[tuple[str, list[str]]] = [
+    ("tests", ["tools"]), ("tests/package", ["python"]), ("tools", []), ("bench", ["python"]), ("examples", ["python"]),
+    ("python/ploverchaise", [])]
 
 
 def check_command(tally: Tally, name: str, command: list[str], folder: str = TOP, environment: dict[str, str] | None = None) -> None:
@@ -65,7 +69,8 @@ def main() -> int:
         is_package = os.path.join(folder, "__init__.py") in scripts
         parent = os.path.dirname(folder) if is_package else folder
         targets = [f"--package={os.path.basename(folder)}"] if is_package else [os.path.basename(script) for script in scripts]
-        check_command(tally, folder, [*MYPY, *targets], os.path.join(TOP, parent), dict(os.environ, MYPYPATH=path))
+        command = [*MYPY, *MORE_OPTIONS.get(folder, []), *targets]
+        check_command(tally, folder, command, os.path.join(TOP, parent), dict(os.environ, MYPYPATH=path))
     return tally.finish()
 
 

@@ -4,8 +4,8 @@
 - In a block `console`, each line that begins with `$` is a command for bash, and the lines up to the next command are its complete output
   with all error messages. The commands under one heading run in one shell and one folder. On the pages of CONTINUED_PAGES, all commands of
   the page run in one shell and one folder, and then its programs in this folder.
-- A block `python` is a program, and the block `text` after it is its complete output. The program can import the Python package of the
-  checkout. A program that imports numpy needs numpy in this Python or in the system's; otherwise the script skips it.
+- A block `python` is a program, and the block `text` after it is its complete output. Commands and programs can import the Python package
+  of the checkout. A program that needs an optional package needs it in this Python or in the system's; otherwise the script skips it.
 - If the commands of a page write a picture that the page shows, both have the same bytes.
 - The help of each subcommand begins with the line that the list of subcommands has for it. It has at most 80 columns. It has an example,
   which is a command with its output.
@@ -37,6 +37,8 @@ TIME_LIMIT = 60
 MAX_COLUMNS = 80
 # The minimal number of checks of the help texts.
 MIN_HELP_CHECKS = 40
+# What a program contains that needs an optional package.
+OPTIONAL = {"import numpy": "numpy", ".fits": "astropy", "_lonlat(": "astropy_healpix", ".plot(": "matplotlib"}
 END = "--- end of the output of this command ---"
 # The line of a help text that names the stream of its example, and the number of the other stream.
 OTHER_STREAM = {"prints": 2, "writes to standard error": 1}
@@ -91,7 +93,8 @@ def run_commands(folder: str, commands: list[str]) -> list[str]:
     """Runs the commands in one shell, and returns the output of each."""
     script = "".join(f"{command}\nprintf '%s\\n' '{END}'\n" for command in commands)
     path = os.path.join(folder, "bin") + os.pathsep + os.environ["PATH"]
-    result = subprocess.run(["bash", "-c", script], cwd=folder, env=dict(os.environ, PATH=path), timeout=TIME_LIMIT,
+    environment = dict(os.environ, PATH=path, PYTHONPATH=PACKAGE, PYTHONDONTWRITEBYTECODE="1")
+    result = subprocess.run(["bash", "-c", script], cwd=folder, env=environment, timeout=TIME_LIMIT,
                             stdin=subprocess.DEVNULL, stdout=subprocess.PIPE, stderr=subprocess.STDOUT, text=True)
     return result.stdout.split(END + "\n")[:-1]
 
@@ -152,12 +155,12 @@ def check_examples(tally: Tally, page: str, is_continued: bool, folders: Iterato
     for name in picture_names(page):
         tally.check(pictures.get(name) == read_bytes(TOP, "docs", name), f"no command makes the picture {name}")
     for program, expected in programs(page):
-        python = python_with("numpy") if "import numpy" in program else sys.executable
+        modules = [module for text, module in OPTIONAL.items() if text in program]
+        python = python_with(*modules)
         if python is None:
-            print("a program is skipped because numpy is not installed", file=sys.stderr)
+            print(f"a program is skipped because a package is not installed: {', '.join(modules)}", file=sys.stderr)
             continue
-        command = f"PYTHONDONTWRITEBYTECODE=1 PYTHONPATH={shlex.quote(PACKAGE)} {shlex.quote(python)} - <<'EOF'\n{program}\nEOF"
-        outputs = run_commands(next(folders), [command])
+        outputs = run_commands(next(folders), [f"{shlex.quote(python)} - <<'EOF'\n{program}\nEOF"])
         tally.check_equal(f"the program\n{program}", outputs, [expected])
 
 

@@ -20,6 +20,9 @@ from typing import IO, Any, NamedTuple, Optional, Union
 from tally import Tally
 
 TOP = os.path.dirname(os.path.dirname(os.path.abspath(__file__)))
+sys.path.insert(0, os.path.join(TOP, "tools"))
+import version  # noqa: E402
+
 MOC = os.environ.get("MOC", os.path.join(TOP, "crates", "moc_cli", "out", "moc_cli"))
 # The maximal numbers of bytes of an input and of a line.
 INPUT_LIMIT = 16_777_216
@@ -58,6 +61,7 @@ INVERSIONS = (b"add 9/" + b" ".join(b"%d" % cell for cell in range(0, 60_000, 2)
 # The calls of a shared map that `refusals calls` makes, in order.
 CALLS = [b"new", b"try_apply of an update", b"try_apply of a query", b"apply of an update", b"apply of a query",
          b"finish of an update", b"finish of a query", b"answer of an add", b"answer of an add to a shared list", b"answer", b"close"]
+VERSION_LINE = f"moc {version.read_version()}\n".encode()
 STATISTICS = b"deepest 2\npixels 306244774661193728\nshare 0.088541666666\nranges 2\ncells 2\norder 0 1\norder 2 1\n"
 RING_ANSWERS = b"13\n0\nfault CellTooLarge\n27\nfault WrongCount\nfault BadNumber\n35\n"
 NINES = b"9" * 1000
@@ -312,8 +316,8 @@ HELP: list[tuple[Arguments, bytes]] = [
     (["--help"], b"Coverages, from standard input:\n  convert "),
     (["faults"], b"  CellTooLarge     the order has no such cell"),
     (["help", "faults"], b"  TooLong          a text of more than 16,777,216 bytes"),
-    (["--version"], b"moc 0.1.0\n"),
-    (["-V"], b"moc 0.1.0\n"),
+    (["--version"], VERSION_LINE),
+    (["-V"], VERSION_LINE),
     (["convert", "--help"], b"Converts a coverage from one text format to another"),
     (["check", "--help"], b"Validates a coverage, or reports the first error and its position"),
     (["describe", "--help"], b"Prints statistics of a coverage"),

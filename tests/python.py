@@ -2,8 +2,8 @@
 """Installs the Python package from `python/` without a network, and tests the installed package.
 
 The library has to be in the folder of the package, where `./moc library` puts it. The tests are those of `tests/package`. They run without
-numpy. They run again with numpy and healpy if this Python or the system's has them; a message reports if not. The last line printed is
-`N passed, M failed`."""
+numpy. They run again with the optional packages if this Python or the system's has them; a message reports which are missing. The last line
+printed is `N passed, M failed`."""
 from __future__ import annotations
 
 import os
@@ -18,14 +18,16 @@ PACKAGE = os.path.join(TOP, "python")
 # This Python, and the one for which Debian's packages are.
 PYTHONS = [sys.executable, "/usr/bin/python3"]
 TIME_LIMIT = 600
-INSTALLED = ["__init__.py", "_arrays.py", "_codes.py", "_library.py", "_signatures.py", "cells.py", "errors.py", "libploverchaise.so",
-             "moc.py", "py.typed", "shared.py"]
+INSTALLED = ["__init__.py", "__main__.py", "_arrays.py", "_codes.py", "_command_line.py", "_diagnostics.py", "_files.py", "_fits.py",
+             "_library.py", "_outlines.py", "_plot.py", "_positions.py", "_regions.py", "_signatures.py", "cells.py", "errors.py",
+             "libploverchaise.so", "moc.py", "py.typed", "shared.py"]
 
 
-def python_with(module: str) -> str | None:
-    """Returns the path of a Python that has the module, or None."""
+def python_with(*modules: str) -> str | None:
+    """Returns the path of the first Python that has all of the modules, or None."""
     for python in PYTHONS:
-        if subprocess.run([python, "-c", f"import {module}"], stderr=subprocess.DEVNULL).returncode == 0:
+        command = "".join(f"import {module}\n" for module in modules)
+        if subprocess.run([python, "-c", command], stderr=subprocess.DEVNULL).returncode == 0:
             return python
     return None
 
@@ -36,6 +38,7 @@ def install(tally: Tally, folder: str) -> bool:
                "--no-compile", "--target", folder, PACKAGE]
     if subprocess.run(command, timeout=TIME_LIMIT, stdout=sys.stderr).returncode:
         return tally.check(False, "pip does not install the package")
+    tally.check_equal("the program", os.access(os.path.join(folder, "bin", "ploverchaise"), os.X_OK), True)
     return tally.check_equal("the installed files", sorted(os.listdir(os.path.join(folder, "ploverchaise"))), INSTALLED)
 
 
@@ -54,7 +57,7 @@ def main() -> int:
     with tempfile.TemporaryDirectory() as folder:
         if install(tally, folder):
             run_tests(tally, sys.executable, folder, "--without-numpy")
-            numerical = python_with("numpy")
+            numerical = python_with("astropy") or python_with("numpy")
             if numerical is None:
                 print("numpy is not installed: arrays are not tested", file=sys.stderr)
             else:

@@ -8,6 +8,7 @@
 - The name of a page in the text of another page is a link, except on the CALLING pages.
 - Each line of the program in README.md is in the crate `example_library`, which CI proves and runs.
 - The output that README.md shows for its first command is the output that CI compares with the program's.
+- Each file that repeats the version of the project has the version of `ploverchaise.h`.
 
 usage: tests/texts.py
 
@@ -29,6 +30,7 @@ TOP = os.path.dirname(os.path.dirname(os.path.abspath(__file__)))
 sys.path.insert(0, os.path.join(TOP, "tools"))
 import codes  # noqa: E402
 import signatures  # noqa: E402
+import version  # noqa: E402
 
 # The maximal number of columns of a line of a page, and of a cell of a table.
 MAX_COLUMNS, MAX_CELL_COLUMNS = 140, 120
@@ -195,6 +197,14 @@ def check_first_output() -> Iterator[Check]:
     yield "README.md: the output of the first example is that of moc_cli/stdout", f"\n\n{shown}\n" in read_file("README.md")
 
 
+def check_versions() -> Iterator[Check]:
+    """Checks that each file that repeats the version has it once, and that it is the version of `ploverchaise.h`."""
+    expected = version.read_version()
+    yield f"{version.HEADER}: {expected!r} is a version", version.VERSION.fullmatch(expected) is not None
+    for path, found in version.repeated_versions().items():
+        yield f"{path}: its version {found} is {expected}", found == [expected]
+
+
 def strip_layout(code: str) -> str:
     """Returns code without comments, blanks, borrows, and the comma after the last argument of a call over several lines."""
     return re.sub(r"[\s&]", "", re.sub(r"//.*", "", code)).replace(",)", ")")
@@ -214,7 +224,7 @@ def main() -> int:
     tally = Tally()
     for statement, holds in (*check_replaced_functions(), *check_replaced_lines(), *check_codes(), *check_signatures(),
                              *check_line_lengths(), *check_cell_lengths(), *check_links(), *check_names_of_pages(),
-                             *check_shown_program(), *check_first_output()):
+                             *check_shown_program(), *check_first_output(), *check_versions()):
         tally.check(holds, f"does not hold: {statement}")
     return tally.finish()
 

@@ -9,8 +9,8 @@ and Python (`linking.py`) instead of the program, and puts it into the folder, w
 Each crate is proved as soon as its libraries are, in a separate workspace (`crates.py`), at the same time as other crates. The crates that
 the longest chains of crates depend on have priority, and the others use the processors that these leave idle. With more jobs than
 processors, checks take up to twice the processor time. The program reports its progress on standard error. A report has the number of
-checked functions, and the finished part of the work. The work of a crate is estimated by the sizes of its files, for the proofs, and of its
-libraries, which a check reads before it ends.
+checked functions, and an estimate of the finished part of the time. The time of a crate is estimated by the sizes of its files and of its
+libraries, and the time of the build by the longest chain of crates, or by all crates if there are few processors.
 
 environment: MOC_JOBS is the maximal number of jobs of all checks together. The default is the number of processors, if memory suffices.
 MOC_CHECK_JOBS is the maximal number of jobs of one check. The default is 4; fewer jobs take less processor time, and take longer if
@@ -28,12 +28,14 @@ import subprocess
 import sys
 import threading
 import time
-from collections.abc import Iterator
+from collections.abc import Iterator, Mapping
 
 import linking
-from crates import SOURCE_FOLDERS, folder_of, is_current, libraries_of_crates, make_workspace, read_crates, save_results, stat_files
+import sources
+from crates import SOURCE_FOLDERS, digest_of_crate, folder_of, is_current, libraries_of_crates, make_workspace, read_crates, save_results
+from crates import save_verdict, stat_files
+from sources import PROGRAM
 
-PROGRAM = "moc_cli"
 # The maximal number of jobs of one check. A check seldom profits from more.
 MAX_CHECK_JOBS = max(1, int(os.environ.get("MOC_CHECK_JOBS") or 4))
 # A crate has priority if the work that depends on it is at least this part of the longest chain.
@@ -41,14 +43,21 @@ PRIORITY_SHARE = 0.8
 MAX_NICENESS = 19
 # The memory that a job of a check may use, in bytes.
 JOB_MEMORY = 2_500_000_000
-# The work of reading the libraries of a crate at the end of its check, as a part of the work of their proofs.
-READING_SHARE = 0.15
+# The time that a check of a crate takes for each byte of its libraries, as a part of the time for each byte of its files. This number and
+# the next ones are from a whole build with four processors.
+LIBRARY_SHARE = 0.37
+# The parts of the time of a check before its first function, and after its last function.
+START_SHARE, END_SHARE = 0.18, 0.07
+# The later functions of a check take more time than the first ones: the time up to a part of the functions is this power of the part.
+FUNCTION_POWER = 1.5
 # The time between two reports of progress, in seconds.
 REPORT_INTERVAL = 10
 # The file that a check writes for the proof of a function.
 FUNCTION_FILE = re.compile(r"(?<!\.TheImpl)\.Proof\.oantt$")
 # The lines of a check that report no error.
 SUCCESS_LINE = re.compile(r"^(struct|enum|impl|fn) \S+: proved|: modules loaded=|^so far: ")
+# The verdict of a check about a crate.
+VERDICT = re.compile(r"^logic=proved .*$", re.MULTILINE)
 
 
 def size_of(crate: str) -> int:
@@ -70,15 +79,33 @@ def report(text: str) -> None:
     print(f"moc: {text}", file=sys.stderr, flush=True)
 
 
+def longest_chains(work: Mapping[str, float], libraries: dict[str, list[str]]) -> dict[str, float]:
+    """Returns the work of the longest chain of crates that starts with each crate, where each depends on the one before it.
+
+    Parameters
+    ----------
+    work : mapping of str to float
+        The work of each crate, each after the libraries that it depends on.
+    libraries : dict of str to list of str
+        The libraries that each crate depends on.
+    """
+    chains: dict[str, float] = {}
+    for crate in reversed(list(work)):
+        chains[crate] = work[crate] + max((chains[other] for other in chains if crate in libraries[other]), default=0)
+    return chains
+
+
 class Progress:
-    """The number of checked functions, and the finished part of the work.
+    """The number of checked functions, and the finished part of the time.
 
     Attributes
     ----------
-    proof_work : dict of str to float
-        The work of the proofs of each crate.
-    reading_work : dict of str to float
-        The work of reading the libraries of each crate, at the end of its check.
+    libraries : dict of str to list of str
+        The libraries that each crate depends on.
+    jobs : int
+        The maximal number of jobs of all checks together.
+    work : dict of str to float
+        The work of each crate that needs a proof.
     ended : set of str
         The crates whose checks have ended.
     totals : dict of str to int
@@ -89,9 +116,9 @@ class Progress:
         The crates that are being proved, and the folders of the results of their checks.
     """
 
-    def __init__(self, sizes: dict[str, int], libraries: dict[str, list[str]]) -> None:
-        self.proof_work = {crate: float(size) for crate, size in sizes.items()}
-        self.reading_work = {crate: READING_SHARE * sum(sizes[library] for library in libraries[crate]) for crate in sizes}
+    def __init__(self, sizes: dict[str, int], libraries: dict[str, list[str]], jobs: int) -> None:
+        self.libraries, self.jobs = libraries, jobs
+        self.work = {crate: sizes[crate] + LIBRARY_SHARE * sum(sizes[library] for library in libraries[crate]) for crate in sizes}
         self.ended: set[str] = set()
         self.totals: dict[str, int] = {}
         self.checked: dict[str, int] = {}
@@ -115,7 +142,6 @@ class Progress:
             with self.lock:
                 self.count()
                 del self.active[crate]
-                self.totals[crate] = self.checked[crate]
                 self.ended.add(crate)
 
     def count(self) -> None:
@@ -124,32 +150,40 @@ class Progress:
             self.checked[crate] = sum(bool(FUNCTION_FILE.search(name)) for _, _, names in os.walk(results) for name in names)
 
     def skip(self, crate: str) -> None:
-        """Counts a crate that needs no proof as finished."""
-        self.totals[crate] = 0
-        self.ended.add(crate)
+        """Leaves out a crate that needs no proof."""
+        del self.work[crate]
 
     def checked_share(self, crate: str) -> float:
         """Returns the checked part of the functions of a crate, from 0 to 1."""
         checked, total = self.checked.get(crate, 0), self.totals.get(crate)
-        if crate in self.ended:
-            return 1
         return min(1, checked / total) if total else 0
 
+    def remaining_work(self, crate: str) -> float:
+        """Returns the work of a crate that is not finished."""
+        if crate in self.ended:
+            return 0
+        share = self.checked_share(crate)
+        finished = START_SHARE + (1 - START_SHARE - END_SHARE) * math.pow(share, FUNCTION_POWER) if share else 0
+        return self.work[crate] * (1 - finished)
+
+    def time_of(self, work: Mapping[str, float]) -> float:
+        """Returns the time of the work of these crates, in its unit."""
+        return max(max(longest_chains(work, self.libraries).values(), default=0), sum(work.values()) / self.jobs)
+
     def finished_share(self) -> float:
-        """Returns the finished part of the work, from 0 to 1."""
-        finished = sum(work * self.checked_share(crate) for crate, work in self.proof_work.items())
-        finished += sum(self.reading_work[crate] for crate in self.ended)
-        return finished / (sum(self.proof_work.values()) + sum(self.reading_work.values()))
+        """Returns the finished part of the time, from 0 to 1."""
+        remaining = {crate: self.remaining_work(crate) for crate in self.work}
+        return 1 - self.time_of(remaining) / self.time_of(self.work) if self.work else 1
 
     def stage_of(self, crate: str) -> str:
         """Returns the name of an active crate, with the stage of its check if that is not a proof."""
-        return f"{crate} (reading its libraries)" if self.checked_share(crate) == 1 else crate
+        return crate if 0 < self.checked_share(crate) < 1 else f"{crate} (reading its libraries)"
 
     def report(self) -> None:
         """Reports the progress. The share is rounded down, so that it is 100% only at the end."""
         with self.lock:
             self.count()
-            report(f"{sum(self.checked.values())} functions checked, {math.floor(100 * self.finished_share())}% of the work, "
+            report(f"{sum(self.checked.values())} functions checked, {math.floor(100 * self.finished_share())}% of the time, "
                    f"{self.elapsed()}: {', '.join(map(self.stage_of, self.active))}")
 
     @contextlib.contextmanager
@@ -170,7 +204,7 @@ class Progress:
             reporter.join()
 
 
-def run_rt(folder: str, arguments: list[str], crate: str, progress: Progress, niceness: int = 0) -> bool:
+def run_rt(folder: str, arguments: list[str], crate: str, progress: Progress, niceness: int = 0) -> str | None:
     """Runs `rt` in the folder of a crate, and prints its errors if it fails.
 
     Parameters
@@ -188,8 +222,8 @@ def run_rt(folder: str, arguments: list[str], crate: str, progress: Progress, ni
 
     Returns
     -------
-    bool
-        Whether the exit status is 0.
+    str or None
+        The verdict, which is empty if `rt` printed none, or None if the exit status is not 0.
     """
     lines = []
     with subprocess.Popen(["nice", "-n", str(niceness), "rt", *arguments], cwd=folder, stdin=subprocess.DEVNULL,
@@ -201,7 +235,8 @@ def run_rt(folder: str, arguments: list[str], crate: str, progress: Progress, ni
                 progress.totals[crate] = int(total[1])
     if process.returncode:
         print("".join(line for line in lines if not SUCCESS_LINE.search(line)), file=sys.stderr)
-    return process.returncode == 0
+        return None
+    return "".join(VERDICT.findall("".join(lines))[-1:])
 
 
 class Build:
@@ -222,12 +257,10 @@ class Build:
         crates = [crate for crate in self.libraries if crate != PROGRAM]
         self.workspaces, self.remaining = workspaces, crates[:]
         sizes = {crate: size_of(crate) for crate in self.libraries}
-        # The work of the longest chain of crates that starts with a crate, where each depends on the one before it.
-        self.chain_work: dict[str, int] = {}
-        for crate in reversed(self.libraries):
-            dependents = (self.chain_work[other] for other in self.chain_work if crate in self.libraries[other])
-            self.chain_work[crate] = sizes[crate] + max(dependents, default=0)
-        self.progress = Progress(sizes, self.libraries)
+        self.chain_work = longest_chains(sizes, self.libraries)
+        processors = len(os.sched_getaffinity(0))
+        self.max_jobs = int(os.environ.get("MOC_JOBS") or min(processors, max(1, available_memory() // JOB_MEMORY)))
+        self.progress = Progress(sizes, self.libraries, self.max_jobs)
         self.running: dict[str, int] = {}
         self.finished: set[str] = set()
         self.failed = False
@@ -237,8 +270,6 @@ class Build:
                 self.finished.add(crate)
                 self.progress.skip(crate)
         self.changed = threading.Condition()
-        processors = len(os.sched_getaffinity(0))
-        self.max_jobs = int(os.environ.get("MOC_JOBS") or min(processors, max(1, available_memory() // JOB_MEMORY)))
 
     def prove(self, crate: str, jobs: int, niceness: int) -> None:
         """Proves a library in a workspace, and saves the proofs, also if some proofs fail."""
@@ -246,8 +277,11 @@ class Build:
         try:
             folder = make_workspace(workspace, crate, self.libraries[crate])
             with self.progress.follow(crate, folder):
-                is_proved = run_rt(folder, ["lib", "--jobs", str(jobs)], crate, self.progress, niceness)
+                verdict = run_rt(folder, ["lib", "--jobs", str(jobs)], crate, self.progress, niceness)
+            is_proved = verdict is not None
             save_results(workspace, crate)
+            if verdict:
+                save_verdict(crate, digest_of_crate(crate, workspace), verdict)
             shutil.rmtree(workspace, ignore_errors=True)
         finally:
             with self.changed:
@@ -288,10 +322,13 @@ class Build:
 
     def build_program(self) -> bool:
         """Proves and builds the program, and runs it once. Returns whether the program succeeds."""
-        folder = folder_of(PROGRAM)
+        folder, digest = folder_of(PROGRAM), digest_of_crate(PROGRAM)
         with self.progress.follow(PROGRAM, folder):
             jobs = min(MAX_CHECK_JOBS, self.max_jobs)
-            return run_rt(folder, ["run", "--jobs", str(jobs), "--", "uniq", "0", "0"], PROGRAM, self.progress)
+            verdict = run_rt(folder, ["run", "--jobs", str(jobs), "--", "uniq", "0", "0"], PROGRAM, self.progress)
+        if verdict:
+            save_verdict(PROGRAM, digest, verdict)
+        return verdict is not None
 
 
 def main() -> int:
@@ -309,6 +346,7 @@ def main() -> int:
     with open(os.path.join(out, "lock"), "w", encoding="utf-8") as lock:
         fcntl.flock(lock, fcntl.LOCK_EX)
         shutil.rmtree(workspaces, ignore_errors=True)
+        snapshot = sources.take_snapshot()
         build = Build(workspaces, targets)
         with build.progress.reports():
             succeeded = build.prove_libraries() and (not with_program or build.build_program())
@@ -317,10 +355,8 @@ def main() -> int:
             succeeded = linking.link(options.library, [])
     if not with_program or not succeeded:
         return 0 if succeeded else 1
-    program = os.path.join(out, PROGRAM)
-    # The program has to be newer than all sources, also if nothing had to be built.
-    os.utime(program)
-    report(f"proved and built after {build.progress.elapsed()}: {os.path.relpath(program)}")
+    sources.write_record(snapshot)
+    report(f"proved and built after {build.progress.elapsed()}: {os.path.relpath(sources.BUILT)}")
     return 0
 
 

@@ -4,12 +4,15 @@ While `rt` works on a crate, it locks the folder of the crate and the folders of
 after the other. A workspace has one crate, with the results of its last proof, and the last builds of its libraries."""
 from __future__ import annotations
 
+import hashlib
+import json
 import os
 import shutil
 
 TOP = os.path.dirname(os.path.dirname(os.path.abspath(__file__)))
 # The folders of a crate that the prover reads.
 SOURCE_FOLDERS = ("src", "specs", "proofs")
+SOURCE_SUFFIXES = (".rt", ".antt")
 
 
 def folder_of(crate: str, top: str = TOP) -> str:
@@ -27,6 +30,48 @@ def stat_files(crate: str, *folders: str) -> list[os.stat_result]:
     """Returns the status of each file in these folders of a crate."""
     paths = [os.path.join(folder_of(crate), folder) for folder in folders]
     return [os.stat(os.path.join(parent, name)) for path in paths for parent, _, names in os.walk(path) for name in names]
+
+
+def source_files(crate: str, *folders: str, top: str = TOP) -> list[str]:
+    """Returns the paths of the sources in these folders of a crate, from the folder of the crate."""
+    root = folder_of(crate, top)
+    return sorted(os.path.relpath(os.path.join(parent, name), root) for folder in folders
+                  for parent, _, names in os.walk(os.path.join(root, folder)) for name in names if name.endswith(SOURCE_SUFFIXES))
+
+
+def digest_of_files(folder: str, paths: list[str]) -> str:
+    """Returns the SHA-256 checksum of the output that `sha256sum` prints for these files of a folder."""
+    lines = []
+    for path in paths:
+        with open(os.path.join(folder, path), "rb") as file:
+            lines.append(f"{hashlib.sha256(file.read()).hexdigest()}  {path}\n")
+    return hashlib.sha256("".join(lines).encode()).hexdigest()
+
+
+def digest_of_crate(crate: str, top: str = TOP) -> str:
+    """Returns the checksum of all sources of a crate."""
+    return digest_of_files(folder_of(crate, top), source_files(crate, *SOURCE_FOLDERS, top=top))
+
+
+def verdict_file(crate: str) -> str:
+    """Returns the path of the file that has the verdict about a crate."""
+    return os.path.join(folder_of(crate), "out", "verdict.json")
+
+
+def save_verdict(crate: str, digest: str, verdict: str) -> None:
+    """Saves the verdict about a crate, which is the last line that `rt` printed, with the checksum of the sources that `rt` checked."""
+    os.makedirs(os.path.dirname(verdict_file(crate)), exist_ok=True)
+    with open(verdict_file(crate), "w", encoding="utf-8") as file:
+        json.dump({"sources": digest, "verdict": verdict}, file)
+
+
+def read_verdict(crate: str, digest: str) -> str | None:
+    """Returns the verdict about the sources of a crate that have this checksum, or None if no verdict about these sources was saved."""
+    if not os.path.exists(verdict_file(crate)):
+        return None
+    with open(verdict_file(crate), encoding="utf-8") as file:
+        saved = json.load(file)
+    return saved["verdict"] if saved["sources"] == digest else None
 
 
 def crate_name(line: str) -> str:

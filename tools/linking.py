@@ -16,6 +16,8 @@ CRATE = "moc_c"
 # The folder of the Python package, which is installed with the library.
 FOLDER = os.path.join(TOP, "python", "ploverchaise")
 SHARED, STATIC = "libploverchaise.so", "libploverchaise.a"
+# The name by which a linked program finds the shared library. Its number changes if a program has to be compiled again.
+SONAME = f"{SHARED}.0"
 # The headers for C and C++, which are copied beside the libraries.
 HEADERS = [HEADER, HEADER.removesuffix(".h") + ".hpp"]
 WARNINGS = ["-Wall", "-Wextra", "-Wpedantic", "-Werror"]
@@ -43,7 +45,7 @@ def commands(options: list[str]) -> list[tuple[list[str], str]]:
     The archive has one object, in which only the functions of the header are global."""
     compiler, parts = os.environ.get("CC", "cc"), ["proved.a", heap()]
     whole = ["-Wl,--whole-archive", *parts, "-Wl,--no-whole-archive"]
-    shared = [] if options else [([compiler, "-shared", "-o", SHARED, f"-Wl,-soname,{SHARED}", "-Wl,-z,defs,-z,now",
+    shared = [] if options else [([compiler, "-shared", "-o", SHARED, f"-Wl,-soname,{SONAME}", "-Wl,-z,defs,-z,now",
                                    "-Wl,--version-script=exported", "guards.o", *whole], "")]
     return [([compiler, "-std=c11", "-O2", "-fPIC", "-fno-omit-frame-pointer", *WARNINGS, *options, f"-I{os.path.dirname(HEADER)}", "-c",
               "guards.c"], ""),
@@ -86,4 +88,7 @@ def link(folder: str, options: list[str]) -> bool:
         for name in sorted(linked.intersection(os.listdir(work))):
             os.replace(os.path.join(work, name), os.path.join(folder, name))
             print(f"moc: {os.path.join(folder, name)}", file=sys.stderr)
+        if not options:
+            os.symlink(SHARED, os.path.join(work, SONAME))
+            os.replace(os.path.join(work, SONAME), os.path.join(folder, SONAME))
     return True

@@ -40,9 +40,12 @@ def argument_type(argument: str) -> str:
 
 def struct_class(name: str, fields: str) -> list[str]:
     """Returns the lines of the class of a struct."""
-    pairs = [f'("{field.strip(" *")}", {ctypes_of(kind + "*" * ("*" in field))})'
+    pairs = [(field.strip(" *"), ctypes_of(kind + "*" * ("*" in field)))
              for kind, _, names in (line.strip().partition(" ") for line in fields.split(";")) for field in names.split(",") if field]
-    return [f"class {STRUCTS[name]}(ctypes.Structure):", f'    """`{name}`."""', "", f"    _fields_ = [{', '.join(pairs)}]", "", ""]
+    attributes = [f"    {field}: int{' | None' * (kind == 'c_void_p')}" for field, kind in pairs]
+    fields_of_class = ", ".join(f'("{field}", {kind})' for field, kind in pairs)
+    return [f"class {STRUCTS[name]}(ctypes.Structure):", f'    """`{name}`."""', "", f"    _fields_ = [{fields_of_class}]", *attributes,
+            "", ""]
 
 
 def signatures(functions: list[guards.Function], handle: str) -> list[str]:
@@ -58,9 +61,7 @@ def signatures(functions: list[guards.Function], handle: str) -> list[str]:
 
 def python_module(header: str) -> str:
     """Returns the module of the Python package."""
-    lines = ['"""The functions of the library, with the types of their arguments. Made by `tools/signatures.py` from '
-             f'`{HEADER}`."""', "from __future__ import annotations", "", "import ctypes",
-             "from ctypes import c_size_t, c_uint8, c_uint32, c_uint64, c_void_p", "from typing import Any", "", ""]
+    lines: list[str] = []
     for name, fields in STRUCT.findall(header):
         if name in STRUCTS:
             lines += struct_class(name, fields)
@@ -70,7 +71,11 @@ def python_module(header: str) -> str:
         lines += ["", f"# {comment}", f"{table}: dict[str, tuple[Any, ...]] = {{", *signatures(functions, handle), "}"]
     lines += ["", "# The functions that return the id of a new coverage.", "ID_CALLS = frozenset(["]
     lines += [f'    "{function.name}",' for function in functions if function.name in guards.ID_FUNCTIONS]
-    return "\n".join([*lines, "])", ""])
+    used = [name for name in ("c_size_t", "c_uint8", "c_uint32", "c_uint64", "c_void_p") if any(name in line for line in lines)]
+    head = ['"""The functions of the library, with the types of their arguments.', "",
+            f'Made by `tools/signatures.py` from `{HEADER}`."""', "from __future__ import annotations", "", "import ctypes",
+            f"from ctypes import {', '.join(used)}", "from typing import Any", "", ""]
+    return "\n".join([*head, *lines, "])", ""])
 
 
 def generated_files() -> dict[str, str]:

@@ -14,6 +14,8 @@ from .errors import MocError
 from .moc import MOC
 from .shared import MapClient, SharedMap
 
+__version__ = "0.1.0"
+
 __all__ = [
     "MOC", "MapClient", "MocError", "SharedMap", "get_all_neighbours", "neighbours", "nest2ring", "nest2uniq", "nside2order", "order2nside",
     "pix2xyf", "ring2nest", "uniq2nest",

@@ -1,124 +1,238 @@
 """Conversions between Python's integers, iterables and NumPy arrays, and the arrays that the library reads and writes.
 
 A result has the kind of its argument: an int, a list, or a NumPy array. NumPy is imported only by functions that handle its arrays.
+
+Python runs signal handlers between two steps of Python code only. So long arrays are handled in pieces of at most `PIECE_LENGTH` rows.
 """
 from __future__ import annotations
 
 import operator
+from abc import ABC, abstractmethod
 from array import array
 from bisect import bisect_right
-from typing import TYPE_CHECKING, Iterable, Union
+from collections.abc import Iterable, Iterator, Sequence, Set, ValuesView
+from itertools import islice
+from typing import TYPE_CHECKING, Any, NamedTuple, Protocol, SupportsIndex, Union
 
 if TYPE_CHECKING:
     import numpy
+    from numpy.typing import NDArray
 
-Numbers = Union[int, Iterable[int], "numpy.ndarray"]
-
+PIECE_LENGTH = 2**18
+"""The maximal number of rows that are handled without a step of Python code in between."""
 INVALID_NUMBER = 2**64 - 1
 """The value that replaces an int outside 0 to 2^64 - 1. It is not a pixel, not a cell number and not a NUNIQ number. The library writes it
 for a missing neighbour."""
 
 # The dtypes of NumPy for the type codes of `array` that outputs use.
 _DTYPES = {"Q": "uint64", "B": "uint8", "I": "uint32"}
-# The number of elements that are sorted at once.
-_CHUNK_SIZE = 2**18
 # The cell of order 6 that contains a pixel is the pixel shifted right by this number of bits.
 _ORDER_6_SHIFT = 2 * (29 - 6)
+# An array is sorted before it is looked up only if it is longer.
+_MIN_LENGTH_FOR_SORTING = 1000
 # Memory whose address replaces the address of an array without elements, which may be null.
 _PLACEHOLDER = array("Q", [0])
 _PLACEHOLDER_ADDRESS, _ = _PLACEHOLDER.buffer_info()
 
 
-def _to_uint64(number) -> int:
+class ArrayLike(Protocol):
+    """An object that implements NumPy's array interface, such as an array or a column of a table."""
+
+    def __array__(self) -> Any: ...
+
+
+Integers = Union[Sequence[SupportsIndex], Set[SupportsIndex], Iterator[SupportsIndex], ValuesView[SupportsIndex]]
+"""An iterable of integers that is not an array. Arrays have the methods of `Iterable` too, so mypy could not distinguish them."""
+Numbers = Union[SupportsIndex, Integers, ArrayLike]
+"""Integers as an argument: one, an iterable, or an array."""
+Pairs = Union[Iterable[tuple[SupportsIndex, SupportsIndex]], ArrayLike]
+"""Pairs of integers as an argument: an iterable of pairs, or an array with the shape (n, 2)."""
+
+
+class Buffer(NamedTuple):
+    """Contiguous memory that the library reads or writes.
+
+    Attributes
+    ----------
+    address : int
+        The address of its first element, which is not null.
+    length : int
+        The number of its rows.
+    owner : object
+        The object that keeps the memory alive.
+    """
+
+    address: int
+    length: int
+    owner: object
+
+
+def pieces_of(length: int, max_length: int = PIECE_LENGTH) -> Iterator[slice]:
+    """Returns slices of at most `max_length` rows that make up an array, or an empty slice for an empty array."""
+    return (slice(start, min(start + max_length, length)) for start in range(0, length or 1, max_length))
+
+
+def buffer_of(numbers: array[int], rows: slice, width: int = 1) -> Buffer:
+    """Returns the memory of rows of an array, each of which has `width` elements."""
+    address, _ = numbers.buffer_info()
+    return Buffer((address or _PLACEHOLDER_ADDRESS) + rows.start * width * numbers.itemsize, rows.stop - rows.start, numbers)
+
+
+def to_list(numbers: array[int]) -> list[int]:
+    """Returns the elements of an array as a list."""
+    if len(numbers) <= PIECE_LENGTH:
+        return numbers.tolist()
+    elements: list[int] = []
+    for rows in pieces_of(len(numbers)):
+        elements += numbers[rows].tolist()
+    return elements
+
+
+def zeros(code: str, length: int) -> array[int]:
+    """Returns an array with a type code of `array`, whose elements are 0."""
+    return array(code, [0]) * length
+
+
+class Input(ABC):
+    """Integers that the library reads."""
+
+    @abstractmethod
+    def __len__(self) -> int:
+        """Returns the number of rows."""
+
+    @abstractmethod
+    def buffer(self, rows: slice) -> Buffer:
+        """Returns the memory of rows, as unsigned integers of 64 bits."""
+
+    @abstractmethod
+    def new_output(self, code: str = "Q", width: int = 1) -> Output:
+        """Returns an output with a row of `width` elements for each element. The type code of its elements is Q, I or B."""
+
+    @abstractmethod
+    def distinct(self) -> set[int]:
+        """Returns the set of the elements."""
+
+    @abstractmethod
+    def positions_of(self, number: int) -> Any:
+        """Returns the positions of the elements that are equal to a number, ascending."""
+
+    @abstractmethod
+    def take(self, positions: Any) -> Input:
+        """Returns the elements at these positions."""
+
+    @abstractmethod
+    def text_of_row(self, row: int) -> str:
+        """Returns the text of the elements of a row, for an error."""
+
+    @abstractmethod
+    def sorting_order(self, rows: slice) -> Any:
+        """Returns the positions of the elements of rows, such that pixels are sorted by the cell of order 6 that contains them.
+
+        Returns None if sorting is not worthwhile."""
+
+    @abstractmethod
+    def flags_of_cells(self, bounds: array[int], order: int, is_whole: bool) -> Any:
+        """Returns for each element, a cell of an order, whether the ranges with these bounds contain all or any of its pixels."""
+
+
+class Output(ABC):
+    """Unsigned integers that the library writes, with the kind of an `Input`."""
+
+    @abstractmethod
+    def buffer(self, rows: slice) -> Buffer:
+        """Returns the memory of rows."""
+
+    @abstractmethod
+    def put(self, positions: Any, values: Output) -> None:
+        """Replaces the elements at these positions by values."""
+
+    @abstractmethod
+    def result(self) -> Any:
+        """Returns the elements."""
+
+    @abstractmethod
+    def booleans(self) -> Any:
+        """Returns the elements, each 1 or 0, as bools."""
+
+    @abstractmethod
+    def rows(self) -> Any:
+        """Returns the rows of neighbours."""
+
+    @abstractmethod
+    def columns(self) -> Any:
+        """Returns the columns of neighbours. A missing neighbour is -1."""
+
+
+def _to_uint64(number: SupportsIndex) -> int:
     """Returns a number if 64 bits without a sign can hold it, and INVALID_NUMBER otherwise. Raises TypeError if it is not an integer."""
     number = operator.index(number)
     return number if 0 <= number <= INVALID_NUMBER else INVALID_NUMBER
 
 
-class Array:
-    """An array of unsigned integers in contiguous memory, which the library reads or writes.
+def _plain_array(numbers: list[SupportsIndex]) -> array[int]:
+    """Returns an array of ints. Raises TypeError if a number is not an integer."""
+    elements: Any = numbers
+    try:
+        return array("Q", elements)
+    except OverflowError:
+        return array("Q", map(_to_uint64, numbers))
+
+
+class PlainInput(Input):
+    """An int, or the ints of an iterable, with results that are ints or lists.
 
     Attributes
     ----------
-    numbers : array.array or numpy.ndarray
+    numbers : array.array
         The elements.
     width : int
-        The number of elements of a row. For the library, the length of the array is the number of its rows.
-    """
-
-    width = 1
-
-    def __init__(self, numbers) -> None:
-        self.numbers = numbers
-
-    def __len__(self) -> int:
-        return len(self.numbers)
-
-    @property
-    def c_arguments(self) -> tuple[int, int]:
-        """The address, which is never null, and the number of rows. This object owns the memory."""
-        return self.address() or _PLACEHOLDER_ADDRESS, len(self) // self.width
-
-
-class PlainArray(Array):
-    """An array whose results are lists or ints.
-
-    Attributes
-    ----------
+        The number of elements of a row.
     is_scalar : bool
         Whether the argument was a single int. Results are then ints.
     """
 
-    def __init__(self, numbers: array, is_scalar: bool = False) -> None:
-        super().__init__(numbers)
-        self.is_scalar = is_scalar
+    def __init__(self, numbers: array[int], is_scalar: bool = False, width: int = 1) -> None:
+        self.numbers, self.is_scalar, self.width = numbers, is_scalar, width
 
     @classmethod
-    def of(cls, numbers) -> PlainArray:
-        """Returns the array of an int or of an iterable of ints. Raises TypeError if a number is not an integer."""
+    def of(cls, numbers: Any, width: int = 1) -> PlainInput:
+        """Returns an int or the ints of an iterable. Raises TypeError if a number is not an integer."""
         if not hasattr(numbers, "__iter__"):
             return cls(array("Q", [_to_uint64(numbers)]), True)
-        sequence = numbers if isinstance(numbers, (list, tuple, range, array)) else list(numbers)
-        try:
-            return cls(array("Q", sequence))
-        except OverflowError:
-            return cls(array("Q", map(_to_uint64, sequence)))
+        if type(numbers) is list and len(numbers) <= PIECE_LENGTH:
+            return cls(_plain_array(numbers), width=width)
+        elements, iterator = array("Q"), iter(numbers)
+        while piece := list(islice(iterator, PIECE_LENGTH)):
+            elements += _plain_array(piece)
+        return cls(elements, width=width)
 
-    def address(self) -> int:
-        """Returns the address of the first element, which may be null if there is none."""
-        address, _ = self.numbers.buffer_info()
-        return address
+    def __len__(self) -> int:
+        return len(self.numbers) // self.width
 
-    def new_output(self, code: str = "Q", width: int = 1) -> PlainArray:
-        """Returns an array with a row of `width` elements for each element of this array.
+    def buffer(self, rows: slice) -> Buffer:
+        return buffer_of(self.numbers, rows, self.width)
 
-        Parameters
-        ----------
-        code : str
-            The type code of `array` for the elements: Q, I or B.
-        width : int
-            The number of elements of a row.
-        """
-        item_size = array(code).itemsize
-        output = PlainArray(array(code, bytes(len(self) * width * item_size)), self.is_scalar)
-        output.width = width
-        return output
+    def new_output(self, code: str = "Q", width: int = 1) -> PlainOutput:
+        return PlainOutput(zeros(code, len(self.numbers) * width), width, self.is_scalar)
+
+    def distinct(self) -> set[int]:
+        return set(self.numbers)
 
     def positions_of(self, number: int) -> list[int]:
-        """Returns the positions of the elements that are equal to a number, ascending."""
         return [position for position, element in enumerate(self.numbers) if element == number]
 
-    def take(self, positions) -> PlainArray:
-        """Returns the elements at these positions."""
-        return PlainArray(array("Q", [self.numbers[position] for position in positions]))
+    def take(self, positions: list[int]) -> PlainInput:
+        return PlainInput(array("Q", [self.numbers[position] for position in positions]))
 
-    def value_at(self, position: int) -> str:
-        """Returns the text of an element. The value of an int outside 0 to 2^64 - 1 is not known."""
-        number = self.numbers[position]
-        return "a number outside 0 to 2^64 - 1" if number == INVALID_NUMBER else str(number)
+    def text_of_row(self, row: int) -> str:
+        """Returns the text of the elements of a row. The value of an int outside 0 to 2^64 - 1 is not known."""
+        numbers = self.numbers[row * self.width:(row + 1) * self.width]
+        return ", ".join("a number outside 0 to 2^64 - 1" if number == INVALID_NUMBER else str(number) for number in numbers)
 
-    def flags_of_cells(self, bounds: array, order: int, is_whole: bool):
-        """Returns for each element, a cell of an order, whether the ranges with these bounds contain all or any of its pixels."""
+    def sorting_order(self, rows: slice) -> None:
+        """Returns None: the elements of a list are looked up in the given order."""
+
+    def flags_of_cells(self, bounds: array[int], order: int, is_whole: bool) -> Any:
         starts, ends = bounds[::2], bounds[1::2]
         shift, count = 2 * (29 - order), 12 * 4**order
 
@@ -132,188 +246,270 @@ class PlainArray(Array):
         flags = [flag(cell) for cell in self.numbers]
         return flags[0] if self.is_scalar else flags
 
-    def is_worth_sorting(self) -> bool:
-        """Returns False: the elements of a list are looked up in the given order."""
-        return False
 
-    def result(self):
+class PlainOutput(Output):
+    """An output whose results are an int or a list.
+
+    Attributes
+    ----------
+    numbers : array.array
+        The elements.
+    width : int
+        The number of elements of a row.
+    is_scalar : bool
+        Whether results are ints.
+    """
+
+    def __init__(self, numbers: array[int], width: int = 1, is_scalar: bool = False) -> None:
+        self.numbers, self.width, self.is_scalar = numbers, width, is_scalar
+
+    def buffer(self, rows: slice) -> Buffer:
+        return buffer_of(self.numbers, rows, self.width)
+
+    def put(self, positions: Iterable[int], values: Output) -> None:
+        """Is not called, because lists are not sorted."""
+        raise NotImplementedError
+
+    def result(self) -> Any:
         """Returns the elements as a list, or the element as an int."""
-        return self.numbers[0] if self.is_scalar else self.numbers.tolist()
+        return self.numbers[0] if self.is_scalar else to_list(self.numbers)
 
-    def booleans(self):
-        """Returns the elements, each 1 or 0, as a list of bools, or the element as a bool."""
+    def booleans(self) -> Any:
+        """Returns the elements as a list of bools, or the element as a bool."""
         return bool(self.numbers[0]) if self.is_scalar else [number == 1 for number in self.numbers]
 
-    def rows(self):
+    def rows(self) -> Any:
         """Returns the rows as lists, without missing neighbours, or the row as a list."""
-        starts = range(0, len(self), self.width)
+        starts = range(0, len(self.numbers), self.width)
         rows = [[number for number in self.numbers[start:start + self.width] if number != INVALID_NUMBER] for start in starts]
         return rows[0] if self.is_scalar else rows
 
-    def columns(self):
-        """Returns a list for each column, or the row as a list. A missing neighbour is -1."""
+    def columns(self) -> Any:
+        """Returns a list for each column, or the row as a list."""
         numbers = [-1 if number == INVALID_NUMBER else number for number in self.numbers]
-        return numbers if self.is_scalar else [numbers[column::self.width] for column in range(self.width)]
+        if self.is_scalar:
+            return numbers
+        return [numbers[column::self.width] for column in range(self.width)]
 
 
-class NumpyArray(Array):
-    """A flat NumPy array whose results are NumPy arrays.
+class NumpyInput(Input):
+    """A NumPy array whose results are NumPy arrays.
 
     A signed integer is passed with its bits, -1 as 2^64 - 1, and is converted back in results.
 
     Attributes
     ----------
+    elements : ndarray or flatiter
+        The elements along one axis, with the dtype of the argument.
     shape : tuple of int
         The shape of the argument, which is also the shape of results.
+    width : int
+        The number of elements of a row.
     """
 
-    def __init__(self, numbers: numpy.ndarray, shape: tuple[int, ...]) -> None:
-        super().__init__(numbers)
-        self.shape = shape
+    def __init__(self, elements: Any, shape: tuple[int, ...], width: int = 1) -> None:
+        self.elements, self.shape, self.width = elements, shape, width
 
     @classmethod
-    def of(cls, numbers) -> NumpyArray:
-        """Returns the elements of an array-like object of any shape. Copies them only if the dtype or the layout of the memory requires it.
+    def of(cls, numbers: Any, width: int = 1) -> NumpyInput:
+        """Returns the elements of an array-like object of any shape. Copies them only in pieces, unless the object must be converted.
 
-        Raises TypeError if the dtype is not an integer type, or if an entry is masked. An array without elements may have any dtype."""
+        Raises TypeError if the dtype is not an integer type, or if an entry is missing. An array without elements may have any dtype."""
         import numpy
 
-        if numpy.ma.is_masked(numbers):
+        if numpy.ma.is_masked(numbers):  # type: ignore[no-untyped-call]
             raise TypeError("the array has masked entries: pass array.compressed(), or array.filled(-1)")
-        elements = numpy.asarray(numbers)
-        if elements.dtype.kind not in "iu" and elements.size:
-            raise TypeError(f"expected an array of integers, not of {elements.dtype}")
-        dtype = numpy.uint64 if elements.dtype.kind == "u" else numpy.int64
-        flat = numpy.require(elements, dtype, ["C", "A"]).reshape(-1)
-        return cls(flat.view(numpy.uint64), elements.shape)
+        elements: NDArray[Any] = _without_extension(numbers)
+        if elements.dtype.kind not in "iu":
+            if elements.size:
+                raise TypeError(f"expected an array of integers, not of {elements.dtype}")
+            elements = elements.astype("int64")
+        is_flat = elements.ndim == 1 or elements.flags.c_contiguous
+        return cls(elements.reshape(-1) if is_flat else elements.flat, elements.shape, width)
 
-    def address(self) -> int:
-        """Returns the address of the first element."""
-        return self.numbers.ctypes.data
+    def __len__(self) -> int:
+        return len(self.elements) // self.width
 
-    def new_output(self, code: str = "Q", width: int = 1) -> NumpyArray:
-        """Returns an array with a row of `width` elements for each element of this array. The elements are not initialized.
-
-        Parameters
-        ----------
-        code : str
-            The type code of `array` for the elements: Q, I or B.
-        width : int
-            The number of elements of a row.
-        """
+    def numbers(self, rows: slice) -> NDArray[numpy.uint64]:
+        """Returns the elements of rows. Copies them only if the dtype or the layout of the memory requires it."""
         import numpy
 
-        output = NumpyArray(numpy.empty(len(self) * width, _DTYPES[code]), self.shape)
-        output.width = width
-        return output
+        elements = self.elements[rows.start * self.width:rows.stop * self.width]
+        dtype = numpy.uint64 if elements.dtype.kind == "u" else numpy.int64
+        return numpy.require(elements, dtype, ["C", "A"]).view(numpy.uint64)
 
-    def positions_of(self, number: int) -> numpy.ndarray:
-        """Returns the positions of the elements that are equal to a number, ascending."""
-        positions, = (self.numbers == number).nonzero()
+    def buffer(self, rows: slice) -> Buffer:
+        numbers = self.numbers(rows)
+        return Buffer(numbers.ctypes.data, len(numbers) // self.width, numbers)
+
+    def new_output(self, code: str = "Q", width: int = 1) -> NumpyOutput:
+        import numpy
+
+        return NumpyOutput(numpy.empty(len(self.elements) * width, _DTYPES[code]), self.shape, width)
+
+    def distinct(self) -> set[int]:
+        import numpy
+
+        numbers: set[int] = set()
+        for rows in pieces_of(len(self)):
+            numbers.update(numpy.unique(self.elements[rows]).tolist())
+        return numbers
+
+    def positions_of(self, number: int) -> NDArray[numpy.int64]:
+        import numpy
+
+        return numpy.concatenate([numpy.flatnonzero(self.elements[rows] == number) + rows.start for rows in pieces_of(len(self))])
+
+    def take(self, positions: NDArray[numpy.int64]) -> NumpyInput:
+        return NumpyInput(self.elements[positions], (len(positions),))
+
+    def text_of_row(self, row: int) -> str:
+        return ", ".join(str(number) for number in self.elements[row * self.width:(row + 1) * self.width].tolist())
+
+    def sorting_order(self, rows: slice) -> NDArray[numpy.int64] | None:
+        """Returns the positions in the order in which pixels are looked up faster. A number that is not a pixel may be at any position.
+
+        Returns None for a short array, and for an ascending one."""
+        import numpy
+
+        numbers = self.numbers(rows)
+        if len(numbers) <= _MIN_LENGTH_FOR_SORTING or not (numbers[1:] < numbers[:-1]).any():
+            return None
+        cells = (numbers >> numpy.uint64(_ORDER_6_SHIFT)).astype(numpy.uint16)
+        positions: NDArray[numpy.int64] = numpy.argsort(cells, kind="stable") + rows.start
         return positions
 
-    def take(self, positions) -> NumpyArray:
-        """Returns the elements at these positions, as an array with one axis."""
-        return NumpyArray(self.numbers[positions], (len(positions),))
-
-    def value_at(self, position: int) -> str:
-        """Returns the text of an element. A negative number was passed with its bits."""
-        number = int(self.numbers[position])
-        return str(number - 2**64 if number >= 2**63 else number)
-
-    def flags_of_cells(self, bounds: array, order: int, is_whole: bool):
-        """Returns for each element, a cell of an order, whether the ranges with these bounds contain all or any of its pixels."""
+    def flags_of_cells(self, bounds: array[int], order: int, is_whole: bool) -> Any:
         import numpy
 
-        starts, ends = numpy.asarray(bounds[::2]), numpy.asarray(bounds[1::2])
-        is_cell = self.numbers < numpy.uint64(12 * 4**order)
-        shift = numpy.uint64(2 * (29 - order))
-        first = numpy.where(is_cell, self.numbers, numpy.uint64(0)) << shift
-        end = first + (numpy.uint64(1) << shift)
-        index = numpy.searchsorted(ends, first, "right")
-        is_cell &= index < len(starts)
-        index = numpy.where(is_cell, index, 0)
-        if not len(starts):
-            flags = is_cell
-        elif is_whole:
-            flags = is_cell & (starts[index] <= first) & (end <= ends[index])
-        else:
-            flags = is_cell & (starts[index] < end)
+        edges = numpy.asarray(bounds)
+        flags = numpy.empty(len(self), bool)
+        for rows in pieces_of(len(self)):
+            flags[rows] = _flags_of_cells(self.numbers(rows), edges[::2], edges[1::2], order, is_whole)
         return flags.reshape(self.shape)[()]
 
-    def is_worth_sorting(self) -> bool:
-        """Returns whether the array has more than 1,000 elements and is not ascending."""
-        return len(self) > 1000 and bool((self.numbers[1:] < self.numbers[:-1]).any())
 
-    def sorted_chunks(self):
-        """Returns an iterator over the positions of the elements, in chunks of `_CHUNK_SIZE` positions.
+class NumpyOutput(Output):
+    """An output whose results are NumPy arrays.
 
-        In a chunk, pixels are sorted by the cell of order 6 that contains them. A number that is not a pixel may be at any position."""
-        import numpy
+    Attributes
+    ----------
+    numbers : ndarray
+        The elements along one axis.
+    shape : tuple of int
+        The shape of results, without the axis of the columns.
+    width : int
+        The number of elements of a row.
+    """
 
-        for start in range(0, len(self), _CHUNK_SIZE):
-            cells = (self.numbers[start:start + _CHUNK_SIZE] >> numpy.uint64(_ORDER_6_SHIFT)).astype(numpy.uint16)
-            yield numpy.argsort(cells, kind="stable") + start
+    def __init__(self, numbers: NDArray[Any], shape: tuple[int, ...], width: int = 1) -> None:
+        self.numbers, self.shape, self.width = numbers, shape, width
 
-    def put(self, positions: numpy.ndarray, values: NumpyArray) -> None:
-        """Replaces the elements at these positions by values."""
+    def buffer(self, rows: slice) -> Buffer:
+        numbers = self.numbers[rows.start * self.width:rows.stop * self.width]
+        return Buffer(numbers.ctypes.data, rows.stop - rows.start, numbers)
+
+    def put(self, positions: Any, values: Output) -> None:
+        assert isinstance(values, NumpyOutput)
         self.numbers[positions] = values.numbers
 
-    def result(self):
+    def result(self) -> Any:
         """Returns the elements as int64, which healpy uses too, in the shape of the argument."""
-        signed = self.numbers.view("int64") if self.numbers.dtype == "uint64" else self.numbers.astype("int64")
+        if self.numbers.dtype == "uint64":
+            return self.numbers.view("int64").reshape(self.shape)[()]
+        import numpy
+
+        signed = numpy.empty(len(self.numbers), "int64")
+        for rows in pieces_of(len(self.numbers)):
+            signed[rows] = self.numbers[rows]
         return signed.reshape(self.shape)[()]
 
-    def booleans(self):
-        """Returns the elements, each 1 or 0, as bools in the shape of the argument."""
+    def booleans(self) -> Any:
+        """Returns the elements as bools in the shape of the argument."""
         return self.numbers.view(bool).reshape(self.shape)[()]
 
-    def rows(self):
+    def rows(self) -> Any:
         """Returns the rows along the last axis. A missing neighbour is -1."""
         return self.numbers.view("int64").reshape(*self.shape, self.width)
 
-    def columns(self):
-        """Returns the columns along the first axis. A missing neighbour is -1."""
+    def columns(self) -> Any:
+        """Returns the columns along the first axis."""
         import numpy
 
         return numpy.moveaxis(self.rows(), -1, 0)
 
 
-def _check_not_lazy(numbers) -> None:
+def _flags_of_cells(cells: NDArray[numpy.uint64], starts: NDArray[numpy.uint64], ends: NDArray[numpy.uint64], order: int,
+                    is_whole: bool) -> NDArray[numpy.bool_]:
+    """Returns for each cell of an order whether the ranges with these bounds contain all or any of its pixels."""
+    import numpy
+
+    is_cell = cells < numpy.uint64(12 * 4**order)
+    if not len(starts):
+        return numpy.zeros(len(cells), bool)
+    shift = numpy.uint64(2 * (29 - order))
+    first = numpy.where(is_cell, cells, numpy.uint64(0)) << shift
+    end = first + (numpy.uint64(1) << shift)
+    index = numpy.searchsorted(ends, first, "right")
+    is_cell &= index < len(starts)
+    index = numpy.where(is_cell, index, 0)
+    if is_whole:
+        return is_cell & (starts[index] <= first) & (end <= ends[index])
+    return is_cell & (starts[index] < end)
+
+
+def _without_extension(numbers: Any) -> NDArray[Any]:
+    """Returns an array-like object as an array. A nullable column of pandas gets the dtype of its values.
+
+    Raises TypeError if such a column has a missing value."""
+    import numpy
+
+    dtype = getattr(getattr(numbers, "dtype", None), "numpy_dtype", None)
+    if dtype is None or not hasattr(numbers, "isna"):
+        return numpy.asarray(numbers)
+    if numbers.isna().any():
+        raise TypeError("the column has missing values: pass column.dropna()")
+    elements: NDArray[Any] = numbers.to_numpy(dtype)
+    return elements
+
+
+def _check_not_lazy(numbers: object) -> None:
     """Raises TypeError for an array whose elements are not computed yet, as those of Dask."""
     if hasattr(numbers, "__dask_graph__"):
         raise TypeError("the array is not computed yet: call compute() first, or map the call over its blocks")
 
 
-def as_array(numbers: Numbers) -> PlainArray | NumpyArray:
-    """Returns the array of an argument: a `NumpyArray` if it implements NumPy's array interface, and a `PlainArray` otherwise.
+def as_input(numbers: Numbers) -> Input:
+    """Returns the integers of an argument: a `NumpyInput` if it implements NumPy's array interface, and a `PlainInput` otherwise.
 
-    Raises TypeError if a number is not an integer, if an entry is masked, or if the array is lazy."""
+    Raises TypeError if a number is not an integer, if an entry is missing, or if the array is lazy."""
     _check_not_lazy(numbers)
-    return (NumpyArray if hasattr(numbers, "__array__") else PlainArray).of(numbers)
+    return NumpyInput.of(numbers) if hasattr(numbers, "__array__") else PlainInput.of(numbers)
 
 
-def without_masked(numbers):
-    """Returns an argument without its masked entries. Of an array of pairs, a pair is removed if one of its numbers is masked."""
+def without_missing(numbers: Any) -> Any:
+    """Returns an argument without its masked entries, or a nullable column of pandas without its missing values.
+
+    Of an array of pairs, a pair is removed if one of its numbers is masked."""
+    if hasattr(numbers, "isna") and hasattr(numbers, "dtype"):
+        return numbers[~numbers.isna()]
     if not hasattr(numbers, "mask") or not hasattr(numbers, "compressed"):
         return numbers
     import numpy
 
-    return numpy.ma.compress_rows(numbers) if numbers.ndim == 2 else numbers.compressed()
+    return numpy.ma.compress_rows(numbers) if numbers.ndim == 2 else numbers.compressed()  # type: ignore[no-untyped-call]
 
 
-def as_pairs(pairs) -> PlainArray | NumpyArray:
-    """Returns an array with a row of two elements for each pair of an argument.
+def as_pairs(pairs: Pairs) -> Input:
+    """Returns an input with a row of two elements for each pair of an argument.
 
     Raises ValueError if a NumPy array has another shape than (n, 2) and is not empty, or if an item has not two elements. Raises TypeError
     if an item is not iterable, or if a number is not an integer. A pair with a masked number is left out."""
     _check_not_lazy(pairs)
-    pairs = without_masked(pairs)
-    if hasattr(pairs, "__array__"):
-        numbers = NumpyArray.of(pairs)
-        if len(numbers) and numbers.shape[1:] != (2,):
-            raise ValueError(f"expected an array of pairs (from, to) with the shape (n, 2), not {numbers.shape}")
-    else:
-        numbers = PlainArray.of([number for start, end in pairs for number in (start, end)])
-    numbers.width = 2
+    argument = without_missing(pairs)
+    if not hasattr(argument, "__array__"):
+        return PlainInput.of((number for start, end in argument for number in (start, end)), width=2)
+    numbers = NumpyInput.of(argument, width=2)
+    if len(numbers.elements) and numbers.shape[1:] != (2,):
+        raise ValueError(f"expected an array of pairs (from, to) with the shape (n, 2), not {numbers.shape}")
     return numbers

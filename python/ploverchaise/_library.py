@@ -5,22 +5,32 @@ A call that may take long uses a copy of the coverage in a temporary store, so t
 the coverage. During a call, ctypes lets other threads of Python run.
 
 The library closes handles and frees texts without Python code. So an exception that a signal handler raises is never lost in a finalizer.
+
+Python runs signal handlers in the main thread, and not during a call of the library. So the main thread passes arrays in pieces, and lets
+another thread make calls that may take long.
 """
 from __future__ import annotations
 
+import _thread
 import ctypes
 import os
+import threading
 from collections.abc import Callable, Iterator
 from ctypes import c_bool
-from typing import Any
+from typing import Any, TypeVar
 
-from ._arrays import Array
-from ._codes import KINDS
+from ._arrays import PIECE_LENGTH, Buffer, Input, Output, pieces_of
+from ._codes import KINDS, MEMORY, NO_SUCH_CELL, NOT_UNIQ, RANGE_BACKWARDS, RANGE_PIXEL_TOO_LARGE
 from ._signatures import CLIENT, CLIENT_CALLS, ID_CALLS, NUMBER_CALLS, STORE, STORE_CALLS, TEXT, ClientHandle, Result, StoreHandle, Text
-from .errors import MEMORY, MocError
+from .errors import MocError
+
+Value = TypeVar("Value")
 
 NO_ORDER = 255
 """The value of an optional order that is not stated, `MOC_NO_ORDER` in C."""
+# The time in seconds after which another thread that has not begun a call does not make it.
+_MAX_START_TIME = 0.2
+_NUMBER_ERRORS = (NO_SUCH_CELL, NOT_UNIQ, RANGE_BACKWARDS, RANGE_PIXEL_TOO_LARGE)
 
 
 def _library_path() -> str:
@@ -37,9 +47,9 @@ def _library_path() -> str:
 
 def declare_function(library: ctypes.CDLL, name: str, result: Any, *arguments: Any) -> Callable[..., Any]:
     """Returns the function `moc_NAME` of a library, with the type of its result and the types of its arguments."""
-    function = getattr(library, f"moc_{name}")
+    function: Any = getattr(library, f"moc_{name}")
     function.argtypes, function.restype = arguments, result
-    return function
+    return function  # type: ignore[no-any-return]
 
 
 library = ctypes.CDLL(_library_path())
@@ -80,15 +90,17 @@ def check_result(result: Result, name: str = "") -> Result:
     raise MocError(result.code, result.first, result.second)
 
 
-def c_arguments(*arguments: Any) -> Iterator[Any]:
-    """Returns an iterator over arguments for C: arrays and bytes become an address and a length. The caller keeps their memory alive."""
+def c_arguments(*arguments: Any) -> list[Any]:
+    """Returns the arguments for C: a buffer and bytes become an address and a length. The caller keeps their memory alive."""
+    converted: list[Any] = []
     for argument in arguments:
-        if isinstance(argument, Array):
-            yield from argument.c_arguments
-        elif isinstance(argument, bytes):
-            yield from (argument, len(argument))
+        if type(argument) is Buffer:
+            converted += argument[:2]
+        elif type(argument) is bytes:
+            converted += argument, len(argument)
         else:
-            yield argument
+            converted.append(argument)
+    return converted
 
 
 def open_store() -> StoreHandle:
@@ -109,7 +121,8 @@ def open_client() -> ClientHandle:
 
 def call_with_store(name: str, store: StoreHandle, *arguments: Any) -> Result:
     """Calls `moc_NAME` with a store and arguments for C, and returns its result. Raises as `check_result`."""
-    return check_result(store_functions[name](store, *arguments), name)
+    result: Result = store_functions[name](store, *arguments)
+    return check_result(result, name) if result.code else result
 
 
 def call_with_client(name: str, client: ClientHandle, *arguments: Any) -> Result:
@@ -117,13 +130,98 @@ def call_with_client(name: str, client: ClientHandle, *arguments: Any) -> Result
     return check_result(client_functions[name](client, *c_arguments(*arguments)), name)
 
 
-def call_without_handle(name: str, *arguments: Any) -> None:
-    """Calls `moc_NAME`, which takes neither a store nor a client. Raises as `check_result`."""
-    check_result(number_functions[name](*c_arguments(*arguments)), name)
+def call_on_rows(call: Callable[..., Value], order: int | None, rows: slice, numbers: Input, *outputs: Output) -> Value:
+    """Returns the value of a call for rows of an input, and of outputs with the same number of rows.
+
+    Parameters
+    ----------
+    call : callable
+        The call. It takes the order, if there is one, and the buffers of the rows.
+    order : int or None
+        The order of the numbers.
+    rows : slice
+        The rows.
+    numbers : Input
+        The input.
+    *outputs : Output
+        The outputs.
+
+    Raises
+    ------
+    MocError
+        As the call, with the position in the whole input, and with the number and its bounds.
+    """
+    buffers = [numbers.buffer(rows), *[output.buffer(rows) for output in outputs]]
+    try:
+        return call(*buffers) if order is None else call(order, *buffers)
+    except MocError as error:
+        if error.code not in _NUMBER_ERRORS:
+            raise
+        place = rows.start + error.place[0]
+        raise MocError(error.code, place, detail=_describe_number(error.code, numbers.text_of_row(place), order)) from None
+
+
+def call_on_pieces(call: Callable[..., Value], order: int | None, numbers: Input, *outputs: Output,
+                   max_length: int = PIECE_LENGTH) -> Iterator[Value]:
+    """Returns an iterator over the values of `call_on_rows` for each piece, of at most `max_length` rows, of an input and of outputs."""
+    return (call_on_rows(call, order, rows, numbers, *outputs) for rows in pieces_of(len(numbers), max_length))
+
+
+def _describe_number(code: int, text: str, order: int | None) -> str:
+    """Returns what is wrong with a number or a range that an error is about."""
+    if code == NO_SUCH_CELL and order is not None:
+        return f"{text} is not a cell of order {order} (0 to {12 * 4**order - 1})"
+    return f"{text} is not a NUNIQ number (4 to 2^62 - 1)" if code == NOT_UNIQ else f"({text})"
+
+
+def convert(name: str, order: int | None, numbers: Input, *outputs: Output) -> None:
+    """Calls `moc_NAME`, which takes neither a store nor a client, with all pieces of arrays. Raises as `call_on_pieces`."""
+    function = number_functions[name]
+    for _ in call_on_pieces(lambda *arguments: check_result(function(*c_arguments(*arguments)), name), order, numbers, *outputs):
+        pass
 
 
 def text_of(call: Callable[..., Result], *arguments: Any) -> str:
     """Returns the text that a call makes. The call takes the arguments, and then the text that it makes. Raises as `call`."""
     text = Text()
     call(*arguments, text)
-    return bytes((ctypes.c_char * text.length).from_address(text.bytes)).decode("utf-8")
+    return ctypes.string_at(text.bytes or 0, text.length).decode("utf-8")
+
+
+def run_interruptibly(call: Callable[[], Value]) -> Value:
+    """Returns the value of a call that takes long. Raises as the call.
+
+    In the main thread, another thread makes the call, so that signal handlers run meanwhile. If one of them raises an exception, the call
+    continues until it ends, and its value is dropped. So the call must only use memory that nothing else changes.
+    """
+    if threading.current_thread() is not threading.main_thread():
+        return call()
+    begun, ended = _thread.allocate_lock(), _thread.allocate_lock()
+    ended.acquire()
+    values: list[Value] = []
+    errors: list[BaseException] = []
+
+    def run() -> None:
+        if begun.acquire(blocking=False):
+            try:
+                values.append(call())
+            except BaseException as error:
+                errors.append(error)
+            finally:
+                ended.release()
+
+    try:
+        _thread.start_new_thread(run, ())
+    except (RuntimeError, MemoryError):
+        return call()
+    # If little memory is left, the other thread may end before it begins the call.
+    if not ended.acquire(timeout=_MAX_START_TIME):
+        if begun.acquire(blocking=False):
+            return call()
+        ended.acquire()
+    if values:
+        return values.pop()
+    if errors and not isinstance(errors[0], MemoryError):
+        raise errors.pop()
+    # This thread has more memory than the other one, if the memory of the process is limited.
+    return call()

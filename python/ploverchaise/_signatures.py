@@ -1,8 +1,10 @@
-"""The functions of the library, with the types of their arguments. Made by `tools/signatures.py` from `crates/moc_c/include/ploverchaise.h`."""
+"""The functions of the library, with the types of their arguments.
+
+Made by `tools/signatures.py` from `crates/moc_c/include/ploverchaise.h`."""
 from __future__ import annotations
 
 import ctypes
-from ctypes import c_size_t, c_uint8, c_uint32, c_uint64, c_void_p
+from ctypes import c_size_t, c_uint32, c_uint64, c_void_p
 from typing import Any
 
 
@@ -10,24 +12,31 @@ class StoreHandle(ctypes.Structure):
     """`moc_store`."""
 
     _fields_ = [("at", c_void_p)]
+    at: int | None
 
 
 class ClientHandle(ctypes.Structure):
     """`moc_client`."""
 
     _fields_ = [("at", c_void_p)]
+    at: int | None
 
 
 class Result(ctypes.Structure):
     """`moc_result`."""
 
     _fields_ = [("code", c_uint32), ("first", c_uint64), ("second", c_uint64)]
+    code: int
+    first: int
+    second: int
 
 
 class Text(ctypes.Structure):
     """`moc_text`."""
 
     _fields_ = [("bytes", c_void_p), ("length", c_size_t)]
+    bytes: int | None
+    length: int
 
 
 STORE = ctypes.POINTER(StoreHandle)

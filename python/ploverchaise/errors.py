@@ -2,8 +2,9 @@
 from __future__ import annotations
 
 import operator
+from typing import SupportsIndex
 
-from ._codes import BUSY, KINDS, MEMORY, NO_SUCH_CELL, NO_SUCH_ORDER, TOO_COARSE
+from ._codes import KINDS, NO_SUCH_ORDER
 
 
 class MocError(ValueError):
@@ -25,7 +26,16 @@ class MocError(ValueError):
         - For `NoSuchOrder` it is the order, and for `Busy` the base pixel and the number of the other client.
 
     detail : str
-        The value and its bounds, if the package knows them. Empty for most errors.
+        The value and its bounds, or the format that a text looks like, if the package knows them. Empty for most errors.
+
+    Examples
+    --------
+    >>> from ploverchaise import MOC, MocError
+    >>> try:
+    ...     MOC.from_healpix_cells([5, 48], 1)
+    ... except MocError as error:
+    ...     print(error.name, error.place, error.detail)
+    NoSuchCell (1,) 48 is not a cell of order 1 (0 to 47)
     """
 
     def __init__(self, code: int, *numbers: int, detail: str = "") -> None:
@@ -35,7 +45,11 @@ class MocError(ValueError):
         super().__init__(f"{kind.name}: {kind.meaning}" + (f" ({position})" if position else "") + (f": {detail}" if detail else ""))
         self._numbers = numbers
 
-    def __reduce__(self):
+    def _with_detail(self, detail: str) -> MocError:
+        """Returns the same error with another detail."""
+        return MocError(self.code, *self._numbers, detail=detail)
+
+    def __reduce__(self) -> tuple[object, ...]:
         return _error, (self.code, self._numbers, self.detail)
 
 
@@ -44,7 +58,7 @@ def _error(code: int, numbers: tuple[int, ...], detail: str) -> MocError:
     return MocError(code, *numbers, detail=detail)
 
 
-def check_order(order: int) -> int:
+def check_order(order: SupportsIndex) -> int:
     """Returns an order as an int. Raises MocError `NoSuchOrder` if it is not 0 to 29, and TypeError if it is not an integer."""
     order = operator.index(order)
     if not 0 <= order <= 29:

@@ -5,8 +5,10 @@ import operator
 import time
 from typing import Callable, TypeVar
 
-from ._library import ClientHandle, call_with_client, open_client, open_store, text_of
-from .errors import BUSY, MocError
+from ._codes import BUSY
+from ._library import call_with_client, call_with_store, open_client, open_store, text_of
+from ._signatures import ClientHandle
+from .errors import MocError
 from .moc import MOC
 
 Value = TypeVar("Value")
@@ -25,6 +27,12 @@ class MapClient:
     ----------
     number : int
         The number of the client, from 0. A `Busy` error has the number of the other client.
+
+    Examples
+    --------
+    >>> client = SharedMap().client()
+    >>> client.apply("claim 9/0-6 ; claim 9/6-9")
+    'claimed ; taken 1099511627776'
     """
 
     __slots__ = ("number", "_handle")
@@ -70,12 +78,26 @@ class MapClient:
             If an allocation fails. Either the set is unchanged, or the line was executed and `answer` returns its replies.
         TypeError
             If the line is neither a str nor a bytes-like object.
+
+        Examples
+        --------
+        >>> SharedMap(MOC.from_string("0/0")).client().apply("count 0/0 ; near 0 4", timeout=0.5)
+        'total 288230376151711744 ; near yes'
         """
         commands = line.encode() if isinstance(line, str) else bytes(memoryview(line))
         return _retry_while_busy(lambda: text_of(call_with_client, "map_execute", self._handle, commands), timeout).removesuffix("\n")
 
     def answer(self) -> str:
-        """Returns the replies to the last line that this client executed, or an empty str before the first line."""
+        """Returns the replies to the last line that this client executed, or an empty str before the first line.
+
+        Examples
+        --------
+        >>> client = SharedMap().client()
+        >>> client.apply("add 29/3-4")
+        'changed 2'
+        >>> client.answer()
+        'changed 2'
+        """
         return text_of(call_with_client, "map_answer", self._handle).removesuffix("\n")
 
     def moc(self, timeout: float | None = None) -> MOC:
@@ -92,9 +114,18 @@ class MapClient:
             `Busy` if another client holds a base pixel and the timeout has passed.
         MemoryError
             If an allocation fails.
+
+        Examples
+        --------
+        >>> client = SharedMap(MOC.from_string("0/0")).client()
+        >>> client.apply("add 1/4")
+        'changed 72057594037927936'
+        >>> print(client.moc())
+        0/0 1/4
         """
         store = open_store()
-        return MOC._in_store(store, _retry_while_busy(lambda: call_with_client("map_coverage", self._handle, store), timeout).first)
+        coverage_id = _retry_while_busy(lambda: call_with_client("map_coverage", self._handle, store), timeout).first
+        return MOC._in_store(store, coverage_id, call_with_store("range_count", store, coverage_id).first)
 
 
 class SharedMap:
@@ -118,6 +149,14 @@ class SharedMap:
         If `clients` is not 1 to 63.
     MemoryError
         If an allocation fails.
+
+    Examples
+    --------
+    >>> shared = SharedMap(MOC.from_string("0/0"), clients=4)
+    >>> shared.client().apply("remove 1/3")
+    'changed 72057594037927936'
+    >>> print(shared.moc())
+    1/0-2
     """
 
     __slots__ = ("_client",)
@@ -140,15 +179,33 @@ class SharedMap:
             `NoClient` if as many clients exist as the map can have.
         MemoryError
             If an allocation fails.
+
+        Examples
+        --------
+        >>> shared = SharedMap(clients=2)
+        >>> sorted(client.number for client in (shared.client(), shared.client()))
+        [0, 1]
         """
         return MapClient._create(lambda handle: call_with_client("map_join", self._client._handle, handle).first)
 
     def apply(self, line: str | bytes, timeout: float | None = None) -> str:
-        """Executes a line as `MapClient.apply`, with a client that the map keeps for these calls. They wait for each other."""
+        """Executes a line as `MapClient.apply`, with a client that the map keeps for these calls. They wait for each other.
+
+        Examples
+        --------
+        >>> SharedMap(MOC.full()).apply("count 0/0")
+        'total 288230376151711744'
+        """
         return self._client.apply(line, timeout)
 
     def moc(self, timeout: float | None = None) -> MOC:
-        """Returns the set of the map as `MapClient.moc`, with the client that the map keeps."""
+        """Returns the set of the map as `MapClient.moc`, with the client that the map keeps.
+
+        Examples
+        --------
+        >>> print(SharedMap(MOC.from_string("0/0-3")).moc())
+        0/0-3
+        """
         return self._client.moc(timeout)
 
 

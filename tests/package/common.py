@@ -1,6 +1,8 @@
 """Functions and classes that the tests of the Python package share."""
 from __future__ import annotations
 
+import importlib.util
+import os
 import random
 import threading
 import unittest
@@ -9,11 +11,18 @@ from typing import Any, TypeVar
 
 from ploverchaise import MOC, MocError
 
+TOP = os.path.dirname(os.path.dirname(os.path.dirname(os.path.abspath(__file__))))
 PIXELS = 12 * 4**29
 BASE = 4**29
 NUMBERS = random.Random(2005)
 
 Value = TypeVar("Value")
+
+
+def needs(*modules: str) -> Callable[[type[unittest.TestCase]], type[unittest.TestCase]]:
+    """Returns a decorator that skips the tests of a class if a module is not installed."""
+    missing = [module for module in modules if importlib.util.find_spec(module) is None]
+    return unittest.skipIf(bool(missing), f"not installed: {', '.join(missing)}")
 
 
 def random_cells(order: int, count: int) -> list[int]:

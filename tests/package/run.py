@@ -2,9 +2,11 @@
 
 usage: python3 -m package.run [--without-numpy]
 
-With `--without-numpy` the tests cannot import numpy, also if it is installed. Skipped tests are reported, and not counted."""
+With `--without-numpy` the tests cannot import numpy, also if it is installed. Skipped tests are reported with their reason, and not
+counted."""
 from __future__ import annotations
 
+import collections
 import os
 import sys
 import unittest
@@ -31,6 +33,9 @@ def main() -> int:
     # A module that cannot be imported counts as one failed test.
     failed = len({test_id(test) for test, _ in (*result.failures, *result.errors)})
     tally = Tally()
+    reasons = collections.Counter(reason for _, reason in result.skipped)
+    for reason, count in sorted(reasons.items()):
+        print(f"{count} tests skipped: {reason}", file=sys.stderr)
     tally.passed, tally.failed = result.testsRun - len(result.skipped) - failed, failed
     return tally.finish()
 

@@ -3,6 +3,7 @@ from __future__ import annotations
 
 import sys
 import unittest
+from collections.abc import Callable
 from typing import Any
 
 from ploverchaise import MOC, _arrays, get_all_neighbours, neighbours, nest2ring, nest2uniq, pix2xyf, ring2nest, uniq2nest
@@ -13,6 +14,14 @@ numpy: Any = None
 try:
     import numpy as numpy_module
     numpy = numpy_module
+except ImportError:
+    pass
+
+
+pandas: Any = None
+try:
+    import pandas as pandas_module
+    pandas = pandas_module
 except ImportError:
     pass
 
@@ -34,7 +43,7 @@ class WithoutNumpy(TestCase):
             result = nest2ring(2, argument)
             self.assertEqual((result, type(result)), (expected, type(expected)))
         for argument in ([], MOC()._bounds(), *([numpy.zeros(0, "int64")] if numpy else [])):
-            address, count = _arrays.as_array(argument).c_arguments
+            address, count, _ = _arrays.as_input(argument).buffer(slice(0, 0))
             self.assertEqual((address != 0, count), (True, 0))
         self.assertIs(MOC.full().contains(7), True)
         self.assertEqual(MOC.full().contains([7]), [True])
@@ -67,7 +76,7 @@ class WithNumpy(TestCase):
         self.assertArray(ring2nest(2**29, records["cell"]), expected, "int64")
         shifted = numpy.frombuffer(b"." + cells.tobytes(), "i8", offset=1)
         self.assertArray(ring2nest(2**29, shifted), expected, "int64")
-        self.assertTrue(_arrays.as_array(shifted).numbers.flags.aligned)
+        self.assertEqual(_arrays.as_input(shifted).buffer(slice(0, 600)).address % 8, 0)
         bits = numpy.frombuffer(b"." + cells.tobytes(), numpy.uint8)[1:].view(numpy.uint64)
         self.assertFalse(bits.flags.aligned)
         self.assertArray(ring2nest(2**29, bits), expected, "int64")
@@ -139,6 +148,32 @@ class WithNumpy(TestCase):
             MOC.full().contains(cells)
         with self.assertRaises(TypeError):
             nest2ring(16, cells)
+
+    @unittest.skipUnless(pandas, "pandas is not installed")
+    def test_columns_of_pandas(self) -> None:
+        table = pandas.DataFrame({"cell": pandas.array([100, None, 101], "Int64"), "order": [9, 9, 9]})
+        self.assertEqual(str(MOC.from_healpix_cells(table["cell"], 9)), "9/100-101")
+        self.assertEqual(MOC.from_uniq(pandas.Series([4, None, 5], dtype="UInt32")), MOC.from_string("0/0-1"))
+        whole = table["cell"].dropna()
+        self.assertArray(nest2ring(512, whole), nest2ring(512, [100, 101]), "int64")
+        self.assertArray(MOC.full().contains(whole.array), [True, True], "bool")
+        self.assertEqual(MOC.from_healpix_cells(whole, table["order"][whole.index]), MOC.from_healpix_cells([100, 101], 9))
+        calls: list[Callable[[], object]] = [lambda: MOC.full().contains(table["cell"]), lambda: nest2ring(512, table["cell"]),
+                                             lambda: MOC.from_healpix_cells(table["cell"], table["order"])]
+        for call in calls:
+            with self.assertRaisesRegex(TypeError, "missing"):
+                call()
+
+    def test_integers_of_numpy(self) -> None:
+        moc = MOC.from_string("0/0 1/4")
+        keys: Any = {numpy.int64(1): numpy.array([4]), numpy.uint8(0): [numpy.int32(0)]}
+        self.assertEqual(MOC.from_json(keys), moc)
+        self.assertEqual(moc.degrade_to_order(numpy.int64(0)), MOC.from_string("0/0-1"))
+        self.assertEqual(nest2ring(numpy.int64(2), numpy.array(3)), 0)
+        self.assertEqual((numpy.int64(0) in moc, numpy.uint64(2**63) in moc), (True, False))
+        self.assertEqual(MOC.from_healpix_cells(numpy.array(4), numpy.int8(1)), MOC.from_string("1/4"))
+        with self.assertRaises(TypeError):
+            nest2ring(2, numpy.ma.masked)
 
     def test_lazy_arrays(self) -> None:
         class Lazy:

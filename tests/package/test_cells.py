@@ -2,6 +2,7 @@
 from __future__ import annotations
 
 import unittest
+from collections.abc import Callable
 from typing import Any
 
 from ploverchaise import get_all_neighbours, neighbours, nest2ring, nest2uniq, nside2order, order2nside, pix2xyf, ring2nest, uniq2nest
@@ -70,6 +71,15 @@ class Examples(TestCase):
         self.assertEqual(get_all_neighbours(2, [32, 47]), [[44, 46], [45, 28], [34, 29], [35, 12], [33, 18], [38, 16], [36, 45], [40, 44]])
         self.assertEqual(get_all_neighbours(4, 3), [2, 8, 9, 12, 6, 4, 1, 0])
         self.assertEqual(get_all_neighbours(4, []), [[]] * 8)
+
+    def test_nest_of_healpy(self) -> None:
+        self.assertEqual(pix2xyf(4, 64, nest=True), (0, 0, 4))
+        self.assertEqual(get_all_neighbours(4, 3, nest=True), get_all_neighbours(4, 3))
+        ring: Any = False
+        calls: list[Callable[..., object]] = [pix2xyf, get_all_neighbours]
+        for call in calls:
+            with self.assertRaisesRegex(ValueError, "ring2nest"):
+                call(4, 64, nest=ring)
 
     def test_sides(self) -> None:
         for order in range(30):

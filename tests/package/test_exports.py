@@ -62,7 +62,7 @@ class Header(TestCase):
         self.assertEqual(sorted(re.findall(r" T (\w+)$", exported, re.MULTILINE)), sorted(declared))
         self.assertEqual(len(exported.splitlines()), len(declared))
         dynamic = subprocess.run(["readelf", "-d", path], check=True, stdout=subprocess.PIPE, text=True).stdout
-        self.assertIn("Library soname: [libploverchaise.so]", dynamic)
+        self.assertIn("Library soname: [libploverchaise.so.0]", dynamic)
         self.assertEqual(re.findall(r"Shared library: \[(.*)\]", dynamic), ["libc.so.6"])
 
     def test_errors_are_those_of_the_header(self) -> None:

@@ -22,19 +22,21 @@ JSON = [
     ('{"0":[1],"2":[5,6,1.5]}', "NotWhole", (1, 2)), ('{"1":[0,48]}', "CellTooLarge", (0, 1)),
 ]
 UNIQ = [("4\nx\n", "BadByte", (2,)), ("4\n\n3", "NotUniq", (3,)), ("4611686018427387904", "NotUniq", (1,))]
-# Makes complements of 200,000 ranges each until an allocation fails. Prints the error, and whether all complements are unchanged.
+# Makes complements of 600,000 ranges each until an allocation fails, with ROOM bytes for them. Prints the error, and whether all
+# complements are unchanged.
 UNTIL_NO_MEMORY = """
 import resource
 from ploverchaise import MOC
 
-made = [MOC.from_healpix_cells(range(0, 400_000, 2), 10)]
+made = [MOC.from_healpix_cells(range(0, 1_200_000, 2), 10)]
 with open("/proc/self/statm") as file:
     taken = int(file.read().split()[0]) * resource.getpagesize()
-resource.setrlimit(resource.RLIMIT_AS, (taken + 64_000_000,) * 2)
+resource.setrlimit(resource.RLIMIT_AS, (taken + ROOM, resource.RLIM_INFINITY))
 try:
     while True:
         made.append(~made[-1])
 except MemoryError as error:
+    resource.setrlimit(resource.RLIMIT_AS, (resource.RLIM_INFINITY,) * 2)
     print(error, len(made) > 5, all(moc == made[place % 2] for place, moc in enumerate(made)))
 """
 
@@ -69,7 +71,8 @@ class Errors(TestCase):
             MOC.from_healpix_cells([0, 1], [0])
 
     def test_numbers(self) -> None:
-        for call in (nest2ring, ring2nest, nest2uniq, pix2xyf, get_all_neighbours):
+        calls: list[Callable[..., object]] = [nest2ring, ring2nest, nest2uniq, pix2xyf, get_all_neighbours]
+        for call in calls:
             self.assertFault("NoSuchCell", (1,), call, 2, [47, 48, 0])
             self.assertFault("NoSuchCell", (0,), call, 2, -1)
             self.assertFault("NoSuchCell", (0,), call, 2**29, 2**70)
@@ -109,8 +112,9 @@ class Errors(TestCase):
             MOC.full().degrade_to_order(fraction)
 
     def test_formats(self) -> None:
-        calls: list[Callable[[], object]] = [lambda: MOC.from_string("", "fits"), lambda: MOC().to_string("fits"),
-                                             lambda: MOC().serialize("fits")]
+        fits: Any = "fits"
+        calls: list[Callable[[], object]] = [lambda: MOC.from_string("", fits), lambda: MOC().to_string(fits),
+                                             lambda: MOC().serialize(fits)]
         for call in calls:
             with self.assertRaises(ValueError):
                 call()
@@ -122,8 +126,11 @@ class Errors(TestCase):
         self.assertEqual(str(moc), "0/0 1/4-5")
 
     def test_allocation_failures(self) -> None:
-        result = subprocess.run([sys.executable, "-c", UNTIL_NO_MEMORY], stdout=subprocess.PIPE, text=True, timeout=60)
-        self.assertEqual(result.stdout, "no memory is left for a coverage True True\n")
+        for room in ("300_000_000",):
+            program = UNTIL_NO_MEMORY.replace("ROOM", room)
+            result = subprocess.run([sys.executable, "-c", program], stdout=subprocess.PIPE, stderr=subprocess.DEVNULL, text=True,
+                                    timeout=60)
+            self.assertEqual(result.stdout, "no memory is left for a coverage True True\n", room)
 
     def test_errors_are_value_errors(self) -> None:
         self.assertTrue(issubclass(MocError, ValueError))

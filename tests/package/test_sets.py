@@ -10,16 +10,22 @@ import xml.etree.ElementTree
 from collections.abc import Callable, Iterator
 from typing import Any
 
-from ploverchaise import MOC, MocError, nest2ring
+from ploverchaise import MOC, MocError, nest2ring, nside2order, uniq2nest
+from ploverchaise.moc import Format
 
 from .common import BASE, NUMBERS, PIXELS, TestCase, random_cells, sorted_ranges
 
+FORMATS: list[Format] = ["ascii", "json", "uniq"]
 # ASCII texts, the text of the set without a MOC order, and the deepest order of its cells.
 ASCII = [
     ("", "", 0), ("8/", "", 0), ("0/0 1/3", "0/0", 0), ("2/0-3", "1/0", 1), ("2/0-3,1/1 1/2,3", "0/0", 0),
     ("1/1-2 4 2/12-14 21 23 25 8/", "1/1-2 4 2/12-14 21 23 25", 2), ("1/1 2 4\n2/12-14 21 23 25 \n8/", "1/1-2 4 2/12-14 21 23 25", 2),
     ("s29/3458764513820540927", "29/3458764513820540927", 29),
 ]
+
+
+class Survey(MOC):
+    """A subclass."""
 
 
 class Examples(TestCase):
@@ -76,9 +82,6 @@ class Examples(TestCase):
             MOC.union_all(invalid)
 
     def test_copies_and_subclasses(self) -> None:
-        class Survey(MOC):
-            """A subclass."""
-
         moc = Survey.from_string("0/0 1/4")
         self.assertIs(copy.deepcopy(moc), moc)
         self.assertIs(copy.copy(moc), moc)
@@ -93,7 +96,8 @@ class Examples(TestCase):
         moc = MOC.from_string("0/0 1/4 8/")
         with tempfile.TemporaryDirectory() as folder:
             path = pathlib.Path(folder, "moc.txt")
-            for format, text in (("ascii", "0/0 1/4\n"), ("json", '{"0":[0],"1":[4]}\n'), ("uniq", "4\n20\n")):
+            texts: list[tuple[Format, str]] = [("ascii", "0/0 1/4\n"), ("json", '{"0":[0],"1":[4]}\n'), ("uniq", "4\n20\n")]
+            for format, text in texts:
                 moc.save(path, format, overwrite=True)
                 self.assertEqual((path.read_text(), MOC.load(path, format)), (text, moc))
             moc.save(str(path), max_order=8, overwrite=True)
@@ -109,16 +113,40 @@ class Examples(TestCase):
     def test_errors_have_values(self) -> None:
         with self.assertRaises(MocError) as caught:
             MOC.from_healpix_cells([5, 48], 1)
-        self.assertEqual(caught.exception.detail, "48 is not a cell of order 1, which are 0 to 47")
-        self.assertTrue(str(caught.exception).endswith("(place 1): 48 is not a cell of order 1, which are 0 to 47"))
+        self.assertEqual(caught.exception.detail, "48 is not a cell of order 1 (0 to 47)")
+        self.assertTrue(str(caught.exception).endswith("(place 1): 48 is not a cell of order 1 (0 to 47)"))
         again = pickle.loads(pickle.dumps(caught.exception))
         self.assertEqual((str(again), again.place, again.detail), (str(caught.exception), (1,), caught.exception.detail))
         with self.assertRaises(MocError) as caught:
             MOC.from_healpix_cells([5, 700, 3], [1, 2, 1])
-        self.assertEqual((caught.exception.place, caught.exception.detail), ((1,), "700 is not a cell of order 2, which are 0 to 191"))
+        self.assertEqual((caught.exception.place, caught.exception.detail), ((1,), "700 is not a cell of order 2 (0 to 191)"))
         with self.assertRaises(MocError) as caught:
             MOC.full().degrade_to_order(30)
         self.assertEqual(caught.exception.detail, "orders are 0 to 29")
+
+        calls: list[tuple[Callable[[], object], str]] = [
+            (lambda: nest2ring(2, [0, 99]), "99 is not a cell of order 1 (0 to 47)"),
+            (lambda: uniq2nest([4, 3]), "3 is not a NUNIQ number (4 to 2^62 - 1)"),
+            (lambda: MOC.from_uniq(2), "2 is not a NUNIQ number (4 to 2^62 - 1)"),
+            (lambda: MOC.from_ranges([(0, 1), (5, 4)]), "(5, 4)"), (lambda: nside2order(2**30), "1073741824 is above 2^29")]
+        for call, detail in calls:
+            with self.subTest(detail=detail), self.assertRaises(MocError) as caught:
+                call()
+            self.assertEqual(caught.exception.detail, detail)
+
+    def test_hints(self) -> None:
+        """Checks that an error names the format that the text looks like, as the program does."""
+        rows: list[tuple[str, Format, str]] = [
+            ('{"0":[3]}', "ascii", "this looks like JSON"), (" \n{", "uniq", "this looks like JSON"),
+            ("s3/1", "json", "this looks like ASCII"), ("0/1", "uniq", "this looks like ASCII"),
+            ("4\n5", "ascii", "this looks like a NUNIQ list"), ("x", "ascii", ""), ("5/7x", "ascii", ""), ("", "json", "")]
+        for text, format, detail in rows:
+            with self.subTest(text=text), self.assertRaises(MocError) as caught:
+                MOC.from_string(text, format)
+            self.assertEqual(caught.exception.detail, detail)
+        with self.assertRaises(MocError) as caught:
+            MOC.from_string('{"0":[3]}')
+        self.assertEqual((caught.exception.name, caught.exception.place), ("BadByte", (0,)))
 
     def test_ranges_are_merged(self) -> None:
         moc = MOC.from_ranges([(4, 8), (8, 9), (0, 4)])
@@ -209,10 +237,32 @@ class Objects(TestCase):
         for other in (copy.copy(moc), copy.deepcopy(moc), pickle.loads(pickle.dumps(moc))):
             self.assertEqual(other, moc)
         self.assertEqual(pickle.loads(pickle.dumps(MOC())), MOC())
+        for protocol in range(pickle.HIGHEST_PROTOCOL + 1):
+            again = pickle.loads(pickle.dumps(Survey.from_string("0/0 5/7"), protocol))
+            self.assertEqual((type(again), str(again)), (Survey, "0/0"))
+        buffers: list[pickle.PickleBuffer] = []
+        data = pickle.dumps(moc, 5, buffer_callback=buffers.append)
+        self.assertEqual((len(buffers), len(data) < 200), (1, True))
+        self.assertEqual(pickle.loads(data, buffers=buffers), moc)
 
     def test_repr(self) -> None:
         self.assertEqual(repr(MOC.from_string("0/0 1/4-5")),
                          "<MOC: 432345564227567616 pixels, 0.125 of the sky, 1 ranges, deepest order 1>")
+
+    def test_str_is_short(self) -> None:
+        moc = MOC.from_healpix_cells(range(0, 40_000, 2), 9)
+        text, whole = str(moc), moc.to_string()
+        self.assertLess(len(text), 2100)
+        self.assertTrue(text.endswith(f" ... ({len(whole)} characters, use to_string)"))
+        self.assertTrue(whole.startswith(text.partition(" ...")[0] + " "))
+        self.assertRaises(MocError, MOC.from_string, text)
+
+    def test_pictures_of_notebooks_are_small(self) -> None:
+        for moc in (MOC.from_healpix_cells(random_cells(9, 50_000), 9), MOC.from_healpix_cells(range(0, 12 * 4**7, 2), 7)):
+            picture = moc._repr_svg_()
+            self.assertLess(len(picture), 100_000)
+            self.assertEqual(xml.etree.ElementTree.fromstring(picture).tag, "{http://www.w3.org/2000/svg}svg")
+            self.assertGreater(len(moc.draw()), 100_000)
 
     def test_other_operands(self) -> None:
         moc = MOC.from_string("0/0")
@@ -296,7 +346,7 @@ class Random(TestCase):
 
     def test_texts_and_back(self) -> None:
         for _, _, _, moc, other in self.pairs():
-            for text_format in ("ascii", "json", "uniq"):
+            for text_format in FORMATS:
                 for one in (moc, other, moc ^ other):
                     self.assertEqual(MOC.from_string(one.to_string(text_format), text_format), one)
 

@@ -34,7 +34,7 @@ class OneThread(TestCase):
 
     def test_long_answers(self) -> None:
         moc = MOC.from_healpix_cells(range(0, 3000, 2), 8)
-        self.assertEqual(SharedMap(moc).apply("read 0/0-11"), f"cover {moc}")
+        self.assertEqual(SharedMap(moc).apply("read 0/0-11"), f"cover {moc.to_string()}")
         self.assertEqual(SharedMap().apply("read 0/0-11"), "cover")
 
     def test_errors_change_nothing(self) -> None:

@@ -208,7 +208,7 @@ class Waiting(TestCase):
         big, small = MOC.from_healpix_cells(cells, 29), MOC.from_string("0/0")
 
         def work() -> None:
-            for _ in range(3):
+            for _ in range(8):
                 big.to_string()
             ended.append(time.monotonic())
 

@@ -128,9 +128,9 @@ impl ClientState {
 /// Fails if another client holds a part in which a cell is, or if an allocation fails. The map is unchanged then.
 ///
 /// # Complexity
-/// Usually O(log n) for one cell in a part of n ranges. O(n) if the cell touches ranges in more than two adjacent blocks
-/// of a node of the part's list. If another set shares the list, as after `moc_map_coverage`, the list is copied first,
-/// which shares its blocks.
+/// Usually O(log n) for one cell in a part of n ranges. O(n) if the cell touches ranges in more than two adjacent
+/// blocks of a node of the part's list. If another set shares the list, as after `moc_map_coverage`, the list is copied
+/// first, which shares its blocks.
 #[unsafe(no_mangle)]
 pub extern "C" fn moc_map_add(
     alloc: Global,

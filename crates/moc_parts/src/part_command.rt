@@ -18,6 +18,7 @@ use std::alloc::Global;
 
 /// A command that is executed on a set without a draft of the twelve parts.
 pub trait PlainCommand {
+    /// The command that contracts refer to.
     ghost command: { Self → CommandValue };
 
     /// Returns whether the command may change the set.

@@ -201,8 +201,8 @@ pub enum Edit {
     Node(NodeEdit),
 }
 
-/// Returns the edit that replaces a node by one or two nodes of the given blocks. Returns `None` if there are no blocks,
-/// or if the fill rule would be broken.
+/// Returns the edit that replaces a node by one or two nodes of the given blocks. Returns `None` if there are no
+/// blocks, or if the fill rule would be broken.
 fn replace_node(
     alloc: Global,
     place: &SplitAtRun<'_, Node>,

@@ -83,8 +83,8 @@ impl SharedMap {
     /// does not allocate this set.
     ///
     /// # Errors
-    /// Fails with `Busy` if another client holds the part of the cell, and with `Memory` if an allocation fails. The map
-    /// is then unchanged, and the client holds no part.
+    /// Fails with `Busy` if another client holds the part of the cell, and with `Memory` if an allocation fails. The
+    /// map is then unchanged, and the client holds no part.
     ///
     /// # Complexity
     /// One compare-exchange, and the cost of `Coverage::insert_cell`, `remove_cell` or `count_cell`. A count allocates
@@ -98,7 +98,8 @@ impl SharedMap {
         ensures map { IsClientOf self.now client.new }
         ensures number { number_of client.new ≡ number_of client.old }
         ensures ok { IfOk result (λ r. TakesEffect self.now
-            (call_of client.old (command_on_cell command.now ∷ []) (r ∷ [])) (record_of client.old) (record_of client.new)) }
+            (call_of client.old (command_on_cell command.now ∷ []) (r ∷ []))
+            (record_of client.old) (record_of client.new)) }
         ensures err { IfErr result (λ e. AfterTryApply self.now (command_on_cell command.now ∷ []) e
             (record_of client.old) (record_of client.new)) }
     {

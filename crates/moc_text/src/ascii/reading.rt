@@ -104,8 +104,8 @@ fn read_words(alloc: Global, text: &[u8]) -> Result<Reading, TextError>
     Ok(reading)
 }
 
-/// Parses a text of any number of words, as [`read_ascii`] does. The function is separate, because each call initializes
-/// the stack of a whole function: a text of one word needs less of it.
+/// Parses a text of any number of words, as [`read_ascii`] does. The function is separate, because each call
+/// initializes the stack of a whole function: a text of one word needs less of it.
 #[inline(never)]
 fn read_any(alloc: Global, text: &[u8]) -> Result<(Coverage, Option<Order>), TextError>
     ensures set { IfOk result (λ r. Represents text.now r.0 r.1) }

@@ -1,0 +1,61 @@
+"""Positions and quotations of errors in texts, in the words of the program `moc`."""
+from __future__ import annotations
+
+import json
+from typing import Any
+
+from .errors import MocError
+
+# The maximal number of bytes of a text that a quotation has.
+MAX_QUOTED = 40
+_SEPARATORS = (b" ", b",", b"\t", b"\r", b"\n")
+
+
+def quote(part: bytes) -> str:
+    """Returns a part of a text between backquotes. Bytes that are not printable ASCII, backquotes and backslashes are in hexadecimal."""
+    plain = "".join(chr(byte) if 32 <= byte <= 126 and byte not in b"\\`" else f"\\x{byte:02x}" for byte in part[:MAX_QUOTED])
+    return f"`{plain}`" + (".." if len(part) > MAX_QUOTED else "")
+
+
+def position_of(data: bytes, format: str, error: MocError) -> str:
+    """Returns the position of the error of a text, with a quotation, or an empty text if the error has no position."""
+    if format == "json":
+        return _position_in_json(data, error)
+    if not error.place:
+        return ""
+    place = error.place[0]
+    if format == "uniq":
+        return f"line {place}: {quote(_line(data, place))}"
+    line, start = data.count(b"\n", 0, place) + 1, data.rfind(b"\n", 0, place) + 1
+    return f"byte {place}, line {line}, byte {place - start} of it: {quote(_word(data, place))}"
+
+
+def _line(data: bytes, number: int) -> bytes:
+    """Returns the line with a number, counted from 1."""
+    return data.split(b"\n", number)[number - 1]
+
+
+def _word(data: bytes, place: int) -> bytes:
+    """Returns the bytes between the separators around a position."""
+    start = max(data.rfind(separator, 0, place) for separator in _SEPARATORS) + 1
+    end = min((end for end in (data.find(separator, place) for separator in _SEPARATORS) if end >= 0), default=len(data))
+    return data[start:end]
+
+
+def _position_in_json(data: bytes, error: MocError) -> str:
+    """Returns the position of the error of a JSON text. For an invalid text it is that of Python's parser."""
+    try:
+        content: Any = json.loads(data)
+    except json.JSONDecodeError as failure:
+        return f"line {failure.lineno}, column {failure.colno}"
+    except ValueError:
+        return ""
+    if not error.place:
+        return ""
+    name = sorted(content, key=str.encode)[error.place[0]]
+    if error.name == "BadOrder":
+        return f"name {error.place[0]}: {quote(name.encode())}"
+    if error.name == "NotArray":
+        return f"order {int(name)}: {quote(name.encode())}"
+    item = json.dumps(content[name][error.place[1]], separators=(",", ":"), ensure_ascii=False)
+    return f"order {int(name)}, number {error.place[1]}: {quote(item.encode())}"
