@@ -863,7 +863,7 @@ fn a_cell_of_many_ranges(rt: HostRuntime) {
     assert!(rt; copy.same(&dots(&rt, alloc, 12800)));
 }
 
-/// The ranges (8j, 8j + 3) for each j below a number.
+/// Returns the ranges (8j, 8j + 3) for each j below a number.
 fn triples(rt: &impl Abort, alloc: Global, count: u64) -> Coverage
     requires { count ≤ 4000 }
 {
@@ -959,7 +959,7 @@ fn remove_across(rt: &impl Abort, alloc: Global, set: &mut Coverage, count: u64,
     are_triples_except(rt, set, count, 0, 0, &[]);
 }
 
-/// Makes each of these edits at the range with this index, and takes it back.
+/// Makes each of these edits at the range with this index, and undoes it.
 fn edit_at(rt: &impl Abort, alloc: Global, set: &mut Coverage, count: u64, index: u64)
     requires { (count ≤ 4000) × (index ≤ 3998) }
 {
@@ -983,16 +983,24 @@ fn edits_of_full_blocks(rt: HostRuntime) {
     }
 }
 
-// The edits divide and join the blocks of one set. No one else shares them.
+/// Edits one set of this number of ranges, in a shuffled order. No one else shares its blocks.
+fn edit_often(rt: &impl Abort, alloc: Global, count: u64)
+    requires { count ≤ 4000 }
+{
+    let mut set = triples(rt, alloc, count);
+    for turn in 0..255 {
+        edit_at(rt, alloc, &mut set, count, turn * 37 % 255);
+    }
+}
+
+// The edits divide and merge blocks.
 #[test]
 fn edits_of_one_set(rt: HostRuntime) {
     let alloc = rt.alloc();
-    for count in [256, 257, 384, 513] {
-        let mut set = triples(&rt, alloc, count);
-        for turn in 0..255 {
-            edit_at(&rt, alloc, &mut set, count, turn * 37 % 255);
-        }
-    }
+    edit_often(&rt, alloc, 256);
+    edit_often(&rt, alloc, 257);
+    edit_often(&rt, alloc, 384);
+    edit_often(&rt, alloc, 513);
 }
 
 // Each 128th range of a new set is the last one of a block.

@@ -1,5 +1,7 @@
 //! Each call that allocates once with enough memory, and the footprints of small operands.
 ghost use Rattle.std.specs.Prelude.{◌<◌};
+ghost use Rattle.moc_parts.specs.CellCommands.{command_on_cell};
+ghost use Rattle.moc_parts.specs.Commands.{IsPlain};
 
 use crate::shown::is_shown;
 use moc_parts::{
@@ -468,14 +470,18 @@ fn commands_on_cells_that_are_updates(rt: HostRuntime) {
 #[test]
 fn a_cell_that_is_added_in_vain(rt: HostRuntime) {
     let pixels = set(&rt, rt.alloc(), &[(0, 9)]);
-    let action = CellAction::Add;
     for (index, in_vain) in [(0, true), (1, true), (2, false), (3, false)] {
-        let cell = cell_of(&rt, 28, index);
-        assert_eq!(rt; CellCommand { action, cell }.adds_nothing(&pixels), in_vain);
+        let add = CellCommand {
+            action: CellAction::Add,
+            cell: cell_of(&rt, 28, index),
+        };
+        assert_eq!(rt; add.adds_nothing(&pixels), in_vain);
     }
-    let cell = cell_of(&rt, 28, 0);
-    let action = CellAction::Claim;
-    assert!(rt; !CellCommand { action, cell }.adds_nothing(&pixels));
+    let claim = CellCommand {
+        action: CellAction::Claim,
+        cell: cell_of(&rt, 28, 0),
+    };
+    assert!(rt; !claim.adds_nothing(&pixels));
 }
 
 /// Checks the reply to a command on a cell that is executed on a set.
@@ -484,33 +490,60 @@ fn is_executed(
     alloc: Global,
     pixels: &mut Coverage,
     command: CellCommand,
-    reply: &Reply,
-) {
+    reply: Reply,
+)
+    requires { IsPlain (command_on_cell command) }
+{
     let got = command.execute_on(alloc, pixels).expect(rt, "memory");
-    assert!(rt; got == *reply);
+    assert!(rt; got == reply);
 }
 
-// The cell 28/2 has the pixels 8 to 11, and 28/3 the pixels 12 to 15.
+// The cell 28/0 has the pixels 0 to 3, 28/2 the pixels 8 to 11, and 28/3 the pixels 12 to 15.
 #[test]
 fn commands_on_cells_of_a_set(rt: HostRuntime) {
     let alloc = rt.alloc();
     let mut pixels = set(&rt, alloc, &[(0, 9)]);
-    for (action, index, reply) in [
-        (CellAction::Count, 2, Reply::Total(1)),
-        (CellAction::Claim, 2, Reply::Taken(1)),
-        (CellAction::Add, 2, Reply::Changed(3)),
-        (CellAction::Claim, 3, Reply::Claimed),
-        (CellAction::Remove, 0, Reply::Changed(4)),
-        (CellAction::Remove, 0, Reply::Changed(0)),
-    ] {
-        let cell = cell_of(&rt, 28, index);
-        is_executed(
-            &rt,
-            alloc,
-            &mut pixels,
-            CellCommand { action, cell },
-            &reply,
-        );
-    }
+    let command = CellCommand {
+        action: CellAction::Count,
+        cell: cell_of(&rt, 28, 2),
+    };
+    is_executed(&rt, alloc, &mut pixels, command, Reply::Total(1));
+    let command = CellCommand {
+        action: CellAction::Claim,
+        cell: cell_of(&rt, 28, 2),
+    };
+    is_executed(&rt, alloc, &mut pixels, command, Reply::Taken(1));
+    let command = CellCommand {
+        action: CellAction::Add,
+        cell: cell_of(&rt, 28, 2),
+    };
+    is_executed(&rt, alloc, &mut pixels, command, Reply::Changed(3));
+    let command = CellCommand {
+        action: CellAction::Claim,
+        cell: cell_of(&rt, 28, 3),
+    };
+    is_executed(&rt, alloc, &mut pixels, command, Reply::Claimed);
+    let command = CellCommand {
+        action: CellAction::Remove,
+        cell: cell_of(&rt, 28, 0),
+    };
+    is_executed(&rt, alloc, &mut pixels, command, Reply::Changed(4));
+    let command = CellCommand {
+        action: CellAction::Remove,
+        cell: cell_of(&rt, 28, 0),
+    };
+    is_executed(&rt, alloc, &mut pixels, command, Reply::Changed(0));
     assert!(rt; pixels.same(&set(&rt, alloc, &[(4, 16)])));
+}
+
+#[test]
+fn a_query_on_a_cell_of_a_set(rt: HostRuntime) {
+    let alloc = rt.alloc();
+    let pixels = set(&rt, alloc, &[(0, 9), (20, 30)]);
+    let count = CellCommand {
+        action: CellAction::Count,
+        cell: cell_of(&rt, 27, 0),
+    };
+    let reply = count.query_on(alloc, &pixels).expect(&rt, "memory");
+    assert!(rt; reply == Reply::Total(9));
 }
