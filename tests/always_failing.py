@@ -67,6 +67,8 @@ BODIES = [
     Body("moc_shared", "map/commands", "answer", OUT_OF_MEMORY, "map_tests"),
     Body("moc_shared", "map/commands", "try_answer", "Err(TryError::Memory)", "map_tests"),
     Body("moc_shared", "map/commands", "try_answer", "Err(TryError::Busy(Busy { part: Part::of(0), holder: 0 }))", "map_tests"),
+    Body("moc_shared", "map/commands", "try_answer_cell", "Err(TryError::Memory)", "map_tests"),
+    Body("moc_shared", "map/commands", "try_answer_cell", "Err(TryError::Busy(Busy { part: Part::of(0), holder: 0 }))", "map_tests"),
     Body("moc_shared", "map/batches", "finish", "(self.let_go(holding), Err(Memory))", "map_tests"),
     Body("moc_shared", "map/batches", "snapshot", "Err(SnapshotError::Memory(self.let_go(holding)))", "map_tests"),
     Body("moc_shared", "snapshot", "answer", OUT_OF_MEMORY, "map_tests"),
@@ -101,6 +103,8 @@ BODIES = [
     Body("moc_text", "ascii/writing", "push_ascii", "Err(OutOfMemory)", "coverage_tests"),
     Body("moc_ranges", "coverage/removing", "remove_range", OUT_OF_MEMORY, "coverage_tests"),
     Body("moc_ranges", "coverage/removing", "remove_all", OUT_OF_MEMORY, "coverage_tests"),
+    Body("moc_ranges", "coverage/cells", "insert_cell", OUT_OF_MEMORY, "coverage_tests"),
+    Body("moc_ranges", "coverage/cells", "remove_cell", OUT_OF_MEMORY, "coverage_tests"),
 ]
 
 

@@ -753,3 +753,265 @@ fn all_of_a_set_is_removed(rt: HostRuntime) {
     );
     assert!(rt; set.is_empty());
 }
+
+/// Returns a cell.
+fn cell_of(rt: &impl Abort, order: u8, index: u64) -> Cell {
+    let order = Order::new(order).expect(rt, "an order");
+    Cell::new(order, index).expect(rt, "a cell")
+}
+
+/// Checks the number of pixels of a set in each of these cells: order, index, pixels.
+fn have_pixels(rt: &impl Abort, set: &Coverage, rows: &[(u8, u64, u64)]) {
+    for (order, index, pixels) in rows {
+        let cell = cell_of(rt, *order, *index);
+        assert_eq!(rt; set.count_cell(cell), *pixels, "{order}/{index}");
+    }
+}
+
+// The cell k/i has the pixels from i * 4^(29 - k) up to, not including, (i + 1) * 4^(29 - k).
+#[test]
+fn pixels_in_a_cell(rt: HostRuntime) {
+    let alloc = rt.alloc();
+    let set = set_of(&rt, alloc, &[(3, 9), (16, 64)]);
+    let inside = [(29, 3, 1), (29, 8, 1), (28, 1, 4), (27, 3, 16)];
+    have_pixels(&rt, &set, &inside);
+    let across = [(28, 0, 1), (28, 2, 1), (27, 0, 6), (26, 0, 54), (0, 0, 54)];
+    have_pixels(&rt, &set, &across);
+    let outside = [(29, 2, 0), (29, 9, 0), (28, 3, 0), (27, 4, 0), (0, 11, 0)];
+    have_pixels(&rt, &set, &outside);
+    have_pixels(&rt, &Coverage::empty(alloc), &[(0, 0, 0)]);
+    let sky = Coverage::full(alloc).expect(&rt, "memory");
+    have_pixels(&rt, &sky, &[(0, 11, PIXEL_COUNT / 12), (29, 7, 1)]);
+}
+
+// The set has every second pixel below 25,600. A cell of order 22 has 4^7 = 16,384 pixels.
+#[test]
+fn pixels_of_many_ranges_in_a_cell(rt: HostRuntime) {
+    let set = dots(&rt, rt.alloc(), 12800);
+    let inside = [(29, 1, 0), (29, 2, 1), (28, 6399, 2), (24, 24, 512)];
+    have_pixels(&rt, &set, &inside);
+    let most = [(22, 0, 8192), (22, 1, 4608), (21, 0, 12800), (0, 0, 12800)];
+    have_pixels(&rt, &set, &most);
+    have_pixels(&rt, &set, &[(28, 6400, 0), (22, 2, 0), (0, 1, 0)]);
+}
+
+/// Inserts the pixels of a cell, and checks how many are new.
+fn insert_cell(
+    rt: &impl Abort,
+    alloc: Global,
+    set: &mut Coverage,
+    order: u8,
+    index: u64,
+    new: u64,
+) {
+    let cell = cell_of(rt, order, index);
+    assert_eq!(rt; set.insert_cell(alloc, cell), Ok(new), "{order}/{index}");
+}
+
+/// Removes the pixels of a cell, and checks how many were in the set.
+fn remove_cell(
+    rt: &impl Abort,
+    alloc: Global,
+    set: &mut Coverage,
+    order: u8,
+    index: u64,
+    old: u64,
+) {
+    let cell = cell_of(rt, order, index);
+    assert_eq!(rt; set.remove_cell(alloc, cell), Ok(old), "{order}/{index}");
+}
+
+#[test]
+fn cells_inserted_one_by_one(rt: HostRuntime) {
+    let alloc = rt.alloc();
+    let mut set = set_of(&rt, alloc, &[(3, 9)]);
+    insert_cell(&rt, alloc, &mut set, 28, 0, 3);
+    insert_cell(&rt, alloc, &mut set, 28, 0, 0);
+    assert_ranges(&rt, &set, &[(0, 9)]);
+    insert_cell(&rt, alloc, &mut set, 28, 3, 4);
+    assert_ranges(&rt, &set, &[(0, 9), (12, 16)]);
+    insert_cell(&rt, alloc, &mut set, 27, 0, 3);
+    assert_ranges(&rt, &set, &[(0, 16)]);
+    insert_cell(&rt, alloc, &mut set, 29, PIXEL_COUNT - 1, 1);
+    assert_ranges(&rt, &set, &[(0, 16), (PIXEL_COUNT - 1, PIXEL_COUNT)]);
+}
+
+#[test]
+fn cells_removed_one_by_one(rt: HostRuntime) {
+    let alloc = rt.alloc();
+    let mut set = set_of(&rt, alloc, &[(0, 16)]);
+    remove_cell(&rt, alloc, &mut set, 29, 5, 1);
+    assert_ranges(&rt, &set, &[(0, 5), (6, 16)]);
+    remove_cell(&rt, alloc, &mut set, 28, 1, 3);
+    remove_cell(&rt, alloc, &mut set, 28, 1, 0);
+    remove_cell(&rt, alloc, &mut set, 0, 11, 0);
+    assert_ranges(&rt, &set, &[(0, 4), (8, 16)]);
+    remove_cell(&rt, alloc, &mut set, 26, 0, 12);
+    assert_ranges(&rt, &set, &[]);
+}
+
+// The first 16,384 pixels and the range from 16,384 on form one range.
+#[test]
+fn a_cell_of_many_ranges(rt: HostRuntime) {
+    let alloc = rt.alloc();
+    let mut set = dots(&rt, alloc, 12800);
+    let copy = copy_of(&rt, alloc, &set);
+    insert_cell(&rt, alloc, &mut set, 22, 0, 8192);
+    assert_eq!(rt; (set.range_count(), set.count()), (4608, 20992));
+    remove_cell(&rt, alloc, &mut set, 22, 0, 16384);
+    assert_eq!(rt; (set.range_count(), set.count()), (4608, 4608));
+    assert!(rt; copy.same(&dots(&rt, alloc, 12800)));
+}
+
+/// Returns the ranges (8j, 8j + 3) for each j below a number.
+fn triples(rt: &impl Abort, alloc: Global, count: u64) -> Coverage
+    requires { count ≤ 4000 }
+{
+    let mut pairs = Vec::new(alloc);
+    for j in 0..count {
+        pairs.push((8 * j, 8 * j + 3)).expect(rt, "memory");
+    }
+    set_of(rt, alloc, &pairs)
+}
+
+/// Checks the ranges of a set: those of `triples`, but other ranges in place of those with an index from `first` up to,
+/// not including, `rest`.
+fn are_triples_except(
+    rt: &impl Abort,
+    set: &Coverage,
+    count: u64,
+    first: u64,
+    rest: u64,
+    others: &[(u64, u64)],
+)
+    requires { (count ≤ 4000) × (first ≤ 4000) }
+{
+    let mut seen = set.ranges();
+    for j in 0..first {
+        assert_eq!(rt; seen.next(), Some((8 * j, 8 * j + 3)));
+    }
+    for other in others {
+        assert_eq!(rt; seen.next(), Some(*other));
+    }
+    for j in rest..count {
+        assert_eq!(rt; seen.next(), Some((8 * j, 8 * j + 3)));
+    }
+    assert_eq!(rt; seen.next(), None);
+}
+
+/// Inserts a range after the range with this index, and removes it.
+fn insert_between(rt: &impl Abort, alloc: Global, set: &mut Coverage, count: u64, index: u64)
+    requires { (count ≤ 4000) × (index ≤ 3999) }
+{
+    let at = 8 * index;
+    let others = [(at, at + 3), (at + 4, at + 6)];
+    assert_eq!(rt; set.insert_range(alloc, at + 4, at + 6), Ok(2));
+    are_triples_except(rt, set, count, index, index + 1, &others);
+    assert_eq!(rt; set.remove_range(alloc, at + 4, at + 6), Ok(2));
+    are_triples_except(rt, set, count, 0, 0, &[]);
+}
+
+/// Removes the middle pixel of the range with this index, and inserts it.
+fn cut_into_two(rt: &impl Abort, alloc: Global, set: &mut Coverage, count: u64, index: u64)
+    requires { (count ≤ 4000) × (index ≤ 3999) }
+{
+    let at = 8 * index;
+    let others = [(at, at + 1), (at + 2, at + 3)];
+    assert_eq!(rt; set.remove_range(alloc, at + 1, at + 2), Ok(1));
+    are_triples_except(rt, set, count, index, index + 1, &others);
+    assert_eq!(rt; set.insert_range(alloc, at + 1, at + 2), Ok(1));
+    are_triples_except(rt, set, count, 0, 0, &[]);
+}
+
+/// Removes the whole range with this index, and inserts it.
+fn remove_one(rt: &impl Abort, alloc: Global, set: &mut Coverage, count: u64, index: u64)
+    requires { (count ≤ 4000) × (index ≤ 3999) }
+{
+    let at = 8 * index;
+    assert_eq!(rt; set.remove_range(alloc, at, at + 3), Ok(3));
+    are_triples_except(rt, set, count, index, index + 1, &[]);
+    assert_eq!(rt; set.insert_range(alloc, at, at + 3), Ok(3));
+    are_triples_except(rt, set, count, 0, 0, &[]);
+}
+
+/// Inserts a range that joins the range with this index and the next one, and removes it.
+fn join_with_next(rt: &impl Abort, alloc: Global, set: &mut Coverage, count: u64, index: u64)
+    requires { (count ≤ 4000) × (index ≤ 3998) }
+{
+    let at = 8 * index;
+    let joined = [(at, at + 11)];
+    assert_eq!(rt; set.insert_range(alloc, at + 2, at + 9), Ok(5));
+    are_triples_except(rt, set, count, index, index + 2, &joined);
+    assert_eq!(rt; set.remove_range(alloc, at + 3, at + 8), Ok(5));
+    are_triples_except(rt, set, count, 0, 0, &[]);
+}
+
+/// Removes a range that reaches into the range with this index and into the next one, and inserts the removed pixels.
+fn remove_across(rt: &impl Abort, alloc: Global, set: &mut Coverage, count: u64, index: u64)
+    requires { (count ≤ 4000) × (index ≤ 3998) }
+{
+    let at = 8 * index;
+    let others = [(at, at + 1), (at + 10, at + 11)];
+    assert_eq!(rt; set.remove_range(alloc, at + 1, at + 10), Ok(4));
+    are_triples_except(rt, set, count, index, index + 2, &others);
+    assert_eq!(rt; set.insert_range(alloc, at + 1, at + 3), Ok(2));
+    assert_eq!(rt; set.insert_range(alloc, at + 8, at + 10), Ok(2));
+    are_triples_except(rt, set, count, 0, 0, &[]);
+}
+
+/// Makes each of these edits at the range with this index, and undoes it.
+fn edit_at(rt: &impl Abort, alloc: Global, set: &mut Coverage, count: u64, index: u64)
+    requires { (count ≤ 4000) × (index ≤ 3998) }
+{
+    insert_between(rt, alloc, set, count, index);
+    cut_into_two(rt, alloc, set, count, index);
+    remove_one(rt, alloc, set, count, index);
+    join_with_next(rt, alloc, set, count, index);
+    remove_across(rt, alloc, set, count, index);
+}
+
+// All blocks of a new set have 128 ranges, except the last ones. Each edit begins with a new copy of the set.
+#[test]
+fn edits_of_full_blocks(rt: HostRuntime) {
+    let alloc = rt.alloc();
+    let full = triples(&rt, alloc, 256);
+    has_chunks(&rt, &full, &[128, 128]);
+    for index in 0..255 {
+        let mut set = copy_of(&rt, alloc, &full);
+        edit_at(&rt, alloc, &mut set, 256, index);
+        are_triples_except(&rt, &full, 256, 0, 0, &[]);
+    }
+}
+
+/// Edits one set of this number of ranges, in a shuffled order. No one else shares its blocks.
+fn edit_often(rt: &impl Abort, alloc: Global, count: u64)
+    requires { count ≤ 4000 }
+{
+    let mut set = triples(rt, alloc, count);
+    for turn in 0..255 {
+        edit_at(rt, alloc, &mut set, count, turn * 37 % 255);
+    }
+}
+
+// The edits divide and merge blocks.
+#[test]
+fn edits_of_one_set(rt: HostRuntime) {
+    let alloc = rt.alloc();
+    edit_often(&rt, alloc, 256);
+    edit_often(&rt, alloc, 257);
+    edit_often(&rt, alloc, 384);
+    edit_often(&rt, alloc, 513);
+}
+
+// Each 128th range of a new set is the last one of a block.
+#[test]
+fn edits_at_the_ends_of_blocks(rt: HostRuntime) {
+    let alloc = rt.alloc();
+    let full = triples(&rt, alloc, 4000);
+    for block in 0..31 {
+        let mut set = copy_of(&rt, alloc, &full);
+        edit_at(&rt, alloc, &mut set, 4000, 128 * block + 127);
+        edit_at(&rt, alloc, &mut set, 4000, 128 * block + 64);
+    }
+    are_triples_except(&rt, &full, 4000, 0, 0, &[]);
+}

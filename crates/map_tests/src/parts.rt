@@ -1,10 +1,12 @@
 //! Each call that allocates once with enough memory, and the footprints of small operands.
 ghost use Rattle.std.specs.Prelude.{◌<◌};
+ghost use Rattle.moc_parts.specs.CellCommands.{command_on_cell};
+ghost use Rattle.moc_parts.specs.Commands.{IsPlain};
 
 use crate::shown::is_shown;
 use moc_parts::{
-    Batch, BatchError, Command, Map, Operand, Part, PartSet, Replies, Reply, merge_parts, prepare,
-    prepare_changes, reply_of, split_by_base_pixel,
+    Batch, BatchError, CellAction, CellCommand, Command, Map, Operand, Part, PartSet, PlainCommand,
+    Replies, Reply, merge_parts, prepare, prepare_changes, reply_of, split_by_base_pixel,
 };
 use moc_ranges::Coverage;
 use moc_sphere::{Cell, Order};
@@ -34,10 +36,15 @@ fn one(rt: &impl Abort, alloc: Global, command: Command) -> Batch {
     Batch::one(alloc, command).expect(rt, "memory")
 }
 
+/// Returns a cell.
+fn cell_of(rt: &impl Abort, order: u8, index: u64) -> Cell {
+    let order = Order::new(order).expect(rt, "an order");
+    Cell::new(order, index).expect(rt, "a cell")
+}
+
 /// Returns the command `near` of a cell.
 fn near(rt: &impl Abort, order: u8, index: u64) -> Command {
-    let order = Order::new(order).expect(rt, "an order");
-    Command::Near(Cell::new(order, index).expect(rt, "a cell"))
+    Command::Near(cell_of(rt, order, index))
 }
 
 /// Tests whether the footprint has exactly these parts.
@@ -427,4 +434,116 @@ fn a_map_is_one_coverage(rt: HostRuntime) {
     has_ranges(&rt, &whole, &pairs);
     let operand = Operand::from(whole);
     assert!(rt; operand.coarse.is_none() && operand.set.count() == 2 * BASE + 2);
+}
+
+#[test]
+fn parts_of_cells(rt: HostRuntime) {
+    for (order, index, part) in [
+        (0, 0, 0),
+        (0, 11, 11),
+        (1, 47, 11),
+        (1, 19, 4),
+        (29, BASE - 1, 0),
+        (29, BASE, 1),
+        (29, 12 * BASE - 1, 11),
+    ] {
+        let cell = cell_of(&rt, order, index);
+        let action = CellAction::Count;
+        assert_eq!(rt; CellCommand { action, cell }.part().get(), part);
+    }
+}
+
+#[test]
+fn commands_on_cells_that_are_updates(rt: HostRuntime) {
+    let cell = cell_of(&rt, 0, 3);
+    for (action, update) in [
+        (CellAction::Add, true),
+        (CellAction::Remove, true),
+        (CellAction::Claim, true),
+        (CellAction::Count, false),
+    ] {
+        assert_eq!(rt; CellCommand { action, cell }.is_update(), update);
+    }
+}
+
+// The set has the pixels 0 to 8. The cell 28/2 has the pixels 8 to 11.
+#[test]
+fn a_cell_that_is_added_in_vain(rt: HostRuntime) {
+    let pixels = set(&rt, rt.alloc(), &[(0, 9)]);
+    for (index, in_vain) in [(0, true), (1, true), (2, false), (3, false)] {
+        let add = CellCommand {
+            action: CellAction::Add,
+            cell: cell_of(&rt, 28, index),
+        };
+        assert_eq!(rt; add.adds_nothing(&pixels), in_vain);
+    }
+    let claim = CellCommand {
+        action: CellAction::Claim,
+        cell: cell_of(&rt, 28, 0),
+    };
+    assert!(rt; !claim.adds_nothing(&pixels));
+}
+
+/// Checks the reply to a command on a cell that is executed on a set.
+fn is_executed(
+    rt: &impl Abort,
+    alloc: Global,
+    pixels: &mut Coverage,
+    command: CellCommand,
+    reply: Reply,
+)
+    requires { IsPlain (command_on_cell command) }
+{
+    let got = command.execute_on(alloc, pixels).expect(rt, "memory");
+    assert!(rt; got == reply);
+}
+
+// The cell 28/0 has the pixels 0 to 3, 28/2 the pixels 8 to 11, and 28/3 the pixels 12 to 15.
+#[test]
+fn commands_on_cells_of_a_set(rt: HostRuntime) {
+    let alloc = rt.alloc();
+    let mut pixels = set(&rt, alloc, &[(0, 9)]);
+    let command = CellCommand {
+        action: CellAction::Count,
+        cell: cell_of(&rt, 28, 2),
+    };
+    is_executed(&rt, alloc, &mut pixels, command, Reply::Total(1));
+    let command = CellCommand {
+        action: CellAction::Claim,
+        cell: cell_of(&rt, 28, 2),
+    };
+    is_executed(&rt, alloc, &mut pixels, command, Reply::Taken(1));
+    let command = CellCommand {
+        action: CellAction::Add,
+        cell: cell_of(&rt, 28, 2),
+    };
+    is_executed(&rt, alloc, &mut pixels, command, Reply::Changed(3));
+    let command = CellCommand {
+        action: CellAction::Claim,
+        cell: cell_of(&rt, 28, 3),
+    };
+    is_executed(&rt, alloc, &mut pixels, command, Reply::Claimed);
+    let command = CellCommand {
+        action: CellAction::Remove,
+        cell: cell_of(&rt, 28, 0),
+    };
+    is_executed(&rt, alloc, &mut pixels, command, Reply::Changed(4));
+    let command = CellCommand {
+        action: CellAction::Remove,
+        cell: cell_of(&rt, 28, 0),
+    };
+    is_executed(&rt, alloc, &mut pixels, command, Reply::Changed(0));
+    assert!(rt; pixels.same(&set(&rt, alloc, &[(4, 16)])));
+}
+
+#[test]
+fn a_query_on_a_cell_of_a_set(rt: HostRuntime) {
+    let alloc = rt.alloc();
+    let pixels = set(&rt, alloc, &[(0, 9), (20, 30)]);
+    let count = CellCommand {
+        action: CellAction::Count,
+        cell: cell_of(&rt, 27, 0),
+    };
+    let reply = count.query_on(alloc, &pixels).expect(&rt, "memory");
+    assert!(rt; reply == Reply::Total(9));
 }

@@ -3,12 +3,13 @@ ghost use Rattle.std.specs.Prelude.{◌≤◌, All, IfSome};
 ghost use Rattle.moc_shared.specs.Clients.{IsClientOf, IsHoldingOf};
 
 use crate::shown::is_shown;
-use moc_parts::{Batch, Command, Operand, Part, Replies, Reply};
+use moc_parts::{Batch, CellAction, CellCommand, Command, Operand, Part, Replies, Reply};
 use moc_ranges::Coverage;
 use moc_shared::{
     Busy, Client, CloseError, Holding, LookError, NewError, SharedMap, Snapshot, SnapshotError,
     TryError,
 };
+use moc_sphere::{Cell, Order};
 use std::alloc::Global;
 use std::marker::Sync;
 use std::process::Abort;
@@ -475,6 +476,297 @@ fn one_command_changes_no_snapshot(rt: HostRuntime) {
     changes_alone(&rt, &map, &mut a, Command::Add(rest), CELL);
     answers(&rt, alloc, &snapshot, &most);
     counts_alone(&rt, &map, &mut a, base(&rt, alloc, 3, 4), BASE);
+}
+
+/// Returns a command on a cell.
+fn on_cell(rt: &impl Abort, action: CellAction, order: u8, index: u64) -> CellCommand {
+    let order = Order::new(order).expect(rt, "an order");
+    let cell = Cell::new(order, index).expect(rt, "a cell");
+    CellCommand { action, cell }
+}
+
+/// Returns the command on the set of a cell.
+fn on_set_of_cell(rt: &impl Abort, alloc: Global, command: &CellCommand) -> Command {
+    let pixels = Coverage::from_cell(alloc, command.cell).expect(rt, "memory");
+    let operand = Operand::from(pixels);
+    match command.action {
+        CellAction::Add => Command::Add(operand),
+        CellAction::Remove => Command::Remove(operand),
+        CellAction::Claim => Command::Claim(operand),
+        CellAction::Count => Command::Count(operand),
+    }
+}
+
+/// Checks the reply to a command on a cell that is tried once.
+fn tries_cell(
+    rt: &impl Abort,
+    map: &SharedMap,
+    client: &mut Client,
+    command: &CellCommand,
+    reply: &Reply,
+)
+    requires { IsClientOf map.now client.old }
+    ensures { IsClientOf map.now client.new }
+{
+    let tried = map.try_answer_cell(client, command).expect(rt, "a reply");
+    assert!(rt; tried == *reply);
+}
+
+/// Checks that a map replies to a command on a cell as another map with the same set replies to the command on the set
+/// of the cell.
+fn both_reply(
+    rt: &impl Abort,
+    alloc: Global,
+    map: &SharedMap,
+    client: &mut Client,
+    other: &SharedMap,
+    other_client: &mut Client,
+    command: CellCommand,
+    reply: Reply,
+)
+    requires { IsClientOf map.now client.old × IsClientOf other.now other_client.old }
+    ensures { IsClientOf map.now client.new × IsClientOf other.now other_client.new }
+{
+    tries_cell(rt, map, client, &command, &reply);
+    let on_set = on_set_of_cell(rt, alloc, &command);
+    tries(rt, other, other_client, &on_set, &reply);
+}
+
+// Base pixel 3 begins with the cells 5/3072 to 5/3075, which are the cell 4/768.
+#[test]
+fn commands_on_one_cell(rt: HostRuntime) {
+    let alloc = rt.alloc();
+    let (map, mut a, _) = two(&rt, alloc, Coverage::empty(alloc));
+    let (other, mut b, _) = two(&rt, alloc, Coverage::empty(alloc));
+    let command = on_cell(&rt, CellAction::Add, 5, 3072);
+    both_reply(
+        &rt,
+        alloc,
+        &map,
+        &mut a,
+        &other,
+        &mut b,
+        command,
+        Reply::Changed(CELL),
+    );
+    let command = on_cell(&rt, CellAction::Add, 5, 3072);
+    both_reply(
+        &rt,
+        alloc,
+        &map,
+        &mut a,
+        &other,
+        &mut b,
+        command,
+        Reply::Changed(0),
+    );
+    let command = on_cell(&rt, CellAction::Count, 0, 3);
+    both_reply(
+        &rt,
+        alloc,
+        &map,
+        &mut a,
+        &other,
+        &mut b,
+        command,
+        Reply::Total(CELL),
+    );
+    let command = on_cell(&rt, CellAction::Claim, 5, 3072);
+    both_reply(
+        &rt,
+        alloc,
+        &map,
+        &mut a,
+        &other,
+        &mut b,
+        command,
+        Reply::Taken(CELL),
+    );
+    let command = on_cell(&rt, CellAction::Claim, 5, 3073);
+    both_reply(
+        &rt,
+        alloc,
+        &map,
+        &mut a,
+        &other,
+        &mut b,
+        command,
+        Reply::Claimed,
+    );
+    let command = on_cell(&rt, CellAction::Count, 4, 768);
+    both_reply(
+        &rt,
+        alloc,
+        &map,
+        &mut a,
+        &other,
+        &mut b,
+        command,
+        Reply::Total(2 * CELL),
+    );
+    let command = on_cell(&rt, CellAction::Claim, 0, 3);
+    both_reply(
+        &rt,
+        alloc,
+        &map,
+        &mut a,
+        &other,
+        &mut b,
+        command,
+        Reply::Taken(2 * CELL),
+    );
+    let command = on_cell(&rt, CellAction::Add, 4, 768);
+    both_reply(
+        &rt,
+        alloc,
+        &map,
+        &mut a,
+        &other,
+        &mut b,
+        command,
+        Reply::Changed(2 * CELL),
+    );
+    let command = on_cell(&rt, CellAction::Remove, 5, 3074);
+    both_reply(
+        &rt,
+        alloc,
+        &map,
+        &mut a,
+        &other,
+        &mut b,
+        command,
+        Reply::Changed(CELL),
+    );
+    let command = on_cell(&rt, CellAction::Remove, 5, 3074);
+    both_reply(
+        &rt,
+        alloc,
+        &map,
+        &mut a,
+        &other,
+        &mut b,
+        command,
+        Reply::Changed(0),
+    );
+    let command = on_cell(&rt, CellAction::Remove, 0, 11);
+    both_reply(
+        &rt,
+        alloc,
+        &map,
+        &mut a,
+        &other,
+        &mut b,
+        command,
+        Reply::Changed(0),
+    );
+    let command = on_cell(&rt, CellAction::Count, 29, 12 * BASE - 1);
+    both_reply(
+        &rt,
+        alloc,
+        &map,
+        &mut a,
+        &other,
+        &mut b,
+        command,
+        Reply::Total(0),
+    );
+    let command = on_cell(&rt, CellAction::Add, 29, 12 * BASE - 1);
+    both_reply(
+        &rt,
+        alloc,
+        &map,
+        &mut a,
+        &other,
+        &mut b,
+        command,
+        Reply::Changed(1),
+    );
+    let command = on_cell(&rt, CellAction::Count, 29, 12 * BASE - 1);
+    both_reply(
+        &rt,
+        alloc,
+        &map,
+        &mut a,
+        &other,
+        &mut b,
+        command,
+        Reply::Total(1),
+    );
+    let pairs = [
+        (3 * BASE, 3 * BASE + 2 * CELL),
+        (3 * BASE + 3 * CELL, 3 * BASE + 4 * CELL),
+        (12 * BASE - 1, 12 * BASE),
+    ];
+    ends_as(&rt, alloc, map, a, &pairs);
+    ends_as(&rt, alloc, other, b, &pairs);
+}
+
+/// Returns the part and the holder that a command on a cell finds.
+fn holder_at(map: &SharedMap, client: &mut Client, command: &CellCommand) -> Option<(u8, u8)>
+    requires { IsClientOf map.now client.old }
+    ensures { IsClientOf map.now client.new }
+{
+    match map.try_answer_cell(client, command) {
+        Err(TryError::Busy(busy)) => Some((busy.part.get(), busy.holder)),
+        _ => None,
+    }
+}
+
+#[test]
+fn a_command_on_a_cell_finds_a_held_part(rt: HostRuntime) {
+    let alloc = rt.alloc();
+    let (map, a, mut b) = two(&rt, alloc, Coverage::empty(alloc));
+    let number = a.number();
+    let holding = hold(&rt, alloc, &map, a, Command::Add(base(&rt, alloc, 3, 5)));
+    let count = on_cell(&rt, CellAction::Count, 1, 19);
+    assert_eq!(rt; holder_at(&map, &mut b, &count), Some((4, number)));
+    let add = on_cell(&rt, CellAction::Add, 29, 3 * BASE);
+    assert_eq!(rt; holder_at(&map, &mut b, &add), Some((3, number)));
+    let free = on_cell(&rt, CellAction::Add, 29, 5 * BASE);
+    tries_cell(&rt, &map, &mut b, &free, &Reply::Changed(1));
+    let a = finish_after(&rt, &map, holding, 2 * BASE);
+    tries_cell(&rt, &map, &mut b, &count, &Reply::Total(BASE / 4));
+    tries_cell(&rt, &map, &mut b, &add, &Reply::Changed(0));
+    let pairs = [(3 * BASE, 5 * BASE), (5 * BASE, 5 * BASE + 1)];
+    ends_as(&rt, alloc, map, a, &pairs);
+}
+
+// A snapshot shares the list of base pixel 3, which has all cells of order 5 except the last one, 5/4095.
+#[test]
+fn commands_on_a_cell_change_no_snapshot(rt: HostRuntime) {
+    let alloc = rt.alloc();
+    let most = [(3 * BASE, 4 * BASE - CELL)];
+    let (map, mut a, _) = two(&rt, alloc, set(&rt, alloc, &most));
+    let snapshot = snapshot_of(&rt, alloc, &map, &mut a, base(&rt, alloc, 3, 4));
+    let add = on_cell(&rt, CellAction::Add, 5, 3072);
+    tries_cell(&rt, &map, &mut a, &add, &Reply::Changed(0));
+    let claim = on_cell(&rt, CellAction::Claim, 0, 3);
+    tries_cell(&rt, &map, &mut a, &claim, &Reply::Taken(BASE - CELL));
+    let count = on_cell(&rt, CellAction::Count, 0, 3);
+    tries_cell(&rt, &map, &mut a, &count, &Reply::Total(BASE - CELL));
+    answers(&rt, alloc, &snapshot, &most);
+    let add = on_cell(&rt, CellAction::Add, 0, 3);
+    tries_cell(&rt, &map, &mut a, &add, &Reply::Changed(CELL));
+    tries_cell(&rt, &map, &mut a, &count, &Reply::Total(BASE));
+    answers(&rt, alloc, &snapshot, &most);
+    ends_as(&rt, alloc, map, a, &[(3 * BASE, 4 * BASE)]);
+}
+
+#[test]
+fn a_removal_or_claim_of_a_cell_changes_no_snapshot(rt: HostRuntime) {
+    let alloc = rt.alloc();
+    let most = [(3 * BASE, 4 * BASE - CELL)];
+    let (map, mut a, _) = two(&rt, alloc, set(&rt, alloc, &most));
+    let snapshot = snapshot_of(&rt, alloc, &map, &mut a, base(&rt, alloc, 3, 4));
+    let claim = on_cell(&rt, CellAction::Claim, 5, 4095);
+    tries_cell(&rt, &map, &mut a, &claim, &Reply::Claimed);
+    answers(&rt, alloc, &snapshot, &most);
+    let whole = snapshot_of(&rt, alloc, &map, &mut a, base(&rt, alloc, 3, 4));
+    let remove = on_cell(&rt, CellAction::Remove, 5, 3072);
+    tries_cell(&rt, &map, &mut a, &remove, &Reply::Changed(CELL));
+    answers(&rt, alloc, &whole, &[(3 * BASE, 4 * BASE)]);
+    answers(&rt, alloc, &snapshot, &most);
+    ends_as(&rt, alloc, map, a, &[(3 * BASE + CELL, 4 * BASE)]);
 }
 
 /// Returns the number of clients of a map that is created with this number.
