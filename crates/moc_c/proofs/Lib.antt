@@ -6,3 +6,4 @@ mod Gathering
 mod Keys
 mod Passing
 mod MapCalls
+mod CellCommands

@@ -6,4 +6,5 @@ pub mod ClientHandle
 pub mod StateLending
 pub mod Storing
 pub mod Making
+pub mod CellCommands
 pub mod Rows

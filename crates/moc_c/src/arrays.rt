@@ -1,6 +1,7 @@
 //! Sets made from arrays, and arrays filled from sets.
 ghost use Rattle.std.specs.Prelude.{◌≡◌, ◌⊎◌, ◌∷◌, [], IfOk, MatchResult, Err, Ok, map};
 ghost use Rattle.moc_sphere.specs.CellNumber.{uniq_of};
+ghost use Rattle.moc_ranges.specs.Cells.{span};
 ghost use Rattle.moc_c.specs.Answers.{Makes, set_at};
 ghost use Rattle.moc_c.specs.Buffers.{set_of_cells_or_error, Fills, FillsCellCounts, FillsCells};
 ghost use Rattle.moc_c.specs.Buffers.{FillsRanges, MakesSetOfUniqs, pairs_from, ranges_from};
@@ -41,14 +42,23 @@ fn set_of_ranges(alloc: Global, ranges: &[Range]) -> Result<Coverage, CallError>
     }
 }
 
+/// Returns the cell of an order with this index, which is the only one of an array.
+pub(crate) fn only_cell(order: Order, index: u64) -> Result<Cell, CallError>
+    ensures { MatchResult result (λ cell. set_of_cells_or_error order (index ∷ []) ≡ Ok (span cell.order cell.index))
+        (λ e. set_of_cells_or_error order (index ∷ []) ≡ Err e) }
+{
+    match Cell::new(order, index) {
+        Ok(cell) => Ok(cell),
+        Err(_) => Err(CallError::NoSuchCell { at: 0 }),
+    }
+}
+
 /// Returns the set of a cell.
 fn set_of_cell(alloc: Global, order: Order, index: u64) -> Result<Coverage, CallError>
     ensures { MatchResult result (λ a. set_of_cells_or_error order (index ∷ []) ≡ Ok a)
         (λ e. (e ≡ NoMemory) ⊎ (set_of_cells_or_error order (index ∷ []) ≡ Err e)) }
 {
-    let Ok(cell) = Cell::new(order, index) else {
-        return Err(CallError::NoSuchCell { at: 0 });
-    };
+    let cell = only_cell(order, index)?;
     Ok(Coverage::from_cell(alloc, cell)?)
 }
 

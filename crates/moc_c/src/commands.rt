@@ -1,13 +1,14 @@
 //! Commands on the cells of an array or on a set of a store, without a line of text.
-ghost use Rattle.std.specs.Prelude.{◌≡◌};
+ghost use Rattle.std.specs.Prelude.{◌≡◌, IfSome};
 ghost use Rattle.std.specs.FinSet as set;
 ghost use Rattle.moc_c.specs.Answers.{set_at};
 ghost use Rattle.moc_c.specs.Commands.{CallsWithCells, CallsWithSet, command_on, ExecutesCommand, number_of_reply};
 ghost use Rattle.moc_c.specs.Commands.{value_of_reply};
+ghost use Rattle.moc_c.specs.Private.CellCommands.{ActsOnCells, ExecutesOnCell};
 ghost use Rattle.moc_c.specs.Sharing.{IsAfter, member_of_handle};
 ghost use Rattle.moc_c.specs.declared.commands.Verb.TheVariants.{Add, Claim, Contains, Count, Remove};
 
-use crate::arrays::set_of_cells;
+use crate::arrays::{only_cell, set_of_cells};
 use crate::call_result::CallResult;
 use crate::client_handle::ClientHandle;
 use crate::client_state::ClientState;
@@ -15,7 +16,7 @@ use crate::error::CallError;
 use crate::member::Member;
 use crate::store::Store;
 use crate::table::CoverageTable;
-use moc_parts::{Command, Operand, Reply};
+use moc_parts::{CellAction, CellCommand, Command, Operand, Reply};
 use moc_ranges::Coverage;
 use moc_sphere::Order;
 use std::alloc::Global;
@@ -46,6 +47,19 @@ impl Verb {
             Verb::Remove => Command::Remove(operand),
             Verb::Claim => Command::Claim(operand),
             Verb::Count | Verb::Contains => Command::Count(operand),
+        }
+    }
+
+    /// Returns what the command does with one cell, or `None` if its value depends on the size of the cell.
+    fn cell_action(self) -> Option<CellAction>
+        ensures { IfSome result (ActsOnCells self) }
+    {
+        match self {
+            Verb::Add => Some(CellAction::Add),
+            Verb::Remove => Some(CellAction::Remove),
+            Verb::Claim => Some(CellAction::Claim),
+            Verb::Count => Some(CellAction::Count),
+            Verb::Contains => None,
         }
     }
 
@@ -83,6 +97,17 @@ impl Member {
             Err(error) => CallResult::of(CallError::from(error)),
         }
     }
+
+    /// Executes a command on one cell, and returns the number of its reply.
+    fn execute_on_cell(&mut self, command: &CellCommand) -> CallResult
+        ensures after { IsAfter self.old self.new }
+        ensures executed { ExecutesOnCell self.old self.new command.now result }
+    {
+        match self.answer_cell(command) {
+            Ok(reply) => CallResult::number(number_of_reply(&reply)),
+            Err(error) => CallResult::of(CallError::from(error)),
+        }
+    }
 }
 
 impl ClientState {
@@ -96,6 +121,14 @@ impl ClientState {
         let Some(order) = Order::new(order) else {
             return CallResult::of(CallError::NoSuchOrder { order });
         };
+        if let [index] = cells {
+            if let Some(action) = verb.cell_action() {
+                return match only_cell(order, *index) {
+                    Ok(cell) => member.execute_on_cell(&CellCommand { action, cell }),
+                    Err(error) => CallResult::of(error),
+                };
+            }
+        }
         match set_of_cells(alloc, order, cells) {
             Ok(set) => member.execute(verb, set),
             Err(error) => CallResult::of(error),

@@ -1,6 +1,7 @@
 //! A client of a map, with its pointer to the shared map.
 ghost use Rattle.std.specs.Prelude.{◌≡◌, ◌++◌, ◌∷◌, [], ◌<◌, ◌≤◌, All, IfOk, length};
 ghost use Rattle.moc_lists.specs.RangeList.{NumberSet};
+ghost use Rattle.moc_parts.specs.CellCommands.{command_on_cell};
 ghost use Rattle.moc_parts.specs.declared.reply.Reply.TheVariants.{Cover};
 ghost use Rattle.moc_c.specs.Membership.{IsNewMember};
 ghost use Rattle.moc_c.specs.Sharing.{Gives, whole_sky};
@@ -8,7 +9,7 @@ ghost use Rattle.moc_c.specs.Private.Making.{ReadsWholeSky, replies_of, Tries};
 ghost use Rattle.moc_shared.specs.Clients.{IsClientOf, number_of};
 
 use crate::error::CallError;
-use moc_parts::{Batch, Command, Operand, Replies, Reply};
+use moc_parts::{Batch, CellCommand, Command, Operand, Replies, Reply};
 use moc_ranges::{Coverage, Memory};
 use moc_shared::{Client, NewError, SharedMap, TryError};
 use std::alloc::Global;
@@ -108,6 +109,13 @@ impl Member {
         ensures { Tries self.old self.new (command.now ∷ []) (replies_of result) }
     {
         self.map.try_answer(&mut self.client, command)
+    }
+
+    /// Executes a command on one cell, or fails if another client holds its part. As `SharedMap::try_answer_cell`.
+    pub(crate) fn answer_cell(&mut self, command: &CellCommand) -> Result<Reply, TryError>
+        ensures { Tries self.old self.new (command_on_cell command.now ∷ []) (replies_of result) }
+    {
+        self.map.try_answer_cell(&mut self.client, command)
     }
 
     /// Returns a copy of the map's set by a query of the whole sky. Allocates its ranges. Fails if another client

@@ -1,14 +1,5 @@
-use Rattle.std.proofs.Common.{◌∙◌, ◌∷◌, [], ◌<◌, ap, arith, rules}
-use Rattle.moc_sphere.specs.CellNumber.{CellNumber, cell_count}
-use Rattle.moc_ranges.specs.Cells.{span}
-use Rattle.moc_c.proofs.Failing.{cells_below_count}
-use Rattle.moc_c.proofs.Gathering.{pixels_of_one_cell, one_below}
+use Rattle.std.proofs.Common.{Ok, ◌∙◌, ap, sym}
 use Rattle.moc_c.proofs.arrays.set_of_cell.Goals as goal
 
 pub returns : goal.returns
-returns c =
-    let below : c.args.index < cell_count c.args.order = search rules in
-    cells_below_count c.args.order (c.args.index ∷ []) 1 c.in_ok-from_cell.field-0 (search rules) (omega arith)
-    (one_below c.args.index (cell_count c.args.order) below)
-    (pixels_of_one_cell c.args.order c.args.index c.in_ok-from_cell.field-0
-    (c.in_ok-from_cell.ensures ∙ ap (λ (k : CellNumber). span k.order k.index) c.in-Ok.ensures.cell.1))
+returns c = c.in_ok-cell.ensures ∙ ap Ok (sym c.in_ok-from_cell.ensures)
