@@ -105,6 +105,7 @@ BODIES = [
     Body("moc_ranges", "coverage/removing", "remove_all", OUT_OF_MEMORY, "coverage_tests"),
     Body("moc_ranges", "coverage/cells", "insert_cell", OUT_OF_MEMORY, "coverage_tests"),
     Body("moc_ranges", "coverage/cells", "remove_cell", OUT_OF_MEMORY, "coverage_tests"),
+    Body("moc_blocks", "edits/rebuild", "edit_nodes", "Ok(None)", "coverage_tests"),
 ]
 
 

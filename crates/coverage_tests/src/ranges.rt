@@ -874,6 +874,30 @@ fn triples(rt: &impl Abort, alloc: Global, count: u64) -> Coverage
     set_of(rt, alloc, &pairs)
 }
 
+// The removal leaves two blocks that would fit into one. A difference would make two full blocks.
+#[test]
+fn two_blocks_are_rebuilt_together(rt: HostRuntime) {
+    let alloc = rt.alloc();
+    let mut set = triples(&rt, alloc, 256);
+    has_chunks(&rt, &set, &[128, 128]);
+    let at = 8 * 64;
+    assert_eq!(rt; set.insert_range(alloc, at + 4, at + 6), Ok(2));
+    has_chunks(&rt, &set, &[65, 64, 128]);
+    assert_eq!(rt; set.remove_range(alloc, at + 4, at + 6), Ok(2));
+    has_chunks(&rt, &set, &[65, 95, 96]);
+}
+
+// Two blocks cannot hold the ranges of the longer neighbour too. A union would make the blocks full again.
+#[test]
+fn a_full_block_is_rebuilt_with_a_short_one(rt: HostRuntime) {
+    let alloc = rt.alloc();
+    let mut set = triples(&rt, alloc, 680);
+    has_chunks(&rt, &set, &[128, 128, 128, 128, 128, 40]);
+    let at = 8 * 576;
+    assert_eq!(rt; set.insert_range(alloc, at + 4, at + 6), Ok(2));
+    has_chunks(&rt, &set, &[128, 128, 128, 128, 84, 85]);
+}
+
 /// Checks the ranges of a set: those of `triples`, but other ranges in place of those with an index from `first` up to,
 /// not including, `rest`.
 fn are_triples_except(

@@ -1,6 +1,6 @@
 //! Inserts a range into a list, or removes a range from it. A list without blocks is rebuilt here. In a list of blocks,
-//! a range is inserted into its block in place (`gap`), or the block that an edit changes is rebuilt (`rebuild`), with
-//! a neighbour if needed (`pairs`); its node is rebuilt too if it is shared or if the number of its blocks changes.
+//! a range is inserted into its block in place (`gap`), or the block is rebuilt (`rebuild`). Its node is rebuilt too if
+//! it is shared, if the block is split, or if the block is rebuilt together with a neighbour (`pairs`).
 ghost use Rattle.std.specs.Prelude.{◌<◌, ◌≤◌, length};
 ghost use Rattle.moc_blocks.specs.RangeList.{pixel_count, IsNormal};
 ghost use Rattle.moc_blocks.specs.Private.Edits.{Inserts, Removes};

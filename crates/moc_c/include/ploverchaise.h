@@ -365,8 +365,7 @@ MOC_CHECKED moc_result moc_map_answer(moc_client *client, moc_text *replies);
    command, and leaves the replies to the last line as they are. `first` is the number of pixels of order 29 that were added or removed;
    for a claim, the number of its pixels that the map had, which is 0 if the claim succeeded; for a count, the number of pixels that the map
    has in the cells; for `contains`, 1 if the map has all pixels of the cells, and 0 if not. MOC_NO_MAP, then MOC_NO_SUCH_ORDER, then
-   MOC_NO_SUCH_CELL, then MOC_BUSY; the map is unchanged then. Usually O(log n) for one cell in a part of n ranges. It takes O(n) if
-   the cell touches ranges in more than two blocks of 1 to 128, or if two blocks in different nodes would fit into one. */
+   MOC_NO_SUCH_CELL, then MOC_BUSY; the map is unchanged then. Usually O(log n) for one cell in a part of n ranges, and at most O(n). */
 MOC_CHECKED moc_result moc_map_add(moc_client *client, uint32_t order, const uint64_t *cells, size_t count);
 MOC_CHECKED moc_result moc_map_remove(moc_client *client, uint32_t order, const uint64_t *cells, size_t count);
 MOC_CHECKED moc_result moc_map_claim(moc_client *client, uint32_t order, const uint64_t *cells, size_t count);

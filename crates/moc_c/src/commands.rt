@@ -161,9 +161,8 @@ impl ClientState {
 /// Fails if another client holds a part in which a cell is, or if an allocation fails. The map is unchanged then.
 ///
 /// # Complexity
-/// Usually O(log n) for one cell in a part of n ranges. O(n) if the cell touches ranges in more than two adjacent
-/// blocks of a node of the part's list. If another set shares the list, as after `moc_map_coverage`, the list is copied
-/// first, which shares its blocks.
+/// Usually O(log n) for one cell in a part of n ranges, and at most O(n). If another set shares the list of the part,
+/// as after `moc_map_coverage`, a pointer and a number for each node of the list are copied first.
 #[unsafe(no_mangle)]
 pub extern "C" fn moc_map_add(
     alloc: Global,
@@ -179,7 +178,7 @@ pub extern "C" fn moc_map_add(
 }
 
 /// Removes the cells of an order with these nested indices from the map. Returns the number of pixels that were
-/// removed. As `moc_map_add`, but O(n) also if two blocks of the list in different nodes would fit into one.
+/// removed. As `moc_map_add`.
 #[unsafe(no_mangle)]
 pub extern "C" fn moc_map_remove(
     alloc: Global,

@@ -212,7 +212,7 @@ impl RangeList {
     ///
     /// # Complexity
     ///
-    /// O(log n), and one step for each later node if a block is split.
+    /// O(log n), and one step for each later node if the number of blocks changes.
     pub fn insert(&mut self, alloc: Global, from: u64, to: u64) -> Result<Option<u64>, AllocError>
         requires filled { from < to }
         requires within { to ≤ pixel_count }
@@ -237,7 +237,7 @@ impl RangeList {
     ///
     /// # Complexity
     ///
-    /// O(log n), and one step for each later node if a block is split.
+    /// O(log n), and one step for each later node if the number of blocks changes.
     pub fn remove(&mut self, alloc: Global, from: u64, to: u64) -> Result<Option<u64>, AllocError>
         requires filled { from < to }
         requires within { to ≤ pixel_count }

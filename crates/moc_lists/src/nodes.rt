@@ -290,11 +290,10 @@ impl Nodes {
         Ok(())
     }
 
-    /// Inserts or removes a range if this changes only one block, which is rebuilt, and returns whether it succeeded.
-    /// The block is replaced in place if its node is not shared and it stays one block; otherwise its node is rebuilt.
-    /// If that would leave an empty block or break the fill rule, the block and a neighbour in its node are rebuilt.
-    /// Returns `false` if the range changes more, or if the fill rule would still be broken; the nodes are then
-    /// unchanged.
+    /// Inserts or removes a range if this changes only one block, or two adjacent blocks of a node, and returns whether
+    /// it succeeded. One block is replaced in place if its node is not shared and it stays one block. Otherwise the
+    /// node is rebuilt. Returns `false` if the range touches more blocks, or if the fill rule would be broken; the
+    /// nodes are then unchanged.
     fn edit(
         &mut self,
         alloc: Global,

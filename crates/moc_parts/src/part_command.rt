@@ -16,7 +16,7 @@ use moc_ranges::{Coverage, Memory};
 use moc_sphere::Cell;
 use std::alloc::Global;
 
-/// A command that is executed on a set without a draft of the twelve parts.
+/// What a shared map needs of a command on a single part: a `CellCommand`, or a `Command` for which `IsPlain` holds.
 pub trait PlainCommand {
     /// The command that contracts refer to.
     ghost command: { Self → CommandValue };
@@ -25,7 +25,8 @@ pub trait PlainCommand {
     fn is_update(&self) -> bool
         ensures { result ≡ is_update (command self.now) };
 
-    /// Returns whether the command is an `Add` of pixels that the set has.
+    /// Returns true only if the command leaves the set unchanged and replies with `Changed(0)`. Recognizes an `Add` of
+    /// pixels that the set has.
     fn adds_nothing(&self, pixels: &Coverage) -> bool
         requires { IsPlain (command self.now) }
         ensures set { OnTrue result (set_after pixels.now (command self.now) ≡ pixels.now) }

@@ -20,11 +20,12 @@ pub record IsSplitAtRun {T : Type 0} (ranges : T → List (ℕ × ℕ)) (from : 
   pub parts : whole ≡ before ++ run ∷ after
   pub below : EndsBelow from (all_ranges ranges before)
 
--- two adjacent blocks, one of which is the block at a place, with the blocks before and after them
+-- two adjacent blocks of a node, with the blocks before and after them; no more blocks are before them than before a
+-- block at a place
 pub record IsPair (left : List (List (ℕ × ℕ))) (run : List (ℕ × ℕ)) (right before : List (List (ℕ × ℕ)))
     (first second : List (ℕ × ℕ)) (after : List (List (ℕ × ℕ))) : Type 0 where
   pub parts : left ++ run ∷ right ≡ before ++ first ∷ (second ∷ after)
-  -- the blocks before the two are the first of those before the block
+  -- `before` is a prefix of `left`
   pub skipped : List (List (ℕ × ℕ))
   pub starts : left ≡ before ++ skipped
 

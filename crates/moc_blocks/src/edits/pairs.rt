@@ -1,5 +1,5 @@
-//! Edits two adjacent blocks of a node at once, if an edit of one block would break the fill rule or reaches the next.
-ghost use Rattle.std.specs.Prelude.{◌≡◌, ◌<◌, ◌≤◌, ◌++◌, ◌∷◌, List, ℕ, IfOk, IfSome};
+//! Edits two adjacent blocks of a node at once if an edit of one block would break the fill rule, or reaches the next.
+ghost use Rattle.std.specs.Prelude.{◌<◌, ◌≤◌, ◌++◌, IfOk, IfSome};
 ghost use Rattle.moc_blocks.specs.RangeList.{pixel_count, IsNormal};
 ghost use Rattle.moc_blocks.specs.Blocks.{concat, AreBlocks};
 ghost use Rattle.moc_blocks.specs.Private.Built.{EndsBelow};
@@ -23,14 +23,28 @@ struct Pair<'a> {
     after: &'a [Block],
 }
 
-/// Returns the block at a place together with the neighbour that has more ranges, or with the next block if the edit
-/// reaches it. Returns `None` if the node has no such neighbour.
+/// Returns whether a block is better joined with the next block than with the previous one, from their lengths. A
+/// missing block has the length 0. The longer neighbour is better, unless two blocks cannot hold the ranges of both and
+/// one more range.
+fn is_next_better(length: usize, previous: usize, next: usize) -> bool {
+    let fits = next.max(previous) < (2 * MAX_BLOCK_RANGES).saturating_sub(length);
+    if fits || next == 0 || previous == 0 {
+        next >= previous
+    } else {
+        next < previous
+    }
+}
+
+/// Returns the block at a place together with the next block if the edit reaches it, and otherwise with the longer of
+/// its neighbours, or with the shorter one if two blocks cannot hold the ranges of the longer one too. Returns `None`
+/// if the node has no such neighbour.
 fn pair_at<'a>(place: SplitAtRun<'a, Block>, reaches_next: bool) -> Option<Pair<'a>>
     ensures { IfSome result (λ p. IsPair place.entry.before.now place.entry.run.now place.entry.after.now
         p.before.now p.first.now p.second.now p.after.now) }
 {
     let previous = ranges_in_last(&[], place.before);
-    if reaches_next || ranges_in_first(place.after) >= previous {
+    let next = ranges_in_first(place.after);
+    if reaches_next || is_next_better(place.run.ranges().len(), previous, next) {
         let [second, after @ ..] = place.after else {
             return None;
         };
@@ -54,7 +68,8 @@ fn pair_at<'a>(place: SplitAtRun<'a, Block>, reaches_next: bool) -> Option<Pair<
 
 /// Edits the block of a range together with a neighbour in its node, and returns the new blocks of the node. The ranges
 /// of the two blocks become one block if they fit, and otherwise two blocks of about the same length. Returns `None` if
-/// the edit reaches a further block, if both blocks would be empty, or if the fill rule would be broken.
+/// the range reaches a third block or another node, if the node has no such neighbour, if both blocks would be empty,
+/// or if the fill rule would be broken.
 pub(crate) fn edit_pair(
     alloc: Global,
     around: &SplitAtRun<'_, Node>,

@@ -95,7 +95,7 @@ pub(crate) fn with_pieces_between(
     Ok(blocks)
 }
 
-/// Returns the ranges of a block after an edit.
+/// Returns ranges after an edit.
 pub(crate) fn edit_ranges(
     alloc: Global,
     ranges: &[(u64, u64)],
@@ -250,8 +250,8 @@ fn edit_two_blocks(
 
 /// Inserts or removes a range, and rebuilds the block that it belongs to. The node of this block is rebuilt as well if
 /// it is shared, or if the block is split. If the range reaches the next block, if the block would be empty, or if the
-/// fill rule would be broken, the block and a neighbour in its node are rebuilt together. Returns `None` if this does
-/// not help.
+/// fill rule would be broken, the block and a neighbour in its node are rebuilt together, and so is the node. Returns
+/// `None` if the range reaches a third block or another node, or if the fill rule would still be broken.
 ///
 /// # Errors
 ///

@@ -21,7 +21,8 @@ fn may_be_adjacent(most: usize, first: usize, second: usize) -> bool
     first == 0 || first > most.saturating_sub(second)
 }
 
-/// Returns the position at which to split `count` items into lists of at most `most`, after a list of length `before`.
+/// Returns the position at which to split `count` items, at most twice `most`, into two lists of at most `most`, after
+/// a list of length `before`. Returns `count` if one list suffices. `before` is 0 if there is no such list.
 fn split_position(most: usize, count: usize, before: usize) -> usize
     requires { most ≤ MAX_BLOCK_RANGES }
     ensures { result ≤ count }
@@ -30,7 +31,7 @@ fn split_position(most: usize, count: usize, before: usize) -> usize
         return count;
     }
     let half = count / 2;
-    if before > most.saturating_sub(half) {
+    if half == most || before > most.saturating_sub(half) {
         half
     } else {
         half + 1

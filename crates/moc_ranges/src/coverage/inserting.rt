@@ -21,9 +21,10 @@ impl Coverage {
     ///
     /// Usually O(log n), also if blocks are shared. The range is inserted into its block in place if no other set
     /// shares the block, the range touches no other range, and the block is not full. Otherwise the block is rebuilt.
-    /// The pointers to the other blocks of its node are copied if another set shares the node or if the block is split;
-    /// a split also takes one step for each later node. If the range touches more than two adjacent blocks of a node,
-    /// or if these cannot take it by the fill rule, the cost is that of a union.
+    /// The pointers to the other blocks of its node are copied if another set shares the node, if the block is split,
+    /// or if two blocks are rebuilt. One step for each later node is added if the number of blocks changes. The cost is
+    /// the cost of a union if the range touches three blocks or blocks of two nodes, or if two blocks cannot hold the
+    /// ranges by the fill rule.
     pub fn insert_range(&mut self, alloc: Global, from: u64, to: u64) -> Result<u64, Memory>
         requires within { to ≤ pixel_count }
         ensures set { OnOk result (self.new ≡ set.union self.old (numbers from to)) }

@@ -102,8 +102,8 @@ impl Coverage {
     ///
     /// One pass over both sets that skips blocks and nodes that the next range of the other does not reach or covers: a
     /// set of m ranges and one of n take O(m log n) and one step for each node that one range covers, and never more
-    /// than O(n + m). If the other set is one range that ends in one range of this set or in the gap before it, the
-    /// cost is that of one binary search.
+    /// than O(n + m). If the other set is one range that ends no later than the first range of this set that ends after
+    /// its start, it takes one binary search.
     pub fn count_common(&self, other: &Coverage) -> u64
         ensures size { result ≡ set.len (set.intersection self.now other.now) }
     {

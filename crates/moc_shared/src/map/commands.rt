@@ -87,8 +87,9 @@ impl SharedMap {
     /// map is then unchanged, and the client holds no part.
     ///
     /// # Complexity
-    /// One compare-exchange, and the cost of `Coverage::insert_cell`, `remove_cell` or `count_cell`. A count allocates
-    /// nothing.
+    /// One compare-exchange, and the cost of `Coverage::insert_cell`, `remove_cell` or `count_cell`. A claim has the
+    /// cost of a count and of an addition. If someone else shares the list of the part, a change first copies a pointer
+    /// and a number for each of its nodes. A count allocates nothing.
     pub fn try_answer_cell(
         &self,
         client: &mut Client,
