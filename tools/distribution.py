@@ -5,7 +5,7 @@ usage: tools/distribution.py install [PREFIX]
        tools/distribution.py package [FOLDER]
 
 `install` copies the files below the prefix, which is /usr/local by default. If the environment variable DESTDIR is set, it is put before
-the prefix. The file `share/ploverchaise/install_manifest.txt` lists the installed files, so `xargs rm < FILE` uninstalls them.
+the prefix. The file `share/ploverchaise/install_manifest.txt` lists the installed files, so `xargs -d '\\n' rm < FILE` uninstalls them.
 
 `package` writes into the folder, which is `dist` by default: an archive that is unpacked below any prefix, the wheel of the Python package,
 the manifest (`manifest.py`), and SHA256SUMS. The same sources and tools make the same bytes. The time of the files is that of the commit,
@@ -98,9 +98,17 @@ def library_files() -> Files:
             f"lib/pkgconfig/{NAME}.pc": File(template(f"{NAME}.pc"), DATA), **headers, **configs}
 
 
+def make_folders(path: str) -> None:
+    """Makes a folder and the folders above it that do not exist. All users may read them, whatever the umask is."""
+    if path and not os.path.isdir(path):
+        make_folders(os.path.dirname(path))
+        os.mkdir(path)
+        os.chmod(path, 0o755)
+
+
 def write_file(path: str, file: File) -> None:
     """Writes a file with its folders. Replaces an earlier file as a whole, so that a running program keeps its own."""
-    os.makedirs(os.path.dirname(path), exist_ok=True)
+    make_folders(os.path.dirname(path))
     new = f"{path}.new"
     if os.path.lexists(new):
         os.remove(new)

@@ -28,6 +28,8 @@ for a missing neighbour."""
 _DTYPES = {"Q": "uint64", "B": "uint8", "I": "uint32"}
 # The cell of order 6 that contains a pixel is the pixel shifted right by this number of bits.
 _ORDER_6_SHIFT = 2 * (29 - 6)
+MIN_RANGES_FOR_SORTING = 2000
+"""An array is sorted before it is looked up only if the set has more ranges. The ranges of a smaller set are close together in memory."""
 # An array is sorted before it is looked up only if it is longer.
 _MIN_LENGTH_FOR_SORTING = 1000
 # Memory whose address replaces the address of an array without elements, which may be null.
@@ -113,6 +115,10 @@ class Input(ABC):
         """Returns an output with a row of `width` elements for each element. The type code of its elements is Q, I or B."""
 
     @abstractmethod
+    def to_list(self) -> list[int]:
+        """Returns the elements as a list."""
+
+    @abstractmethod
     def distinct(self) -> set[int]:
         """Returns the set of the elements."""
 
@@ -133,6 +139,10 @@ class Input(ABC):
         """Returns the positions of the elements of rows, such that pixels are sorted by the cell of order 6 that contains them.
 
         Returns None if sorting is not worthwhile."""
+
+    @abstractmethod
+    def is_ascending(self) -> bool:
+        """Returns whether the elements are known to be ascending."""
 
     @abstractmethod
     def flags_of_cells(self, bounds: array[int], order: int, is_whole: bool) -> Any:
@@ -222,6 +232,9 @@ class PlainInput(Input):
     def new_output(self, code: str = "Q", width: int = 1) -> PlainOutput:
         return PlainOutput(zeros(code, len(self.numbers) * width), width, self.is_scalar)
 
+    def to_list(self) -> list[int]:
+        return to_list(self.numbers)
+
     def distinct(self) -> set[int]:
         return set(self.numbers)
 
@@ -238,6 +251,10 @@ class PlainInput(Input):
 
     def sorting_order(self, rows: slice) -> None:
         """Returns None: the elements of a list are looked up in the given order."""
+
+    def is_ascending(self) -> bool:
+        """Returns False: a comparison of the elements of a list takes longer than it saves."""
+        return False
 
     def flags_of_cells(self, bounds: array[int], order: int, is_whole: bool) -> Any:
         starts, ends = bounds[::2], bounds[1::2]
@@ -357,6 +374,12 @@ class NumpyInput(Input):
 
         return NumpyOutput(numpy.empty(len(self.elements) * width, _DTYPES[code]), self.shape, width)
 
+    def to_list(self) -> list[int]:
+        numbers: list[int] = []
+        for rows in pieces_of(len(self)):
+            numbers += self.elements[rows].tolist()
+        return numbers
+
     def distinct(self) -> set[int]:
         import numpy
 
@@ -392,11 +415,20 @@ class NumpyInput(Input):
     def flags_of_cells(self, bounds: array[int], order: int, is_whole: bool) -> Any:
         import numpy
 
-        edges = numpy.asarray(bounds)
+        starts, ends = numpy.asarray(bounds).reshape(-1, 2).T.copy()
         flags = numpy.empty(len(self), bool)
         for rows in pieces_of(len(self)):
-            flags[rows] = _flags_of_cells(self.numbers(rows), edges[::2], edges[1::2], order, is_whole)
+            numbers = self.numbers(rows)
+            if len(starts) > MIN_RANGES_FOR_SORTING and (numbers[1:] < numbers[:-1]).any():
+                positions = numpy.argsort(numbers)
+                flags[rows][positions] = _flags_of_cells(numbers[positions], starts, ends, order, is_whole)
+            else:
+                flags[rows] = _flags_of_cells(numbers, starts, ends, order, is_whole)
         return flags.reshape(self.shape)[()]
+
+    def is_ascending(self) -> bool:
+        pieces = (self.numbers(slice(rows.start, min(rows.stop + 1, len(self)))) for rows in pieces_of(len(self)))
+        return not any((numbers[1:] < numbers[:-1]).any() for numbers in pieces)
 
 
 class NumpyOutput(Output):
@@ -508,6 +540,20 @@ def without_missing(numbers: Any) -> Any:
     import numpy
 
     return numpy.ma.compress_rows(numbers) if numbers.ndim == 2 else numbers.compressed()  # type: ignore[no-untyped-call]
+
+
+def without_missing_rows(*columns: Any) -> tuple[Any, ...]:
+    """Returns columns of one length without the rows in which one of them has a masked entry or a missing value of pandas."""
+    if not any(hasattr(column, "isna") or hasattr(column, "mask") for column in columns):
+        return columns
+    import numpy
+
+    masked: Any = numpy.ma
+    masks = [numpy.asarray(column.isna()) if hasattr(column, "isna") else masked.getmaskarray(column) for column in columns]
+    if len({mask.shape for mask in masks}) > 1:
+        return columns
+    is_kept = ~numpy.logical_or.reduce(masks)
+    return tuple(column[is_kept] if hasattr(column, "__array__") else numpy.asarray(column)[is_kept] for column in columns)
 
 
 def as_pairs(pairs: Pairs) -> Input:

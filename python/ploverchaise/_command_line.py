@@ -6,6 +6,7 @@ a text, it has the position and the quotation that the program `moc` prints. The
 from __future__ import annotations
 
 import argparse
+import errno
 import glob
 import itertools
 import math
@@ -84,7 +85,11 @@ def errors_of(file: str, name: str = "Read") -> Iterator[None]:
 def read_bytes(path: str) -> bytes:
     """Returns the content of a file or of standard input. Raises CommandError if it cannot be read."""
     with errors_of(display_name(path)):
-        return sys.stdin.buffer.read() if path == STANDARD_INPUT else read_file(path)
+        if path != STANDARD_INPUT:
+            return read_file(path)
+        if sys.stdin is None:
+            raise OSError(errno.EBADF, os.strerror(errno.EBADF))
+        return sys.stdin.buffer.read()
 
 
 def display_name(path: str) -> str:
@@ -131,6 +136,8 @@ def read_all(options: argparse.Namespace, least: int = 1) -> list[tuple[str, Cov
 
     Raises CommandError for the first file that is invalid, or if there are fewer files than the least number."""
     paths = list(find_files(options.files))
+    if paths.count(STANDARD_INPUT) > 1:
+        raise CommandError(USAGE, "ploverchaise", "- can be given only once")
     if len(paths) < least:
         raise CommandError(USAGE, "ploverchaise", f"{options.command} needs at least {least} files")
     return [(display_name(path), read_coverage(path)) for path in with_progress(paths, "read")]
@@ -170,7 +177,8 @@ def each_file(patterns: list[str], done: str, work: Callable[[str, CoverageFile]
 
 def report(error: CommandError) -> None:
     """Prints the message of an error."""
-    sys.stdout.flush()
+    if sys.stdout is not None:
+        sys.stdout.flush()
     print((CLEAR_LINE if sys.stderr.isatty() else "") + "\n".join(error.lines), file=sys.stderr)
 
 
@@ -291,6 +299,8 @@ def read_table(path: str, parse_fields: Callable[[list[bytes]], Any], fault: str
 
 def run_contains(options: argparse.Namespace) -> int:
     """Prints for each line of a table whether the coverage contains its position or its cell, or the lines that it contains."""
+    if options.file == options.table == STANDARD_INPUT:
+        raise CommandError(USAGE, "ploverchaise", "FILE and TABLE are both standard input")
     moc = read_coverage(options.file).moc
     if options.cells is None:
         rows = read_table(options.table, parse_position, "BadPosition")
@@ -311,6 +321,8 @@ def run_plot(options: argparse.Namespace) -> int:
     """Draws the coverages of files into one picture."""
     files = read_all(options)
     with errors_of(options.output, "Write"):
+        if not os.path.splitext(options.output)[1]:
+            raise CommandError(USAGE, "ploverchaise", f"{options.output} has no suffix such as .png")
         if os.path.exists(options.output) and not options.overwrite:
             raise FileExistsError(None, "File exists")
         draw_files(files, options)
@@ -404,6 +416,9 @@ def main(arguments: list[str] | None = None) -> int:
         The arguments, by default those of the process.
     """
     options = make_parser().parse_args(arguments)
+    if sys.stdout is None:
+        report(CommandError(FAILED, STANDARD_OUTPUT_NAME, "fault Write", "it is closed"))
+        return FAILED
     try:
         status: int = options.run(options)
         sys.stdout.flush()

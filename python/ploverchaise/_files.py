@@ -1,6 +1,7 @@
 """Files of coverages. The format of a file is recognized by its content, and that of a new file by its name."""
 from __future__ import annotations
 
+import contextlib
 import json
 import os
 import re
@@ -202,7 +203,29 @@ def write_file(path: str | os.PathLike[str], data: bytes, *, overwrite: bool) ->
         import gzip
 
         data = gzip.compress(data, mtime=0)
-    with open(path, "wb" if overwrite else "xb") as file:
+    if not overwrite or not os.path.isfile(path):
+        _write(path, data, "wb" if overwrite else "xb")
+        return
+    # The file is replaced as a whole, so that an exception leaves it unchanged.
+    import shutil
+    import tempfile
+
+    target = os.path.realpath(os.fsdecode(path))
+    descriptor, new = tempfile.mkstemp(dir=os.path.dirname(target))
+    os.close(descriptor)
+    try:
+        _write(new, data, "wb")
+        shutil.copymode(target, new)
+        os.replace(new, target)
+    except BaseException:
+        with contextlib.suppress(OSError):
+            os.remove(new)
+        raise
+
+
+def _write(path: str | os.PathLike[str], data: bytes, mode: str) -> None:
+    """Writes the content of a file in pieces."""
+    with open(path, mode) as file:
         for start in range(0, len(data), _PIECE):
             file.write(data[start:start + _PIECE])
 

@@ -112,6 +112,8 @@ def _moc_of(ordering: str, numbers: NDArray[Any], file: str) -> MOC:
     """Returns the coverage of the numbers of a table. Raises FileError with the row of the first invalid number."""
     import numpy
 
+    if numbers.dtype.kind not in "iu":
+        raise FileError("NotMoc", "the column has fractions: TSCAL1 or TZERO1 is not supported", file)
     integers = numbers.astype(numpy.int64)
     rows = 1
     if ordering.strip().upper() == "RANGE":

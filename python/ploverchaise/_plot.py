@@ -263,6 +263,8 @@ def view_of(ax: Any) -> View:
 def plot(moc: MOC, ax: Any, *, center: Any, radius: float | None, label: str | None, style: dict[str, Any]) -> Any:
     """Draws a coverage, and returns the axes, as `MOC.plot` documents it."""
     if ax is None:
+        if center is None and radius is not None:
+            raise ValueError("radius needs center")
         ax = new_sky() if center is None else new_field(center, radius)
     elif center is not None or radius is not None:
         raise ValueError("center and radius are for a new figure, and ax is for an existing one")

@@ -110,8 +110,10 @@ def cells_of_catalogue(lon: Any, lat: Any, depth: int) -> NDArray[Any]:
     masked: Any = numpy.ma
     longitudes, latitudes = degrees_of(lon, compress=True), degrees_of(lat, compress=True)
     mask = masked.getmaskarray(longitudes + latitudes)
-    longitudes, latitudes = numpy.broadcast_arrays(longitudes.data, latitudes.data)
-    return pixels_of(longitudes[~mask], latitudes[~mask], depth)
+    # A masked position may have any value, and errors have the index in the whole array.
+    longitudes, latitudes = (numpy.where(mask, 0.0, angles.data) for angles in (longitudes, latitudes))
+    cells: NDArray[Any] = pixels_of(longitudes, latitudes, depth)[~mask]
+    return cells
 
 
 def flags_of_positions(contains: Callable[[NDArray[Any]], Any], lon: Any, lat: Any) -> Any:

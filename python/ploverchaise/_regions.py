@@ -109,12 +109,13 @@ def _touching_cells(cells: list[tuple[int, int]], has_corners: bool) -> Iterator
 def ranges_by_value(uniqs: Input, values: Iterable[float], order: int, sums: tuple[float, float], is_ascending: bool, is_strict: bool,
                     is_whole: bool, is_reversed: bool) -> list[tuple[int, int]]:
     """Returns the ranges of pixels of the cells between two sums of values, as `MOC.from_valued_healpix_cells` describes."""
-    numbers = [int(uniqs.text_of_row(row)) for row in range(len(uniqs))]
+    numbers = uniqs.to_list()
     weights = [float(value) for value in values]
     if len(numbers) != len(weights):
         raise ValueError(f"there are {len(weights)} values for {len(numbers)} cells")
-    if any(map(math.isnan, weights)):
-        raise ValueError(f"value {next(place for place, weight in enumerate(weights) if math.isnan(weight))} is not a number")
+    for place, weight in enumerate(weights):
+        if not math.isfinite(weight) or weight < 0:
+            raise ValueError(f"value {place} is {weight}, not a finite number from 0")
     nsides, cells = uniq2nest(numbers)
     densities = [weight * nside**2 for weight, nside in zip(weights, nsides)]
     ranges: list[tuple[int, int]] = []

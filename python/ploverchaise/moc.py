@@ -9,8 +9,8 @@ from functools import partial
 from itertools import chain
 from typing import TYPE_CHECKING, Any, Literal, Self, SupportsIndex, TypeVar, overload
 
-from ._arrays import (PIECE_LENGTH, ArrayLike, Buffer, Input, Integers, Numbers, Pairs, PlainInput, as_input, as_pairs, buffer_of,
-                      pieces_of, without_missing, zeros)
+from ._arrays import (MIN_RANGES_FOR_SORTING, PIECE_LENGTH, ArrayLike, Buffer, Input, Integers, Numbers, Pairs, PlainInput, as_input,
+                      as_pairs, buffer_of, pieces_of, without_missing, without_missing_rows, zeros)
 from ._codes import TOO_COARSE
 from ._library import (NO_ORDER, c_arguments, call_on_rows, call_with_store, check_result, open_store, run_interruptibly,
                        store_functions, text_of)
@@ -31,8 +31,6 @@ AnyMOC = TypeVar("AnyMOC", bound="MOC")
 PIXEL_COUNT = 12 * 4**29
 """The number of pixels of the sky, which are cells of order 29."""
 
-# Pixels are sorted before they are looked up only if the set has more ranges. The ranges of a smaller set are close together in memory.
-_MIN_RANGES_FOR_SORTING = 2000
 # The functions of the library that parse a text, by the name of its format.
 _PARSERS = {"ascii": "read_ascii", "json": "read_json", "uniq": "read_uniq"}
 _FORMAT_NAMES = {"ascii": "ASCII", "json": "JSON", "uniq": "a NUNIQ list"}
@@ -40,8 +38,8 @@ _FORMAT_NAMES = {"ascii": "ASCII", "json": "JSON", "uniq": "a NUNIQ list"}
 _MAX_SHORT_RANGES, _MAX_SHORT_TEXT = 500_000, 2**22
 # At most this number of pixels is looked up without a copy of the MOC.
 _MAX_SHORT_LENGTH = 1000
-# The number of bytes that are read from a file, or written to it, without a step of Python code in between.
-_READ_LENGTH = 2**24
+# At most this number of ascending pixels is looked up at once. The library walks through the ranges with them, from the first one.
+_MAX_ASCENDING_LENGTH = 2**21
 # The orders to which a picture is degraded until it is small. Order 29 leaves it unchanged.
 _PICTURE_ORDERS = (29, 6, 5, 4, 3, 2, 1, 0)
 # The maximal numbers of characters of `str`, and of bytes of the picture that a notebook displays.
@@ -351,7 +349,7 @@ class MOC:
         check_order(max_depth)
         orders: Any = depth
         if hasattr(depth, "__iter__"):
-            moc = cls._from_cells_of_orders(as_input(ipix), as_input(orders))
+            moc = cls._from_cells_of_orders(*map(as_input, without_missing_rows(ipix, orders)))
         else:
             moc = cls._from_input("from_cells", check_order(orders), as_input(without_missing(ipix)))
         return moc._degraded(max_depth)
@@ -467,7 +465,7 @@ class MOC:
         MocError
             `NotUniq` with the position of the first number that is not a NUNIQ number; `NoSuchOrder` if `max_depth` is not 0 to 29.
         ValueError
-            If the number of values differs from the number of cells, or if a value is not a number.
+            If the number of values differs from the number of cells, or if a value is not a finite number from 0.
 
         Examples
         --------
@@ -1014,9 +1012,10 @@ class MOC:
         def look_up(piece: Buffer, flags_of_piece: Buffer) -> None:
             call_with_store("contains_all", store, copied, *c_arguments(piece, flags_of_piece))
 
-        has_many_ranges = self.range_count() > _MIN_RANGES_FOR_SORTING
-        for rows in pieces_of(count):
-            positions = pixels.sorting_order(rows) if has_many_ranges else None
+        is_ascending = pixels.is_ascending()
+        is_sorted_first = not is_ascending and self.range_count() > MIN_RANGES_FOR_SORTING
+        for rows in pieces_of(count, _MAX_ASCENDING_LENGTH if is_ascending else PIECE_LENGTH):
+            positions = pixels.sorting_order(rows) if is_sorted_first else None
             if positions is None:
                 look_up(pixels.buffer(rows), flags.buffer(rows))
             else:
@@ -1339,7 +1338,7 @@ class MOC:
         center : (float, float) or SkyCoord, optional
             The position in the middle of a new figure of a part of the sky, in degrees (ICRS). Without it, a new figure has the whole sky.
         radius : float, optional
-            The distance in degrees from the center to the sides of the figure, above 0 and at most 90.
+            The distance in degrees from the center to the sides of the figure, above 0 and at most 60.
         label : str, optional
             The name of the MOC in the legend.
         **style
@@ -1452,7 +1451,9 @@ def _likely_format(text: bytes) -> str | None:
 
 def _json_member(order: object, cells: Iterable[SupportsIndex]) -> str:
     """Returns the text in JSON of the cells of an order."""
-    return f'"{order}":[{",".join([str(operator.index(cell)) for cell in cells])}]'
+    from json import dumps
+
+    return f'{dumps(str(order))}:[{",".join([str(operator.index(cell)) for cell in cells])}]'
 
 
 def _fold(text: str, width: int, separator: str) -> Iterator[str]:

@@ -2,6 +2,7 @@
 from __future__ import annotations
 
 import operator
+import math
 import time
 from typing import Callable, TypeVar
 
@@ -9,7 +10,7 @@ from ._codes import BUSY
 from ._library import call_with_client, call_with_store, open_client, open_store, text_of
 from ._signatures import ClientHandle
 from .errors import MocError
-from .moc import MOC
+from .moc import MOC, _check_moc
 
 Value = TypeVar("Value")
 
@@ -165,7 +166,7 @@ class SharedMap:
         clients = operator.index(clients)
         if not 1 <= clients <= 63:
             raise ValueError(f"clients must be 1 to 63, not {clients}")
-        initial = MOC() if start is None else start
+        initial = MOC() if start is None else _check_moc(start)
         store = open_store()
         copied = initial._copy_to(store)
         self._client = MapClient._create(lambda handle: call_with_client("map_begin", handle, store, copied, clients + 1).first)
@@ -211,6 +212,8 @@ class SharedMap:
 
 def _retry_while_busy(call: Callable[[], Value], timeout: float | None) -> Value:
     """Returns the value of a call. Repeats the call after a pause if it raises MocError `Busy` and the timeout has not passed."""
+    if timeout is not None and math.isnan(timeout):
+        raise ValueError("the timeout is not a number")
     pause, ends = _MIN_PAUSE, None if timeout is None else time.monotonic() + timeout
     while True:
         try:

@@ -158,8 +158,11 @@ class WithNumpy(TestCase):
         self.assertArray(nest2ring(512, whole), nest2ring(512, [100, 101]), "int64")
         self.assertArray(MOC.full().contains(whole.array), [True, True], "bool")
         self.assertEqual(MOC.from_healpix_cells(whole, table["order"][whole.index]), MOC.from_healpix_cells([100, 101], 9))
-        calls: list[Callable[[], object]] = [lambda: MOC.full().contains(table["cell"]), lambda: nest2ring(512, table["cell"]),
-                                             lambda: MOC.from_healpix_cells(table["cell"], table["order"])]
+        self.assertEqual(str(MOC.from_healpix_cells(table["cell"], table["order"])), "9/100-101")
+        masked = numpy.ma.array([1, 2], mask=[False, True])
+        self.assertEqual(str(MOC.from_healpix_cells(masked, [3, 4])), "3/1")
+        self.assertEqual(str(MOC.from_healpix_cells([1, 2], masked + 2)), "3/1")
+        calls: list[Callable[[], object]] = [lambda: MOC.full().contains(table["cell"]), lambda: nest2ring(512, table["cell"])]
         for call in calls:
             with self.assertRaisesRegex(TypeError, "missing"):
                 call()

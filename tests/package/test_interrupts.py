@@ -154,7 +154,7 @@ class Interrupts(TestCase):
                 start = used_memory()
             self.assertInterrupted(lambda: (moc | ~moc, MOC.from_string(text), moc.to_string()))
         self.wait_for_other_threads()
-        self.assertLess(used_memory() - start, 5 * MAX_GROWTH_KIB)
+        self.assertLess(used_memory() - start, MAX_GROWTH_KIB)
 
     def wait_for_other_threads(self) -> None:
         """Waits until the calls that were interrupted have ended."""

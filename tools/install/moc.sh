@@ -5,4 +5,8 @@ if [ -L "$file" ]; then
     file="$(readlink -f "$file")"
 fi
 export GLIBC_TUNABLES="${GLIBC_TUNABLES-glibc.malloc.hugetlb=1}"
-exec "${file%/*}/../libexec/ploverchaise/moc" "$@"
+case "$file" in
+    */*) folder="${file%/*}" ;;
+    *) folder=. ;;
+esac
+exec "$folder/../libexec/ploverchaise/moc" "$@"

@@ -35,9 +35,8 @@ fn is_next_better(length: usize, previous: usize, next: usize) -> bool {
     }
 }
 
-/// Returns the block at a place together with the next block if the edit reaches it, and otherwise with the longer of
-/// its neighbours, or with the shorter one if two blocks cannot hold the ranges of the longer one too. Returns `None`
-/// if the node has no such neighbour.
+/// Returns the block at a place together with a neighbour: with the next block if the edit reaches it, and otherwise
+/// with the better one (`is_next_better`). Returns `None` if the node has no such neighbour.
 fn pair_at<'a>(place: SplitAtRun<'a, Block>, reaches_next: bool) -> Option<Pair<'a>>
     ensures { IfSome result (λ p. IsPair place.entry.before.now place.entry.run.now place.entry.after.now
         p.before.now p.first.now p.second.now p.after.now) }
