@@ -145,8 +145,8 @@ DEFECTS = [
     Defect("map_drops_the_timeout", "", "python/ploverchaise/shared.py",
            "        return self._client.apply(line, timeout)", "        return self._client.apply(line)", "package"),
     Defect("cells_of_several_orders_are_not_degraded", "", "python/ploverchaise/moc.py",
-           "            moc = cls._from_cells_of_orders(as_input(ipix), as_input(orders))",
-           "            return cls._from_cells_of_orders(as_input(ipix), as_input(orders))", "package"),
+           "            moc = cls._from_cells_of_orders(*map(as_input, without_missing_rows(ipix, orders)))",
+           "            return cls._from_cells_of_orders(*map(as_input, without_missing_rows(ipix, orders)))", "package"),
     Defect("deleted_sets_run_python_code", "", "python/ploverchaise/_library.py",
            'setattr(StoreHandle, "__del__", _method(declare_function(library, "store_close", None, STORE)))',
            '_close_store = declare_function(library, "store_close", None, STORE)\n'
