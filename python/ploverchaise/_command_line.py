@@ -117,6 +117,12 @@ def find_files(patterns: Iterable[str]) -> Iterator[str]:
         yield from paths
 
 
+def check_standard_input(paths: list[str]) -> None:
+    """Raises CommandError if standard input is given twice. It would be empty the second time."""
+    if paths.count(STANDARD_INPUT) > 1:
+        raise CommandError(USAGE, "ploverchaise", "- can be given only once")
+
+
 def with_progress(items: list[str], done: str) -> Iterator[str]:
     """Yields the items. On a terminal, shows how many are done."""
     if not sys.stderr.isatty():
@@ -136,8 +142,7 @@ def read_all(options: argparse.Namespace, least: int = 1) -> list[tuple[str, Cov
 
     Raises CommandError for the first file that is invalid, or if there are fewer files than the least number."""
     paths = list(find_files(options.files))
-    if paths.count(STANDARD_INPUT) > 1:
-        raise CommandError(USAGE, "ploverchaise", "- can be given only once")
+    check_standard_input(paths)
     if len(paths) < least:
         raise CommandError(USAGE, "ploverchaise", f"{options.command} needs at least {least} files")
     return [(display_name(path), read_coverage(path)) for path in with_progress(paths, "read")]
@@ -166,7 +171,15 @@ def print_table(rows: list[list[str]]) -> None:
 def each_file(patterns: list[str], done: str, work: Callable[[str, CoverageFile], None]) -> int:
     """Does the work for each file that is valid, reports the others, and returns the greatest exit status."""
     status = OK
-    for path in with_progress(list(find_files(patterns)), done):
+    paths: list[str] = []
+    for pattern in patterns:
+        try:
+            paths += find_files([pattern])
+        except CommandError as error:
+            report(error)
+            status = max(status, error.status)
+    check_standard_input(paths)
+    for path in with_progress(paths, done):
         try:
             work(path, read_coverage(path))
         except CommandError as error:

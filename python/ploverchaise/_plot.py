@@ -236,6 +236,9 @@ def new_field(center: Any, radius: float | None) -> Any:
     if hasattr(center, "transform_to"):
         equatorial = center.transform_to("icrs")
         center = equatorial.ra.deg, equatorial.dec.deg
+    longitude, latitude = map(float, center)
+    if not math.isfinite(longitude) or not abs(latitude) <= 90:
+        raise ValueError(f"center must be a finite longitude and a latitude from -90 to 90, not {longitude:g} and {latitude:g}")
     scale = 2 * radius * SMALLEST_PART
     wcs = WCS(naxis=2)
     wcs.wcs.ctype = ["RA---ZEA", "DEC--ZEA"]

@@ -89,6 +89,25 @@ class Commands(CommandCase):
         self.assertEqual(self.run_command("check", "-", text="5/7x"),
                          (1, "", "standard input: fault BadByte\nstandard input: byte 3, line 1, byte 3 of it: `5/7x`\n"))
         self.assertEqual(self.run_command("check", "*.none"), (3, "", "*.none: fault Read\n*.none: no file matches\n"))
+        # A pattern without a file does not stop the check of the other files.
+        self.assertEqual(self.run_command("check", "*.none", "a.moc"), (3, "a.moc: ok\n", "*.none: fault Read\n*.none: no file matches\n"))
+
+    def test_standard_input_twice(self) -> None:
+        for arguments in (("intersection", "-", "-"), ("overlap", "-", "-"), ("check", "-", "-"), ("info", "-", "-")):
+            self.assertEqual(self.run_command(*arguments, text="0/0"), (2, "", "ploverchaise: - can be given only once\n"), arguments)
+        self.assertEqual(self.run_command("contains", "-", text="0/0").status, 2)
+
+    def test_closed_standard_output(self) -> None:
+        command = [sys.executable, "-m", "ploverchaise", "convert", "a.moc"]
+        result = subprocess.run(["sh", "-c", '"$@" >&-', "sh", *command], cwd=self.folder, stderr=subprocess.PIPE, text=True, timeout=60)
+        self.assertEqual((result.returncode, result.stderr.splitlines()[0]), (3, "standard output: fault Write"))
+
+    def test_a_failed_write_leaves_the_old_file(self) -> None:
+        path = self.folder / "a.moc"
+        with mock.patch("ploverchaise._files._write", side_effect=OSError("no space")), self.assertRaises(OSError):
+            MOC.from_string("0/3").save(path, overwrite=True)
+        self.assertEqual(path.read_text(), "0/0 1/4-5 5/\n")
+        self.assertEqual(sorted(item.name for item in self.folder.iterdir() if item.name.startswith(("tmp", "a.moc"))), ["a.moc", "a.moc.gz"])
 
     def test_info(self) -> None:
         result = self.run_command("info", "a.moc", "c.uniq", "empty.moc")

@@ -140,6 +140,12 @@ class Tables(TestCase):
         path = self.folder / "moc.fits"
         self.assertFault("TooCoarse", (), MOC.from_string("5/0").save, path, max_order=4)
         self.assertFalse(path.exists())
+        scaled = fits.open(io.BytesIO(make_file([8, 43], nuniq)))
+        scaled[1].header["TSCAL1"] = 0.5
+        scaled.writeto(path)
+        with self.assertRaisesRegex(ValueError, "TSCAL1"):
+            MOC.load(path)
+        path.unlink()
         columns = [fits.Column(name=name, format="1K", array=numpy.array([4])) for name in ("UNIQ", "PROBDENSITY")]
         two = fits.BinTableHDU.from_columns(columns)
         two.header["ORDERING"] = "NUNIQ"

@@ -164,6 +164,8 @@ class Pictures(TestCase):
         sky.set(xlim=(-170, 170), ylim=(-85, 85))
         calls: list[tuple[str, dict[str, Any]]] = [
             ("radius", {"center": (0, 0)}), ("radius", {"center": (0, 0), "radius": 0}), ("radius", {"center": (0, 0), "radius": 61}),
+            ("radius needs center", {"radius": 5}), ("center", {"center": (float("nan"), 0), "radius": 5}),
+            ("latitude from -90 to 90, not 10 and 100", {"center": (10, 100), "radius": 5}),
             ("existing", {"ax": moc.plot(), "center": (0, 0), "radius": 3}), ("Mollweide", {"ax": pyplot.figure().add_subplot()}),
             ("part of the sky", {"ax": sky})]
         for message, arguments in calls:

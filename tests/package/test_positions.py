@@ -50,6 +50,8 @@ class Positions(TestCase):
         self.assertEqual(MOC.from_lonlat(lon, lat, 0), MOC.from_string("0/0"))
         with self.assertRaisesRegex(TypeError, "masked"):
             MOC.full().contains_lonlat(lon, 0.0)
+        with self.assertRaisesRegex(ValueError, "longitude nan at index 3"):
+            MOC.from_lonlat(numpy.ma.array([1, 2, 3, numpy.nan], mask=[True, True, False, False]), [0, 0, 0, 0], 3)
 
     def test_invalid_positions(self) -> None:
         invalid: list[tuple[list[float], list[float], str]] = [
