@@ -107,7 +107,8 @@ class Commands(CommandCase):
         with mock.patch("ploverchaise._files._write", side_effect=OSError("no space")), self.assertRaises(OSError):
             MOC.from_string("0/3").save(path, overwrite=True)
         self.assertEqual(path.read_text(), "0/0 1/4-5 5/\n")
-        self.assertEqual(sorted(item.name for item in self.folder.iterdir() if item.name.startswith(("tmp", "a.moc"))), ["a.moc", "a.moc.gz"])
+        names = [item.name for item in self.folder.iterdir() if item.name.startswith(("tmp", "a.moc"))]
+        self.assertEqual(sorted(names), ["a.moc", "a.moc.gz"])
 
     def test_info(self) -> None:
         result = self.run_command("info", "a.moc", "c.uniq", "empty.moc")
