@@ -351,7 +351,7 @@ split_after_edit edit from to front back before after run ranges first second si
 nonempty_middle : {X : Type 0} → (xs ys zs : List X) → 0 < length ys → 0 < length (xs ++ (ys ++ zs))
 nonempty_middle xs ys zs some = omega (arith, some, length-append xs (ys ++ zs), length-append ys zs)
 
--- the blocks of a node, of which one or two adjacent ones with the ranges `run` were edited and split
+-- the blocks of a node after one or two adjacent blocks, with the ranges `run`, were edited and split
 node_blocks_after_edit : (edit : EditKind) (from to : ℕ) (before after node b1 middle b2 : List (List (ℕ × ℕ))) (run ranges first second : List (ℕ × ℕ)) (front back : ℕ) (blocks : List (List (ℕ × ℕ))) → AreBlocks (before ++ b1) → AreBlocks (b2 ++ after) → 0 < length run → IsNormal (concat (before ++ (node ++ after))) → node ≡ b1 ++ (middle ++ b2) → concat middle ≡ run → EndsBelow from (concat before) → EndsBelow from (concat b1) → to < next_of (concat b2 ++ concat after) → AreEditedRanges edit from to run ranges → front ≡ last_length (before ++ b1) → back ≡ first_length (b2 ++ after) → IsSplit 128 front back ranges first second → blocks ≡ b1 ++ (pieces first second ++ b2) → IsNodeBlocks edit from to before after node blocks
 node_blocks_after_edit edit from to before after node b1 middle b2 run ranges first second front back blocks sized_before sized_after some normal parts is_run below1 below2 above more is_front is_back cut made =
     let old : concat (before ++ (node ++ after)) ≡ concat (before ++ b1) ++ (run ++ concat (b2 ++ after)) =
@@ -370,7 +370,7 @@ node_blocks_after_edit edit from to before after node b1 middle b2 run ranges fi
           (subst (λ (l : List (ℕ × ℕ)). IsEdited edit from to l (concat ((before ++ b1) ++ (pieces first second ++ (b2 ++ after))))) (sym old) flat.2);
     }
 
--- the blocks of a node, of which one was edited and split
+-- the blocks of a node after one was edited and split
 pub node_blocks_after_regrowth : (edit : EditKind) (from to : ℕ) (before after node b1 b2 : List (List (ℕ × ℕ))) (run ranges first second : List (ℕ × ℕ)) (front back : ℕ) (blocks : List (List (ℕ × ℕ))) → AreBlocks (before ++ (node ++ after)) → IsNormal (concat (before ++ (node ++ after))) → node ≡ b1 ++ run ∷ b2 → EndsBelow from (concat before) → EndsBelow from (concat b1) → to < next_of (concat b2 ++ concat after) → AreEditedRanges edit from to run ranges → front ≡ last_length (before ++ b1) → back ≡ first_length (b2 ++ after) → IsSplit 128 front back ranges first second → blocks ≡ b1 ++ (pieces first second ++ b2) → IsNodeBlocks edit from to before after node blocks
 node_blocks_after_regrowth edit from to before after node b1 b2 run ranges first second front back blocks sized normal parts below1 below2 above more is_front is_back cut made =
     let flat = subst AreBlocks (ap (λ (l : List (List (ℕ × ℕ))). before ++ (l ++ after)) parts ∙ append_spread before b1 (run ∷ []) b2 after) sized in
@@ -378,7 +378,7 @@ node_blocks_after_regrowth edit from to before after node b1 b2 run ranges first
     node_blocks_after_edit edit from to before after node b1 (run ∷ []) b2 run ranges first second front back blocks around.0 around.1
     (fill_rule_nonempty 128 (before ++ b1) (b2 ++ after) run flat) normal parts (append_empty run) below1 below2 above more is_front is_back cut made
 
--- the blocks of a node, of which two adjacent ones were edited together and split
+-- the blocks of a node after two adjacent ones were edited together and split
 pub node_blocks_after_pair : (edit : EditKind) (from to : ℕ) (before after node b1 b2 : List (List (ℕ × ℕ))) (one two ranges first second : List (ℕ × ℕ)) (front back : ℕ) (blocks : List (List (ℕ × ℕ))) → AreBlocks (before ++ (node ++ after)) → IsNormal (concat (before ++ (node ++ after))) → node ≡ b1 ++ one ∷ (two ∷ b2) → EndsBelow from (concat before) → EndsBelow from (concat b1) → to < next_of (concat b2 ++ concat after) → AreEditedRanges edit from to (one ++ two) ranges → front ≡ last_length (before ++ b1) → back ≡ first_length (b2 ++ after) → IsSplit 128 front back ranges first second → blocks ≡ b1 ++ (pieces first second ++ b2) → IsNodeBlocks edit from to before after node blocks
 node_blocks_after_pair edit from to before after node b1 b2 one two ranges first second front back blocks sized normal parts below1 below2 above more is_front is_back cut made =
     let flat = subst AreBlocks (ap (λ (l : List (List (ℕ × ℕ))). before ++ (l ++ after)) parts ∙ append_spread before b1 (one ∷ (two ∷ [])) b2 after) sized in
