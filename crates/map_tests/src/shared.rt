@@ -1,5 +1,5 @@
 //! Replies to the clients of one map.
-ghost use Rattle.std.specs.Prelude.{◌≤◌, All, IfSome};
+ghost use Rattle.std.specs.Prelude.{◌<◌, ◌≤◌, All, IfSome};
 ghost use Rattle.moc_shared.specs.Clients.{IsClientOf, IsHoldingOf};
 
 use crate::shown::is_shown;
@@ -701,15 +701,14 @@ fn commands_on_one_cell(rt: HostRuntime) {
     ends_as(&rt, alloc, other, b, &pairs);
 }
 
-/// Returns the part and the holder that a command on a cell finds.
-fn holder_at(map: &SharedMap, client: &mut Client, command: &CellCommand) -> Option<(u8, u8)>
-    requires { IsClientOf map.now client.old }
-    ensures { IsClientOf map.now client.new }
+/// Returns the error of a command that finds a part held.
+fn busy_at(part: u8, holder: u8) -> Option<TryError>
+    requires { part < 12 }
 {
-    match map.try_answer_cell(client, command) {
-        Err(TryError::Busy(busy)) => Some((busy.part.get(), busy.holder)),
-        _ => None,
-    }
+    Some(TryError::Busy(Busy {
+        part: Part::of(part),
+        holder,
+    }))
 }
 
 #[test]
@@ -719,9 +718,12 @@ fn a_command_on_a_cell_finds_a_held_part(rt: HostRuntime) {
     let number = a.number();
     let holding = hold(&rt, alloc, &map, a, Command::Add(base(&rt, alloc, 3, 5)));
     let count = on_cell(&rt, CellAction::Count, 1, 19);
-    assert_eq!(rt; holder_at(&map, &mut b, &count), Some((4, number)));
+    assert_eq!(rt;
+        map.try_answer_cell(&mut b, &count).err(),
+        busy_at(4, number)
+    );
     let add = on_cell(&rt, CellAction::Add, 29, 3 * BASE);
-    assert_eq!(rt; holder_at(&map, &mut b, &add), Some((3, number)));
+    assert_eq!(rt; map.try_answer_cell(&mut b, &add).err(), busy_at(3, number));
     let free = on_cell(&rt, CellAction::Add, 29, 5 * BASE);
     tries_cell(&rt, &map, &mut b, &free, &Reply::Changed(1));
     let a = finish_after(&rt, &map, holding, 2 * BASE);
