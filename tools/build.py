@@ -58,6 +58,8 @@ FUNCTION_FILE = re.compile(r"(?<!\.TheImpl)\.Proof\.oantt$")
 SUCCESS_LINE = re.compile(r"^(struct|enum|impl|fn) \S+: proved|: modules loaded=|^so far: ")
 # The verdict of a check about a crate.
 VERDICT = re.compile(r"^logic=proved .*$", re.MULTILINE)
+# The verdict about a library that an earlier run of `rt` on this machine proved from the same files. `rt` then prints none.
+KEPT_VERDICT = "logic=proved by an earlier run of rt from the same files"
 
 
 def size_of(crate: str) -> int:
@@ -280,8 +282,8 @@ class Build:
                 verdict = run_rt(folder, ["lib", "--jobs", str(jobs)], crate, self.progress, niceness)
             is_proved = verdict is not None
             save_results(workspace, crate)
-            if verdict:
-                save_verdict(crate, digest_of_crate(crate, workspace), verdict)
+            if is_proved:
+                save_verdict(crate, digest_of_crate(crate, workspace), verdict or KEPT_VERDICT)
             shutil.rmtree(workspace, ignore_errors=True)
         finally:
             with self.changed:
