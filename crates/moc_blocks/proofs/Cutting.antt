@@ -16,10 +16,10 @@ use Rattle.moc_blocks.proofs.Blocking.{IsNormal-prefix, IsNormal-suffix, append_
 use Rattle.moc_blocks.proofs.Passing.{all_ranges-ranges}
 use Rattle.moc_blocks.proofs.Merging.{EndsBelow-append, normal_append}
 
-is_less : (m n : ℕ) → m < n → nat_lt m n ≡ true
+pub is_less : (m n : ℕ) → m < n → nat_lt m n ≡ true
 is_less m n lt = grind (arith, nat_tests)
 
-not_less : (m n : ℕ) → n ≤ m → nat_lt m n ≡ false
+pub not_less : (m n : ℕ) → n ≤ m → nat_lt m n ≡ false
 not_less m n le = grind (arith, nat_tests)
 
 less_of : (m n : ℕ) → nat_lt m n ≡ true → m < n
@@ -198,7 +198,7 @@ cut_out from to old new normal filled within made =
 
 -- ---- the code's slices
 
-ended_first : (limit k : ℕ) (ranges : List (ℕ × ℕ)) → EndsBy limit (all_ranges (λ (r : ℕ × ℕ). r ∷ []) (take k ranges)) → EndsBy limit (take k ranges)
+pub ended_first : (limit k : ℕ) (ranges : List (ℕ × ℕ)) → EndsBy limit (all_ranges (λ (r : ℕ × ℕ). r ∷ []) (take k ranges)) → EndsBy limit (take k ranges)
 ended_first limit k ranges ended = subst (λ (l : List (ℕ × ℕ)). EndsBy limit l) (all_ranges-ranges (take k ranges)) ended
 
 -- all ranges end at or before the limit

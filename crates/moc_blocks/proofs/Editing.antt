@@ -1,7 +1,7 @@
 -- A list of blocks with one range inserted or removed.
 use Rattle.std.proofs.Common.{◌≡◌, ℕ, zero, suc, ◌+◌, ◌-◌, ◌<◌, ◌≤◌, Bool, true, false, ◌||◌, ◌&&◌, min, max, List, []}
 use Rattle.std.proofs.Common.{◌∷◌, ◌++◌, length, get_or, take, drop, refl, sym, ap, subst, ◌∙◌, arith, append_assoc}
-use Rattle.std.proofs.Common.{length-append}
+use Rattle.std.proofs.Common.{drop-drop, length-append}
 use Rattle.std.specs.Prelude.{not, slice_set, Option, None, Some, IfSome, MatchOption}
 use Rattle.std.specs.List.{insert}
 use Rattle.std.specs.FinSet as set
@@ -29,6 +29,10 @@ use Rattle.moc_blocks.proofs.Merging.{EndsBelow-append, EndsBelow-first, ends_se
 use Rattle.moc_blocks.proofs.Merging.{normal_append, next_append}
 use Rattle.moc_blocks.proofs.Passing.{all_ranges-parts, all_ranges-ranges, ends_by-left, ends_by-right, ends_by-append}
 
+-- the list after one of its elements
+pub rest_after : {X : Type 0} (k : ℕ) (xs more : List X) (x : X) → drop k xs ≡ x ∷ more → more ≡ drop (k + 1) xs
+rest_after {X} k xs more x next = sym (ap (drop 1) next) ∙ drop-drop 1 k xs
+
 -- the state of merging a range with the ranges that it touches
 pub record IsReaching (start to : ℕ) (whole : List (ℕ × ℕ)) (end : ℕ) (rest : List (ℕ × ℕ)) : Type 0 where
   pub normal : IsNormal rest
@@ -36,6 +40,7 @@ pub record IsReaching (start to : ℕ) (whole : List (ℕ × ℕ)) (end : ℕ) (
   pub within : end ≤ pixel_count
   pub later : start ≤ next_of rest
   pub fewer : length rest ≤ length whole
+  pub suffix : rest ≡ drop (length whole - length rest) whole
   pub below : (f : ℕ) → to < f → EndsBelow f whole → (end < f) × EndsBelow f rest
   pub same : (q : ℕ) → (in_range (start, end) q || in_ranges rest q) ≡ (in_range (start, to) q || in_ranges whole q)
 
@@ -46,6 +51,7 @@ reaching_start start to whole normal filled within later = record {
   within = within;
   later = later;
   fewer = omega arith;
+  suffix = let none : 0 ≡ length whole - length whole = omega arith in ap (λ n. drop n whole) none;
   below = λ f lt all. (lt, all);
   same = λ q. refl;
 }
@@ -53,7 +59,7 @@ reaching_start start to whole normal filled within later = record {
 in_extended_range : (start end q : ℕ) (range : ℕ × ℕ) (b : Bool) → start ≤ range.0 → range.0 ≤ end → start < end → (in_range (start, max end range.1) q || b) ≡ (in_range (start, end) q || (in_range range q || b))
 in_extended_range start end q range b later reached filled = grind (arith, nat_tests)
 
-after_first : (range : ℕ × ℕ) (after : List (ℕ × ℕ)) → IsNormal (range ∷ after) → range.0 ≤ next_of after
+pub after_first : (range : ℕ × ℕ) (after : List (ℕ × ℕ)) → IsNormal (range ∷ after) → range.0 ≤ next_of after
 after_first range [] normal = omega (arith, normal.0, normal.1)
 after_first range (r ∷ after) normal = omega (arith, normal.0, normal.2)
 
@@ -68,6 +74,9 @@ reaching_next start to end whole rest after range parts s0 reached =
       within = omega (arith, s.within, normal.1);
       later = omega (arith, s.later, next);
       fewer = omega (arith, s.fewer);
+      suffix =
+          let count : length whole - length (range ∷ after) + 1 ≡ length whole - length after = omega (arith, s.fewer) in
+          rest_after _ whole after range (sym s.suffix) ∙ ap (λ n. drop n whole) count;
       below = λ f lt all. let b = s.below f lt all in (omega (arith, b.0, b.1.0), b.1.1);
       same = λ q. in_extended_range start end q range (in_ranges after q) s.later reached s.filled ∙ s.same q;
     }
@@ -80,12 +89,14 @@ pub merged_range_at_end : (start to end : ℕ) (whole rest : List (ℕ × ℕ)) 
 merged_range_at_end start to end whole [] s lt = record {
   normal = (s.filled, s.within, tt, tt);
   fewer = s.fewer;
+  suffix = s.suffix;
   below = λ f lt all. s.below f lt all;
   same = s.same;
 }
 merged_range_at_end start to end whole (r ∷ rest) s lt = record {
   normal = (s.filled, s.within, lt, s.normal);
   fewer = s.fewer;
+  suffix = s.suffix;
   below = λ f lt all. s.below f lt all;
   same = s.same;
 }

@@ -1,12 +1,12 @@
-pub mod Editing
 pub mod Basics
 pub mod Blocking
 pub mod Building
 pub mod Cutting
+pub mod Editing
 pub mod Filling
-pub mod Inserting
 pub mod Merging
 pub mod Passing
 pub mod Places
 pub mod Replacing
+pub mod Splicing
 pub mod Stepping

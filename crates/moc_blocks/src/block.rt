@@ -5,7 +5,9 @@ ghost use Rattle.std.specs.Bool.{OnTrue, OnFalse};
 ghost use Rattle.std.specs.List.{insert};
 ghost use Rattle.moc_blocks.specs.RangeList.{IsNormal};
 ghost use Rattle.moc_blocks.specs.Private.Blocks.{first_of, last_of, width_of};
+ghost use Rattle.moc_blocks.specs.Private.Edits.{FitsSplice, spliced};
 
+use crate::edits::splice::Splice;
 use std::alloc::{AllocError, Global};
 use std::marker::Model;
 use std::sync::Arc;
@@ -63,6 +65,34 @@ fn insert_into(
         ranges.reserve_exact(GROWTH)?;
     }
     ranges.insert(place, range)?;
+    Ok(())
+}
+
+/// Changes ranges of a list.
+fn splice_list(ranges: &mut Vec<(u64, u64)>, splice: Splice) -> Result<(), AllocError>
+    requires { FitsSplice splice (length ranges.old.items) }
+    ensures put { OnOk result (ranges.new.items ≡ spliced splice ranges.old.items) }
+    ensures unchanged { OnErr result (ranges.new.items ≡ ranges.old.items) }
+{
+    match splice {
+        Splice::Insert { place, range } => insert_into(ranges, place, range)?,
+        Splice::Replace { place, range } => ranges[place] = range,
+        Splice::Remove { place } => {
+            ranges.remove(place);
+        }
+        Splice::Split {
+            place,
+            first,
+            second,
+        } => {
+            insert_into(ranges, place + 1, second)?;
+            ranges[place] = first;
+        }
+        Splice::Join { place, range } => {
+            ranges.remove(place + 1);
+            ranges[place] = range;
+        }
+    }
     Ok(())
 }
 
@@ -134,26 +164,28 @@ impl Block {
         &self.ranges
     }
 
-    /// Inserts a range at a position if this block is the only owner of its list, and returns whether it was inserted.
-    /// The list is not copied, unless it is full.
+    /// Changes ranges in place if this block is the only owner of its list, and returns whether they were changed. The
+    /// list is not copied, unless it is full.
     ///
     /// # Errors
     ///
     /// Fails if an allocation fails; the block is unchanged.
-    pub fn insert(&mut self, place: usize, range: (u64, u64)) -> Result<bool, AllocError>
-        requires inside { place ≤ length self.old }
-        requires capacity { length self.old < MAX_BLOCK_RANGES }
-        requires filled { range.0 < range.1 }
-        requires normal { IsNormal (insert self.old place range) }
-        ensures put { IfOk result (λ done. OnTrue done (self.new ≡ insert self.old place range)) }
+    pub fn splice(&mut self, splice: Splice) -> Result<bool, AllocError>
+        requires inside { FitsSplice splice (length self.old) }
+        requires was_normal { IsNormal self.old }
+        requires some { 0 < length (spliced splice self.old) }
+        requires fits { length (spliced splice self.old) ≤ MAX_BLOCK_RANGES }
+        requires normal { IsNormal (spliced splice self.old) }
+        ensures put { IfOk result (λ done. OnTrue done (self.new ≡ spliced splice self.old)) }
         ensures same { IfOk result (λ done. OnFalse done (self.new ≡ self.old)) }
         ensures unchanged { OnErr result (self.new ≡ self.old) }
     {
         let Some(ranges) = Arc::get_mut(&mut self.ranges) else {
             return Ok(false);
         };
-        insert_into(ranges, place, range)?;
-        self.size += range.1 - range.0;
+        let other_pixels = self.size - splice.old_width(ranges);
+        splice_list(ranges, splice)?;
+        self.size = other_pixels + splice.new_width();
         self.from = ranges[0].0;
         self.to = ranges[ranges.len() - 1].1;
         Ok(true)

@@ -1,16 +1,16 @@
 //! Inserts a range into a list, or removes a range from it. A list without blocks is rebuilt here. In a list of blocks,
-//! a range is inserted into its block in place (`gap`), or the block is rebuilt (`rebuild`). Its node is rebuilt too if
-//! it is shared, if the block is split, or if the block is rebuilt together with a neighbour (`pairs`).
+//! the block of the range is changed in place (`splice`), or rebuilt (`rebuild`). Its node is rebuilt too if it is
+//! shared, if the block is split, or if the block is rebuilt together with a neighbour (`pairs`).
 ghost use Rattle.std.specs.Prelude.{◌<◌, ◌≤◌, length};
 ghost use Rattle.moc_blocks.specs.RangeList.{pixel_count, IsNormal};
 ghost use Rattle.moc_blocks.specs.Private.Edits.{Inserts, Removes};
 
 pub(crate) mod cutting;
-pub(crate) mod gap;
 pub(crate) mod pairs;
 pub(crate) mod place;
 pub(crate) mod reach;
 pub(crate) mod rebuild;
+pub(crate) mod splice;
 pub(crate) mod splitting;
 
 use crate::block::{MAX_BLOCK_RANGES, width_of_ranges};

@@ -15,8 +15,8 @@ pub use cursor::{
     BlockCursor, Cursor, NextBlock, NextNode, NextRange, block_below, enter_next_block, next_block,
     next_range, node_below, start_of_next,
 };
-pub use edits::gap::{Gap, find_gap};
 pub use edits::rebuild::{BlockEdit, Edit, EditKind, NodeEdit, edit_nodes};
+pub use edits::splice::{BlockSplice, find_splice};
 pub use edits::{insert_small, remove_small};
 pub use lengths::{blocks_in_last, ranges_in_first, ranges_in_last};
 pub use node::{

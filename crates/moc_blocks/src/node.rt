@@ -1,13 +1,15 @@
 //! Nodes: shared lists of blocks, with their bounds and counts.
 
-ghost use Rattle.std.specs.Prelude.{◌≡◌, ◌+◌, ◌*◌, ◌<◌, ◌≤◌, ℕ, length, slice_set, false, true, IfOk, OnErr};
+ghost use Rattle.std.specs.Prelude.{◌≡◌, ◌+◌, ◌*◌, ◌<◌, ◌≤◌, ℕ, length, get_or, slice_set, [], false, true, IfOk};
+ghost use Rattle.std.specs.Prelude.{OnErr};
 ghost use Rattle.std.specs.Bool.{OnTrue, OnFalse};
 ghost use Rattle.moc_blocks.specs.RangeList.{IsNormal};
 ghost use Rattle.moc_blocks.specs.Private.Blocks.{first_of, last_of, width_of};
 ghost use Rattle.moc_blocks.specs.Blocks.{concat, AreBlocks};
-ghost use Rattle.moc_blocks.specs.Private.Edits.{with_range_inserted, HasGap};
+ghost use Rattle.moc_blocks.specs.Private.Edits.{spliced, CanSplice};
 
 use crate::block::Block;
+use crate::edits::splice::Splice;
 use std::alloc::{AllocError, Global};
 use std::marker::Model;
 use std::sync::Arc;
@@ -189,31 +191,29 @@ impl Node {
         true
     }
 
-    /// Inserts a range into a block in place if this node is the only owner of its list of blocks, and the block of its
-    /// list of ranges. Returns whether it was inserted.
+    /// Changes ranges of a block in place if this node is the only owner of its list of blocks, and the block of its
+    /// list of ranges. Returns whether they were changed.
     ///
     /// # Errors
     ///
     /// Fails if an allocation fails; the node is unchanged.
-    pub fn insert(
-        &mut self,
-        block: usize,
-        place: usize,
-        range: (u64, u64),
-    ) -> Result<bool, AllocError>
-        requires { HasGap self.old block place range }
-        ensures put { IfOk result (λ done. OnTrue done (self.new ≡ with_range_inserted self.old block place range)) }
+    pub fn splice(&mut self, block: usize, splice: Splice) -> Result<bool, AllocError>
+        requires { CanSplice self.old block splice }
+        ensures put { IfOk result (λ done. OnTrue done
+            (self.new ≡ slice_set self.old block (spliced splice (get_or self.old block [])))) }
         ensures same { IfOk result (λ done. OnFalse done (self.new ≡ self.old)) }
         ensures unchanged { OnErr result (self.new ≡ self.old) }
     {
         let Some(blocks) = Arc::get_mut(&mut self.blocks) else {
             return Ok(false);
         };
-        if !blocks[block].insert(place, range)? {
+        let other_pixels = self.size - blocks[block].size();
+        let other_ranges = self.count - blocks[block].ranges().len();
+        if !blocks[block].splice(splice)? {
             return Ok(false);
         }
-        self.size += range.1 - range.0;
-        self.count += 1;
+        self.size = other_pixels + blocks[block].size();
+        self.count = other_ranges + blocks[block].ranges().len();
         self.from = blocks[0].from();
         self.to = blocks[blocks.len() - 1].to();
         Ok(true)

@@ -175,35 +175,11 @@ impl RangeList {
         Ok(Self { small, nodes })
     }
 
-    /// Inserts a range in place into a gap of a block, and returns the number of new pixels. Returns `None` if the list
-    /// has no blocks, if another list shares the block or the blocks of its node, if the range touches another range,
-    /// or if the block is full; the list is then unchanged.
-    ///
-    /// # Errors
-    ///
-    /// Fails if an allocation fails; the list is unchanged.
-    ///
-    /// # Complexity
-    ///
-    /// O(log n). Fewer ranges are examined if they are evenly spaced.
-    #[inline]
-    pub fn insert_in_gap(&mut self, from: u64, to: u64) -> Result<Option<u64>, AllocError>
-        requires filled { from < to }
-        requires within { to ≤ pixel_count }
-        ensures inserted { Inserts from to self.old self.new result }
-        ensures normal_before { IsNormal self.old }
-        ensures normal { IsNormal self.new }
-    {
-        if self.nodes.all().is_empty() {
-            return Ok(None);
-        }
-        self.nodes.insert_in_gap(from, to)
-    }
-
     /// Inserts a range if this changes only one block, or two adjacent blocks of a node, and returns the number of new
-    /// pixels. A block is rebuilt. It is replaced in place if no other list shares the blocks of its node and it stays
-    /// one block; otherwise it is put into a new node that shares the other blocks. Two blocks are rebuilt if the fill
-    /// rule requires it. Returns `None` if the range touches more blocks, if the fill rule would still be broken, or if
+    /// pixels. Up to two ranges are changed in place if no other list shares their block and the blocks of its node.
+    /// Otherwise the block is rebuilt. It is replaced in its node if no other list shares the blocks of the node and it
+    /// stays one block; otherwise it is put into a new node that shares the other blocks. Two blocks are rebuilt if the
+    /// fill rule requires it. Returns `None` if the range touches more blocks, if the fill rule would still be broken, or if
     /// a list without blocks would have more than 128 ranges; the list is then unchanged.
     ///
     /// # Errors
@@ -227,7 +203,8 @@ impl RangeList {
     }
 
     /// Removes the pixels of a range if this changes only one block, or two adjacent blocks of a node, and returns the
-    /// number of removed pixels. Blocks are rebuilt and replaced as by `insert`; two blocks also if one would be empty.
+    /// number of removed pixels. Blocks are changed in place or rebuilt as by `insert`; two blocks are rebuilt also if
+    /// one would be empty.
     /// Returns `None` if the range touches more blocks, if the fill rule would still be broken, or if a list without
     /// blocks would have more than 128 ranges; the list is then unchanged.
     ///

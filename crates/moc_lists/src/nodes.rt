@@ -10,7 +10,8 @@ ghost use Rattle.moc_blocks.specs.Private.Edits.{with_replaced_item, one_or_two,
 ghost use Rattle.moc_blocks.specs.declared.edits.rebuild.EditKind.{EditKind};
 
 use moc_blocks::{
-    Block, BlockEdit, Edit, EditKind, Gap, Node, NodeEdit, edit_nodes, find_gap, share_nodes,
+    Block, BlockEdit, BlockSplice, Edit, EditKind, Node, NodeEdit, edit_nodes, find_splice,
+    share_nodes,
 };
 use std::alloc::{AllocError, Global};
 use std::marker::Model;
@@ -201,24 +202,35 @@ impl Nodes {
         None
     }
 
-    /// Inserts a range in place into a gap of its block, and returns the number of new pixels. Returns `None` if the
-    /// block or the blocks of its node are shared, or if there is no such gap; the nodes are then unchanged.
-    pub(crate) fn insert_in_gap(&mut self, from: u64, to: u64) -> Result<Option<u64>, AllocError>
+    /// Inserts or removes a range if this changes up to two ranges of one block in place, and returns whether it
+    /// succeeded. Returns `false` if the range touches more of them or another block, if the block or the blocks of its
+    /// node are shared, or if the fill rule would be broken; the nodes are then unchanged.
+    fn edit_in_place(&mut self, edit: EditKind, from: u64, to: u64) -> Result<bool, AllocError>
         requires stored { IsStored [] self.old }
         requires filled { from < to }
         requires within { to ≤ pixel_count }
         ensures stored { IsStored [] self.new }
-        ensures inserted { Inserts from to (concat (concat self.old)) (concat (concat self.new)) result }
+        ensures edited { IfOk result (λ done. OnTrue done
+            (IsEdited edit from to (concat (concat self.old)) (concat (concat self.new)))) }
+        ensures same { IfOk result (λ done. OnFalse done (self.new ≡ self.old)) }
+        ensures unchanged { OnErr result (self.new ≡ self.old) }
     {
-        let Some(Gap { node, block, place }) = find_gap(&self.nodes, from, to) else {
-            return Ok(None);
+        let Some(change) = find_splice(&self.nodes, edit, from, to) else {
+            return Ok(false);
         };
-        if !self.nodes[node].insert(block, place, (from, to))? {
-            return Ok(None);
+        let BlockSplice {
+            node,
+            block,
+            splice,
+        } = change;
+        let other_ranges = self.count - self.nodes[node].count();
+        let other_pixels = self.size - self.nodes[node].size();
+        if !self.nodes[node].splice(block, splice)? {
+            return Ok(false);
         }
-        self.size += to - from;
-        self.count += 1;
-        Ok(Some(to - from))
+        self.count = other_ranges + self.nodes[node].count();
+        self.size = other_pixels + self.nodes[node].size();
+        Ok(true)
     }
 
     /// Replaces a node by one. Does not allocate.
@@ -290,11 +302,9 @@ impl Nodes {
         Ok(())
     }
 
-    /// Inserts or removes a range if this changes only one block, or two adjacent blocks of a node, and returns whether
-    /// it succeeded. One block is replaced in place if its node is not shared and it stays one block. Otherwise the
-    /// node is rebuilt. Returns `false` if the range touches more blocks, or if the fill rule would be broken; the
-    /// nodes are then unchanged.
-    fn edit(
+    /// Inserts or removes a range as `edit` does, but rebuilds the blocks that change. One block is replaced in its node
+    /// if the node is not shared and it stays one block. Otherwise the node is rebuilt.
+    fn rebuild(
         &mut self,
         alloc: Global,
         edit: EditKind,
@@ -333,6 +343,31 @@ impl Nodes {
         self.count = other_ranges + self.nodes[node].count();
         self.size = other_pixels + self.nodes[node].size();
         Ok(true)
+    }
+
+    /// Inserts or removes a range if this changes only one block, or two adjacent blocks of a node, and returns whether
+    /// it succeeded. Up to two ranges of a block are changed in place. Otherwise the blocks are rebuilt. Returns `false`
+    /// if the range touches more blocks, or if the fill rule would be broken; the nodes are then unchanged.
+    fn edit(
+        &mut self,
+        alloc: Global,
+        edit: EditKind,
+        from: u64,
+        to: u64,
+    ) -> Result<bool, AllocError>
+        requires stored { IsStored [] self.old }
+        requires filled { from < to }
+        requires within { to ≤ pixel_count }
+        ensures stored { IsStored [] self.new }
+        ensures edited { IfOk result (λ done. OnTrue done
+            (IsEdited edit from to (concat (concat self.old)) (concat (concat self.new)))) }
+        ensures same { IfOk result (λ done. OnFalse done (self.new ≡ self.old)) }
+        ensures unchanged { OnErr result (self.new ≡ self.old) }
+    {
+        if self.edit_in_place(edit, from, to)? {
+            return Ok(true);
+        }
+        self.rebuild(alloc, edit, from, to)
     }
 
     /// Inserts a range if this changes only one block, or two adjacent blocks of a node, and returns the number of new

@@ -1,5 +1,5 @@
 -- Inserting a range into a list of blocks, and removing one from it.
-use Rattle.std.specs.Prelude.{◌≡◌, ℕ, ◌+◌, ◌<◌, ◌≤◌, Bool, ◌||◌, ◌&&◌, not, nat_lt, cond, min, max, Option}
+use Rattle.std.specs.Prelude.{◌≡◌, ℕ, ◌+◌, ◌-◌, ◌<◌, ◌≤◌, Bool, ◌||◌, ◌&&◌, not, nat_lt, cond, min, max, Option}
 use Rattle.std.specs.Prelude.{None, Some, List, [], ◌∷◌, ◌++◌, length, get_or, slice_set, take, drop, Result}
 use Rattle.std.specs.Prelude.{MatchOption, MatchResult}
 use Rattle.std.specs.List.{insert}
@@ -11,6 +11,10 @@ use Rattle.moc_blocks.specs.Private.Built.{first_length, last_length, EndsBelow}
 use Rattle.moc_blocks.specs.Private.Walks.{all_ranges}
 use Rattle.moc_blocks.specs.declared.edits.rebuild.EditKind.{EditKind}
 use Rattle.moc_blocks.specs.declared.edits.rebuild.EditKind.TheVariants.{Insert, Remove}
+use Rattle.moc_blocks.specs.declared.edits.splice.Splice.{Splice}
+use Rattle.moc_blocks.specs.declared.edits.splice.Splice.TheVariants.{Insert as SpliceInsert, Replace as SpliceReplace}
+use Rattle.moc_blocks.specs.declared.edits.splice.Splice.TheVariants.{Remove as SpliceRemove, Split as SpliceSplit}
+use Rattle.moc_blocks.specs.declared.edits.splice.Splice.TheVariants.{Join as SpliceJoin}
 use Rattle.moc_blocks.specs.declared.edits.rebuild.Edit.{Edit}
 use Rattle.moc_blocks.specs.declared.edits.rebuild.Edit.TheVariants.{Block, Node}
 
@@ -33,6 +37,7 @@ pub record IsPair (left : List (List (ℕ × ℕ))) (run : List (ℕ × ℕ)) (r
 pub record IsMergedRange (start to : ℕ) (ranges : List (ℕ × ℕ)) (end : ℕ) (rest : List (ℕ × ℕ)) : Type 0 where
   pub normal : IsNormal ((start, end) ∷ rest)
   pub fewer : length rest ≤ length ranges
+  pub suffix : rest ≡ drop (length ranges - length rest) ranges
   pub below : (f : ℕ) → to < f → EndsBelow f ranges → EndsBelow f ((start, end) ∷ rest)
   pub same : (q : ℕ) → in_ranges ((start, end) ∷ rest) q ≡ (in_range (start, to) q || in_ranges ranges q)
 
@@ -127,26 +132,76 @@ pub record IsBlockEdit (edit : EditKind) (from to : ℕ) (nodes : List (List (Li
   pub place : block ≡ length left
   pub edited_block : IsEditedBlock edit from to (concat before) (concat after) old left run right ranges []
 
--- a range fits into a gap of a block that is not full, at these positions: of the block's node, of the block in it, and
--- of the gap in the block
-pub record IsGap (from to : ℕ) (nodes : List (List (List (ℕ × ℕ)))) (node block place : ℕ) : Type 0 where
+-- the positions of a splice are in a list of a length
+abbrev pub FitsSplice : Splice → ℕ → Type 0
+FitsSplice (SpliceInsert place range) n = place ≤ n
+FitsSplice (SpliceReplace place range) n = place < n
+FitsSplice (SpliceRemove place) n = place < n
+FitsSplice (SpliceSplit place first second) n = place < n
+FitsSplice (SpliceJoin place range) n = place + 1 < n
+
+-- the ranges after a splice
+abbrev pub spliced : Splice → List (ℕ × ℕ) → List (ℕ × ℕ)
+spliced (SpliceInsert place range) ranges = insert ranges place range
+spliced (SpliceReplace place range) ranges = take place ranges ++ range ∷ drop (place + 1) ranges
+spliced (SpliceRemove place) ranges = take place ranges ++ drop (place + 1) ranges
+spliced (SpliceSplit place first second) ranges = take place ranges ++ first ∷ (second ∷ drop (place + 1) ranges)
+spliced (SpliceJoin place range) ranges = take place ranges ++ range ∷ drop (place + 2) ranges
+
+-- the number of ranges after a splice, from their number before it
+abbrev pub spliced_length : Splice → ℕ → ℕ
+spliced_length (SpliceInsert place range) n = n + 1
+spliced_length (SpliceReplace place range) n = n
+spliced_length (SpliceRemove place) n = n - 1
+spliced_length (SpliceSplit place first second) n = n + 1
+spliced_length (SpliceJoin place range) n = n - 1
+
+-- the ranges that a splice replaces
+abbrev pub old_ranges : Splice → List (ℕ × ℕ) → List (ℕ × ℕ)
+old_ranges (SpliceInsert place range) ranges = []
+old_ranges (SpliceReplace place range) ranges = take 1 (drop place ranges)
+old_ranges (SpliceRemove place) ranges = take 1 (drop place ranges)
+old_ranges (SpliceSplit place first second) ranges = take 1 (drop place ranges)
+old_ranges (SpliceJoin place range) ranges = take 2 (drop place ranges)
+
+-- the ranges that a splice puts in their place
+abbrev pub new_ranges : Splice → List (ℕ × ℕ)
+new_ranges (SpliceInsert place range) = range ∷ []
+new_ranges (SpliceReplace place range) = range ∷ []
+new_ranges (SpliceRemove place) = []
+new_ranges (SpliceSplit place first second) = first ∷ (second ∷ [])
+new_ranges (SpliceJoin place range) = range ∷ []
+
+-- a splice changes ranges as an edit with a range does
+pub record IsSplice (edit : EditKind) (from to : ℕ) (ranges : List (ℕ × ℕ)) (splice : Splice) : Type 0 where
+  pub fits : FitsSplice splice (length ranges)
+  pub edited : AreEditedRanges edit from to ranges (spliced splice ranges)
+
+-- a block of a length obeys the fill rule between blocks of two other lengths, of which 0 stands for no block
+pub record KeepsFillRule (before length after : ℕ) : Type 0 where
+  pub some : 0 < length
+  pub fits : length ≤ max_block_ranges
+  pub front : 0 < before → max_block_ranges < before + length
+  pub back : 0 < after → max_block_ranges < length + after
+
+-- a splice of the block at the given position of the node at the given position is an edit with a range
+pub record IsBlockSplice (edit : EditKind) (from to : ℕ) (nodes : List (List (List (ℕ × ℕ)))) (node block : ℕ)
+    (splice : Splice) : Type 0 where
   pub ranges : List (ℕ × ℕ)
-  pub block_edit : IsBlockEdit Insert from to nodes node block ranges
-  pub inside : place ≤ length block_edit.run
-  pub capacity : length block_edit.run < max_block_ranges
-  pub made : ranges ≡ insert block_edit.run place (from, to)
+  pub block_edit : IsBlockEdit edit from to nodes node block ranges
+  pub was_normal : IsNormal block_edit.run
+  pub fits : FitsSplice splice (length block_edit.run)
+  pub made : ranges ≡ spliced splice block_edit.run
 
--- the blocks of a node, with a range inserted into one of them
-abbrev pub with_range_inserted : List (List (ℕ × ℕ)) → ℕ → ℕ → ℕ × ℕ → List (List (ℕ × ℕ))
-with_range_inserted blocks block place range = slice_set blocks block (insert (get_or blocks block []) place range)
-
--- a block of a node is not full, and a range can be inserted at the given position
-pub record HasGap (node : List (List (ℕ × ℕ))) (block place : ℕ) (range : ℕ × ℕ) : Type 0 where
+-- a splice can be applied to a block of a node
+pub record CanSplice (node : List (List (ℕ × ℕ))) (block : ℕ) (splice : Splice) : Type 0 where
   pub there : block < length node
-  pub inside : place ≤ length (get_or node block [])
-  pub capacity : length (get_or node block []) < max_block_ranges
-  pub normal : IsNormal (concat (with_range_inserted node block place range))
-  pub sized : AreBlocks (with_range_inserted node block place range)
+  pub was_normal : IsNormal (get_or node block [])
+  pub fits : FitsSplice splice (length (get_or node block []))
+  pub some : 0 < length (spliced splice (get_or node block []))
+  pub small : length (spliced splice (get_or node block [])) ≤ max_block_ranges
+  pub normal : IsNormal (concat (slice_set node block (spliced splice (get_or node block []))))
+  pub sized : AreBlocks (slice_set node block (spliced splice (get_or node block [])))
 
 -- a list of one or two elements
 abbrev pub one_or_two : {X : Type 0} → X → Option X → List X

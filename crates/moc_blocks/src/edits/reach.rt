@@ -10,13 +10,13 @@ use std::alloc::{AllocError, Global};
 
 /// The end of a merged range, and the ranges after it.
 #[derive(Clone, Copy)]
-struct MergedRange<'a> {
-    end: u64,
-    rest: &'a [(u64, u64)],
+pub(crate) struct MergedRange<'a> {
+    pub end: u64,
+    pub rest: &'a [(u64, u64)],
 }
 
 /// Merges a range with the ranges of a list that it touches. Requires that none of them begins before it.
-fn merge_touching(start: u64, to: u64, ranges: &[(u64, u64)]) -> MergedRange<'_>
+pub(crate) fn merge_touching(start: u64, to: u64, ranges: &[(u64, u64)]) -> MergedRange<'_>
     requires normal { IsNormal ranges.now }
     requires filled { start < to }
     requires within { to ≤ pixel_count }
@@ -37,7 +37,7 @@ fn merge_touching(start: u64, to: u64, ranges: &[(u64, u64)]) -> MergedRange<'_>
 
 /// Returns the smaller of `from` and the start of the first range. If the first range touches a range that starts at
 /// `from`, this is the start of the two merged.
-fn start_of(from: u64, ranges: &[(u64, u64)]) -> u64
+pub(crate) fn start_of(from: u64, ranges: &[(u64, u64)]) -> u64
     ensures { result ≡ min from (next_of ranges.now) }
 {
     match ranges {

@@ -19,12 +19,12 @@ impl Coverage {
     ///
     /// # Complexity
     ///
-    /// Usually O(log n), also if blocks are shared. The range is inserted into its block in place if no other set
-    /// shares the block, the range touches no other range, and the block is not full. Otherwise the block is rebuilt.
-    /// The pointers to the other blocks of its node are copied if another set shares the node, if the block is split,
-    /// or if two blocks are rebuilt. One step for each later node is added if the number of blocks changes. The cost is
-    /// the cost of a union if the range touches three blocks or blocks of two nodes, or if two blocks cannot hold the
-    /// ranges by the fill rule.
+    /// Usually O(log n), also if blocks are shared. Up to two ranges of a block are changed in place if no other set
+    /// shares the block, the range touches no other block, and the fill rule stays true. Otherwise the block is
+    /// rebuilt. The pointers to the other blocks of its node are copied if another set shares the node, if the block is
+    /// split, or if two blocks are rebuilt. One step for each later node is added if the number of blocks changes. The
+    /// cost is the cost of a union if the range touches three blocks or blocks of two nodes, or if two blocks cannot
+    /// hold the ranges by the fill rule. Allocates nothing if the set has all pixels of the range.
     pub fn insert_range(&mut self, alloc: Global, from: u64, to: u64) -> Result<u64, Memory>
         requires within { to ≤ pixel_count }
         ensures set { OnOk result (self.new ≡ set.union self.old (numbers from to)) }
@@ -33,9 +33,6 @@ impl Coverage {
     {
         if to <= from {
             return Ok(0);
-        }
-        if let Some(added) = self.list.insert_in_gap(from, to)? {
-            return Ok(added);
         }
         if self.covers_range(from, to) {
             return Ok(0);

@@ -1,7 +1,7 @@
 use Rattle.std.proofs.Common.{List, ℕ, ap, refl, ◌∙◌}
 use Rattle.moc_blocks.specs.Blocks.{concat}
 use Rattle.moc_blocks.specs.Private.Blocks.{width_of}
-use Rattle.moc_blocks.proofs.Inserting.{on_true}
+use Rattle.moc_blocks.proofs.Splicing.{on_true}
 use Rattle.moc_blocks.proofs.Editing.{inserted_adds}
 use Rattle.moc_lists.proofs.nodes.Nodes.insert.Goals as goal
 

@@ -14,52 +14,30 @@ returns-then-to-from-clause-set c = sym (union_with_contained c.args.self.now (n
 pub returns-then-to-from-clause-added : goal.returns-then-to-from-clause-added
 returns-then-to-from-clause-added c = sym (contained_adds_nothing c.args.self.now (numbers c.args.from c.args.to) (no_numbers c.args.from c.args.to c.args.self.now c.if-to-from.true))
 
+pub returns-then-covers_range-clause-set : goal.returns-then-covers_range-clause-set
+returns-then-covers_range-clause-set c =
+    let has : set.is_subset (numbers c.args.from c.args.to) c.args.self.now ≡ true = sym c.covers_range.ensures ∙ c.if-covers_range.true in
+    sym (union_with_contained c.args.self.now (numbers c.args.from c.args.to) (set.is_subset-contains nat_cmp_total (numbers c.args.from c.args.to) c.args.self.now has))
+
+pub returns-then-covers_range-clause-added : goal.returns-then-covers_range-clause-added
+returns-then-covers_range-clause-added c =
+    let has : set.is_subset (numbers c.args.from c.args.to) c.args.self.now ≡ true = sym c.covers_range.ensures ∙ c.if-covers_range.true in
+    sym (contained_adds_nothing c.args.self.now (numbers c.args.from c.args.to) (set.is_subset-contains nat_cmp_total (numbers c.args.from c.args.to) c.args.self.now has))
+
 pub returns-in-Some-clause-set : goal.returns-in-Some-clause-set
 returns-in-Some-clause-set c =
-    set_is_union c.args.from c.args.to _ c.self.inside.list c.insert_in_gap.new.self (match_some _ _ _ _ c.in-Some.is c.in_ok-added.ensures.inserted)
+    set_is_union c.args.from c.args.to _ c.self.inside.list c.insert.new.self (match_some _ _ _ _ c.in-Some.is c.in_ok-added.ensures.inserted)
     ∙ ap (λ (s : NumberSet). set.union s (numbers c.args.from c.args.to)) c.self.view_is
 
 pub returns-in-Some-clause-added : goal.returns-in-Some-clause-added
 returns-in-Some-clause-added c =
-    added_count_is_new c.args.from c.args.to c.in-Some.added c.self.inside.list c.insert_in_gap.new.self c.in_ok-added.ensures.normal_before c.in_ok-added.ensures.normal (match_some _ _ _ _ c.in-Some.is c.in_ok-added.ensures.inserted)
+    added_count_is_new c.args.from c.args.to c.in-Some.added c.self.inside.list c.insert.new.self c.in_ok-added.ensures.normal_before c.in_ok-added.ensures.normal (match_some _ _ _ _ c.in-Some.is c.in_ok-added.ensures.inserted)
     ∙ ap (λ (s : NumberSet). set.len (set.difference (numbers c.args.from c.args.to) s)) c.self.view_is
-
-pub returns-then-covers_range-clause-set : goal.returns-then-covers_range-clause-set
-returns-then-covers_range-clause-set c =
-    let is : set_of c.insert_in_gap.new.self ≡ c.args.self.now =
-    ap set_of (none_matched _ _ _ c.in_default.not-Some c.in_ok-added.ensures.inserted) ∙ c.self.view_is in
-    let has : set.is_subset (numbers c.args.from c.args.to) c.args.self.now ≡ true =
-    ap (set.is_subset (numbers c.args.from c.args.to)) (sym is) ∙ sym c.covers_range.ensures ∙ c.if-covers_range.true in
-    is ∙ sym (union_with_contained c.args.self.now (numbers c.args.from c.args.to) (set.is_subset-contains nat_cmp_total (numbers c.args.from c.args.to) c.args.self.now has))
-
-pub returns-then-covers_range-clause-added : goal.returns-then-covers_range-clause-added
-returns-then-covers_range-clause-added c =
-    let is : set_of c.insert_in_gap.new.self ≡ c.args.self.now =
-    ap set_of (none_matched _ _ _ c.in_default.not-Some c.in_ok-added.ensures.inserted) ∙ c.self.view_is in
-    let has : set.is_subset (numbers c.args.from c.args.to) c.args.self.now ≡ true =
-    ap (set.is_subset (numbers c.args.from c.args.to)) (sym is) ∙ sym c.covers_range.ensures ∙ c.if-covers_range.true in
-    sym (contained_adds_nothing c.args.self.now (numbers c.args.from c.args.to) (set.is_subset-contains nat_cmp_total (numbers c.args.from c.args.to) c.args.self.now has))
-
-pub returns-in-Some-2-clause-set : goal.returns-in-Some-2-clause-set
-returns-in-Some-2-clause-set c =
-    let is : set_of c.insert_in_gap.new.self ≡ c.args.self.now =
-    ap set_of (none_matched _ _ _ c.in_default.not-Some c.in_ok-added.ensures.inserted) ∙ c.self.view_is in
-    set_is_union c.args.from c.args.to _ c.insert_in_gap.new.self c.insert.new.self (match_some _ _ _ _ c.in-Some-2.is c.in_ok-added-2.ensures.inserted)
-    ∙ ap (λ (s : NumberSet). set.union s (numbers c.args.from c.args.to)) is
-
-pub returns-in-Some-2-clause-added : goal.returns-in-Some-2-clause-added
-returns-in-Some-2-clause-added c =
-    let is : set_of c.insert_in_gap.new.self ≡ c.args.self.now =
-    ap set_of (none_matched _ _ _ c.in_default.not-Some c.in_ok-added.ensures.inserted) ∙ c.self.view_is in
-    added_count_is_new c.args.from c.args.to c.in-Some-2.added c.insert_in_gap.new.self c.insert.new.self c.in_ok-added-2.ensures.normal_before c.in_ok-added-2.ensures.normal (match_some _ _ _ _ c.in-Some-2.is c.in_ok-added-2.ensures.inserted)
-    ∙ ap (λ (s : NumberSet). set.len (set.difference (numbers c.args.from c.args.to) s)) is
 
 pub overflow_sub-added : goal.overflow_sub-added
 overflow_sub-added c =
-    let is : set_of c.insert_in_gap.new.self ≡ c.args.self.now =
-    ap set_of (none_matched _ _ _ c.in_default.not-Some c.in_ok-added.ensures.inserted) ∙ c.self.view_is in
     let was : set_of c.insert.new.self ≡ c.args.self.now =
-    ap set_of (none_matched _ _ _ c.in_default-2.not-Some c.in_ok-added-2.ensures.inserted) ∙ is in
+    ap set_of (none_matched _ _ _ c.in_default.not-Some c.in_ok-added.ensures.inserted) ∙ c.self.view_is in
     let made : set_of c.in_ok-list.list ≡ set.union c.args.self.now (numbers c.args.from c.args.to) =
     c.in_ok-list.ensures ∙ (λ i. set.union (set_of (c.ranges-2.ensures.list i)) (set_of (c.of.ensures.list i)))
     ∙ (λ i. set.union (was i) (range_view c.args.from c.args.to i)) in
@@ -67,10 +45,8 @@ overflow_sub-added c =
 
 pub returns-clause-set : goal.returns-clause-set
 returns-clause-set c =
-    let is : set_of c.insert_in_gap.new.self ≡ c.args.self.now =
-    ap set_of (none_matched _ _ _ c.in_default.not-Some c.in_ok-added.ensures.inserted) ∙ c.self.view_is in
     let was : set_of c.insert.new.self ≡ c.args.self.now =
-    ap set_of (none_matched _ _ _ c.in_default-2.not-Some c.in_ok-added-2.ensures.inserted) ∙ is in
+    ap set_of (none_matched _ _ _ c.in_default.not-Some c.in_ok-added.ensures.inserted) ∙ c.self.view_is in
     let made : set_of c.in_ok-list.list ≡ set.union c.args.self.now (numbers c.args.from c.args.to) =
     c.in_ok-list.ensures ∙ (λ i. set.union (set_of (c.ranges-2.ensures.list i)) (set_of (c.of.ensures.list i)))
     ∙ (λ i. set.union (was i) (range_view c.args.from c.args.to i)) in
@@ -78,10 +54,8 @@ returns-clause-set c =
 
 pub returns-clause-added : goal.returns-clause-added
 returns-clause-added c =
-    let is : set_of c.insert_in_gap.new.self ≡ c.args.self.now =
-    ap set_of (none_matched _ _ _ c.in_default.not-Some c.in_ok-added.ensures.inserted) ∙ c.self.view_is in
     let was : set_of c.insert.new.self ≡ c.args.self.now =
-    ap set_of (none_matched _ _ _ c.in_default-2.not-Some c.in_ok-added-2.ensures.inserted) ∙ is in
+    ap set_of (none_matched _ _ _ c.in_default.not-Some c.in_ok-added.ensures.inserted) ∙ c.self.view_is in
     let made : set_of c.in_ok-list.list ≡ set.union c.args.self.now (numbers c.args.from c.args.to) =
     c.in_ok-list.ensures ∙ (λ i. set.union (set_of (c.ranges-2.ensures.list i)) (set_of (c.of.ensures.list i)))
     ∙ (λ i. set.union (was i) (range_view c.args.from c.args.to i)) in

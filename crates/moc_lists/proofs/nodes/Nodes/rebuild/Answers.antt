@@ -8,7 +8,7 @@ use Rattle.moc_blocks.proofs.Blocking.{range_count_bounded, width_bounded}
 use Rattle.moc_blocks.proofs.Replacing.{as_many, set_same, node_part, node_pixels, count_set, width_set, block_edit_inside, block_edit_normal, block_edit_sized}
 use Rattle.moc_blocks.proofs.Replacing.{stored_after_block_edit}
 use Rattle.moc_blocks.proofs.Places.{starts_set}
-use Rattle.moc_lists.proofs.nodes.Nodes.edit.Goals as goal
+use Rattle.moc_lists.proofs.nodes.Nodes.rebuild.Goals as goal
 
 pub overflow_sub-other_ranges : goal.overflow_sub-other_ranges
 overflow_sub-other_ranges c =
