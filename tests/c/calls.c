@@ -398,18 +398,18 @@ static void lines(moc_client *client)
                   "changed 288230376151711744 ; changed 288230376151711744 ; changed 216172782113783808\n"));
     CHECK(replies_with(client, "invert", "changed 3458764513820540928\n"));
     /* A line with an error changes neither the map nor the replies to the last line. */
-    FAILS(line(client, "grow 0/0"), MOC_LINE_UNKNOWN_WORD, 0);
-    FAILS(line(client, ""), MOC_LINE_EMPTY_COMMAND, 0);
-    FAILS(line(client, "invert ; ; invert"), MOC_LINE_EMPTY_COMMAND, 0);
-    FAILS(line(client, ";;;;;;;;;;;;;;;;"), MOC_LINE_TOO_MANY_COMMANDS, 0);
-    FAILS(line(client, "invert 3"), MOC_LINE_WRONG_COUNT, 0);
-    FAILS(line(client, "degrade x"), MOC_LINE_BAD_NUMBER, 0);
-    FAILS(line(client, "degrade 30"), MOC_LINE_ORDER_TOO_LARGE, 0);
-    FAILS(line(client, "near 0 12"), MOC_LINE_CELL_TOO_LARGE, 0);
-    FAILS(line(client, "add 0/x"), MOC_LINE_BAD_BYTE, 0);
-    FAILS(line(client, "add 7"), MOC_LINE_NO_ORDER, 0);
-    FAILS(line(client, "invert ; add 5/7-3"), MOC_LINE_BACKWARDS, 0);
-    FAILS(line(client, "add 5/7-"), MOC_LINE_UNFINISHED, 0);
+    CHECK(is(line(client, "grow 0/0"), MOC_LINE_UNKNOWN_WORD, 0, 0));
+    CHECK(is(line(client, ""), MOC_LINE_EMPTY_COMMAND, 0, 0));
+    CHECK(is(line(client, "invert ; ; invert"), MOC_LINE_EMPTY_COMMAND, 1, 9));
+    CHECK(is(line(client, ";;;;;;;;;;;;;;;;"), MOC_LINE_TOO_MANY_COMMANDS, 16, 16));
+    CHECK(is(line(client, "invert 3"), MOC_LINE_WRONG_COUNT, 0, 0));
+    CHECK(is(line(client, "degrade x"), MOC_LINE_BAD_NUMBER, 0, 0));
+    CHECK(is(line(client, "degrade 30"), MOC_LINE_ORDER_TOO_LARGE, 0, 0));
+    CHECK(is(line(client, "near 0 12"), MOC_LINE_CELL_TOO_LARGE, 0, 0));
+    CHECK(is(line(client, "add 0/x"), MOC_LINE_BAD_BYTE, 0, 6));
+    CHECK(is(line(client, "add 7"), MOC_LINE_NO_ORDER, 0, 4));
+    CHECK(is(line(client, "invert ; add 5/7-3"), MOC_LINE_BACKWARDS, 1, 15));
+    CHECK(is(line(client, "add 5/7-"), MOC_LINE_UNFINISHED, 0, 8));
     CHECK(has_replies(client, "changed 3458764513820540928\n"));
     CHECK(replies_with(client, "read 0/0-11", "cover 0/2-11\n"));
 }

@@ -147,7 +147,7 @@ enum {
     /* the end of a range is above 12 * 4^29 */
     MOC_RANGE_PIXEL_TOO_LARGE = 41,
 
-    /* A line of commands. No call returns the last two, which are errors of schedules */
+    /* A line of commands. first: the number of the command; second: the byte of an error in a coverage, or of the command; both from 0 */
     /* the first word is not a command */
     MOC_LINE_UNKNOWN_WORD = 50,
     /* a command is blank */

@@ -20,7 +20,8 @@ use Rattle.moc_c.specs.declared.commands.Verb.{Verb}
 use Rattle.moc_c.specs.Contents.{Contents}
 use Rattle.moc_c.specs.Membership.{Membership}
 use Rattle.moc_c.specs.CallResults.{result_of}
-use Rattle.moc_c.specs.Private.Making.{try_error, ReadsWholeSky}
+use Rattle.moc_lines.specs.Places.{error_place}
+use Rattle.moc_c.specs.Private.Making.{IsLineError, try_error, ReadsWholeSky}
 use Rattle.moc_c.specs.Sharing.{Applies, BeginsMap, CallsMap, ExecutesLine, Gives, IsAfter, FailsTrying, Joins, StoresMapSet}
 use Rattle.moc_c.specs.Sharing.{MemberEnds, member_of_handle, StoresMember, unless_in_use, whole_sky, with_member}
 use Rattle.moc_c.specs.declared.error.CallError.{CallError}
@@ -51,23 +52,25 @@ pub applies_commands : (s new : ClientState) (m n : Membership) (line : List ℕ
     → IsAfter m n → CallsMap s new m n cs o → Applies s new (member_of_handle s) line o
 applies_commands s new m n line cs o is says after calls =
     subst (λ x. Applies s new (ok_or x error.NoMap) line o) (sym is)
-    (subst (λ x. ExecutesLine s new m x o) (sym says) (inl (n, after, calls)))
+    (subst (λ x. ExecutesLine s new m line x o) (sym says) (inl (n, after, calls)))
 
 -- a line that was not parsed: it is invalid, or an allocation failed
-pub not_parsed : (s : ClientState) (m : Membership) (line : List ℕ) (e : LineError) (o : CallResult) → s.member ≡ Some m → (e ≡ Memory) ⊎ (batch_of command_of line ≡ Err e)
-    → o ≡ result_of (error.Line e) → Applies s (with_member s m) (member_of_handle s) line o
-not_parsed s m line e o is reads tells = subst (λ x. Applies s (with_member s m) (ok_or x error.NoMap) line o) (sym is) (by_line (batch_of command_of line) reads)
+pub not_parsed : (s : ClientState) (m : Membership) (line : List ℕ) (e : LineError) (error_seen : CallError) (o : CallResult) → s.member ≡ Some m → (e ≡ Memory) ⊎ (batch_of command_of line ≡ Err e)
+    → IsLineError line e error_seen → o ≡ result_of error_seen → Applies s (with_member s m) (member_of_handle s) line o
+not_parsed s m line e error_seen o is reads reported gives = subst (λ x. Applies s (with_member s m) (ok_or x error.NoMap) line o) (sym is) (by_line (batch_of command_of line) reads reported)
   where
     unchanged : with_member s m ≡ s
     unchanged = λ i. record { member = (sym is) i; replies = s.replies }
 
-    by_line : (r : Result (List Command) LineError) → (e ≡ Memory) ⊎ (r ≡ Err e) → ExecutesLine s (with_member s m) m r o
-    by_line (Ok cs) (inl memory) = inr (unchanged, tells ∙ ap (λ x. result_of (error.Line x)) memory)
-    by_line (Ok cs) (inr same) = absurd cc
-    by_line (Err f) (inl memory) = (unchanged, inr (tells ∙ ap (λ x. result_of (error.Line x)) memory))
-    by_line (Err f) (inr same) =
+    by_line : (r : Result (List Command) LineError) → (e ≡ Memory) ⊎ (r ≡ Err e) → IsLineError line e error_seen → ExecutesLine s (with_member s m) m line r o
+    by_line (Ok cs) reads (inl memory) = inr (unchanged, gives ∙ ap result_of memory)
+    by_line (Ok cs) (inl is_memory) (inr (other, at)) = absurd (other is_memory)
+    by_line (Ok cs) (inr same) (inr (other, at)) = absurd cc
+    by_line (Err f) reads (inl memory) = (unchanged, inr (gives ∙ ap result_of memory))
+    by_line (Err f) (inl is_memory) (inr (other, at)) = absurd (other is_memory)
+    by_line (Err f) (inr same) (inr (other, at)) =
         let is_same : e ≡ f = cc in
-        (unchanged, inl (tells ∙ ap (λ x. result_of (error.Line x)) is_same))
+        (unchanged, inl (gives ∙ ap result_of at ∙ ap (λ x. result_of (error.Line x (error_place x line))) is_same))
 
 pub fails_trying : (m n : Membership) (cs : List Command) (e : TryError) (o : CallResult) → AfterTryApply m.map cs e (record_of m.client) (record_of n.client)
     → o ≡ result_of (try_error e) → FailsTrying m n cs o

@@ -12,6 +12,7 @@ use Rattle.moc_forms.specs.declared.format.FormatError.{FormatError}
 use Rattle.moc_forms.specs.declared.format.FormatError.TheVariants as format
 use Rattle.moc_lines.specs.declared.error.LineError.{LineError}
 use Rattle.moc_lines.specs.declared.error.LineError.TheVariants as line
+use Rattle.moc_lines.specs.declared.places.LinePlace.{LinePlace}
 use Rattle.moc_c.specs.declared.error.CallError.{CallError}
 use Rattle.moc_c.specs.declared.error.CallError.TheVariants as error
 use Rattle.moc_c.specs.declared.call_result.CallResult.{CallResult}
@@ -103,9 +104,9 @@ line_code line.ClientTooLarge = code.LINE_CLIENT_TOO_LARGE
 line_code line.PartTooLarge = code.LINE_PART_TOO_LARGE
 line_code line.Memory = code.MEMORY
 
--- the error of a line of commands
-abbrev pub result_of_line : LineError → CallResult
-result_of_line f = call_result (line_code f) 0 0
+-- the error of a line of commands, at a command and a byte
+abbrev pub result_of_line : LineError → LinePlace → CallResult
+result_of_line e place = call_result (line_code e) place.command place.byte
 
 -- any error
 abbrev pub result_of : CallError → CallResult
@@ -119,7 +120,7 @@ result_of (error.NotUniq at) = call_result code.NOT_UNIQ at 0
 result_of (error.Format e) = result_of_format e
 result_of error.TooCoarse = call_result code.TOO_COARSE 0 0
 result_of (error.Ranges e) = result_of_ranges e
-result_of (error.Line e) = result_of_line e
+result_of (error.Line e place) = result_of_line e place
 result_of error.NoMap = call_result code.NO_MAP 0 0
 result_of error.HandleInUse = call_result code.CLIENT_IN_USE 0 0
 result_of (error.BadCount clients) = call_result code.BAD_COUNT clients 0

@@ -12,6 +12,7 @@ use Rattle.moc_shared.specs.Clients.{call_of, TakesEffect, FailsOutOfMemory, num
 use Rattle.moc_shared.specs.declared.errors.Busy.{Busy}
 use Rattle.moc_lines.specs.Language.{batch_of, command_of, replies_text}
 use Rattle.moc_lines.specs.declared.error.LineError.{LineError}
+use Rattle.moc_lines.specs.Places.{error_place}
 use Rattle.moc_c.specs.Buffers.{Fills}
 use Rattle.moc_c.specs.Contents.{Contents, with_set}
 use Rattle.moc_c.specs.Membership.{IsNewMember, Membership}
@@ -105,14 +106,16 @@ CallsMap old new m n cs o =
     ⊎ (FailsTrying m n cs o × (new ≡ with_member old n))
 
 -- the commands of a line are executed; or the line is invalid, or an allocation fails, and nothing changes
-abbrev pub ExecutesLine : ClientState → ClientState → Membership → Result (List Command) LineError → CallResult → Type 0
-ExecutesLine old new m (Ok cs) o =
+abbrev pub ExecutesLine : ClientState → ClientState → Membership → List ℕ → Result (List Command) LineError → CallResult
+    → Type 0
+ExecutesLine old new m line (Ok cs) o =
     ((n : Membership) × IsAfter m n × CallsMap old new m n cs o) ⊎ ((new ≡ old) × (o ≡ memory))
-ExecutesLine old new m (Err e) o = (new ≡ old) × ((o ≡ result_of (error.Line e)) ⊎ (o ≡ memory))
+ExecutesLine old new m line (Err e) o =
+    (new ≡ old) × ((o ≡ result_of (error.Line e (error_place e line))) ⊎ (o ≡ memory))
 
 -- as `ExecutesLine` for the member of a handle; or the handle has no member
 abbrev pub Applies : ClientState → ClientState → Result Membership CallError → List ℕ → CallResult → Type 0
-Applies old new (Ok m) line o = ExecutesLine old new m (batch_of command_of line) o
+Applies old new (Ok m) line o = ExecutesLine old new m line (batch_of command_of line) o
 Applies old new (Err e) line o = (new ≡ old) × (o ≡ result_of e)
 
 -- ---- the set of a map

@@ -7,7 +7,7 @@ ghost use Rattle.moc_c.specs.CallResults.{result_of, result_of_text, number_resu
 use crate::codes;
 use crate::error::CallError;
 use moc_forms::FormatError;
-use moc_lines::LineError;
+use moc_lines::{LineError, LinePlace};
 use moc_ranges::RangesError;
 use moc_shared::Busy;
 use moc_text::{JsonError, TextError, UniqError};
@@ -78,7 +78,7 @@ impl CallResult {
             CallError::Format(error) => CallResult::of_format(error),
             CallError::TooCoarse => CallResult::new(codes::TOO_COARSE, 0, 0),
             CallError::Ranges(error) => CallResult::of_ranges(error),
-            CallError::Line(error) => CallResult::of_line(error),
+            CallError::Line { error, place } => CallResult::of_line(error, place),
             CallError::NoMap => CallResult::new(codes::NO_MAP, 0, 0),
             CallError::HandleInUse => CallResult::new(codes::CLIENT_IN_USE, 0, 0),
             CallError::BadCount { clients } => CallResult::new(
@@ -160,9 +160,9 @@ impl CallResult {
         }
     }
 
-    /// Returns the result for an error of a line of commands.
-    fn of_line(error: LineError) -> CallResult
-        ensures { result ≡ result_of_line error }
+    /// Returns the result for an error of a line of commands, with its place.
+    fn of_line(error: LineError, place: LinePlace) -> CallResult
+        ensures { result ≡ result_of_line error place }
     {
         let code = match error {
             LineError::UnknownWord => codes::LINE_UNKNOWN_WORD,
@@ -177,7 +177,7 @@ impl CallResult {
             LineError::PartTooLarge => codes::LINE_PART_TOO_LARGE,
             LineError::Memory => codes::MEMORY,
         };
-        CallResult::new(code, 0, 0)
+        CallResult::new(code, place.command as u64, place.byte as u64)
     }
 }
 

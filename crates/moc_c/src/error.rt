@@ -1,6 +1,6 @@
 //! The errors of calls.
 use moc_forms::FormatError;
-use moc_lines::LineError;
+use moc_lines::{LineError, LinePlace};
 use moc_ranges::{Memory as OutOfMemory, RangesError};
 use moc_shared::{Busy, TryError};
 use moc_text::WriteError;
@@ -29,8 +29,8 @@ pub enum CallError {
     TooCoarse,
     /// A range is invalid.
     Ranges(RangesError),
-    /// A line of commands was not parsed.
-    Line(LineError),
+    /// A line of commands is invalid at a place.
+    Line { error: LineError, place: LinePlace },
     /// The handle has no client.
     NoMap,
     /// The handle has a client already.

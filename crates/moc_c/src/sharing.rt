@@ -3,6 +3,7 @@ ghost use Rattle.std.specs.Prelude.{◌≡◌, IfOk};
 ghost use Rattle.moc_c.specs.Answers.{both, set_at};
 ghost use Rattle.moc_c.specs.Sharing.{answer_of, Applies, BeginsMap, client_count, FillsAnswer, IsFirstClient, Joins};
 ghost use Rattle.moc_c.specs.Sharing.{StoresMapSet, member_of_handle, StoresMember, unless_in_use};
+ghost use Rattle.moc_c.specs.Private.Making.{IsLineError};
 
 use crate::call_result::CallResult;
 use crate::client_handle::ClientHandle;
@@ -12,7 +13,7 @@ use crate::member::Member;
 use crate::store::Store;
 use crate::table::CoverageTable;
 use crate::texts::fill_text;
-use moc_lines::{answer_text, read_batch};
+use moc_lines::{LineError, answer_text, place_of_error, read_batch};
 use moc_ranges::Memory;
 use moc_shared::MAX_CLIENTS;
 use std::alloc::Global;
@@ -25,6 +26,19 @@ fn checked_client_count(clients: u8) -> Result<u8, CallError>
         Ok(clients)
     } else {
         Err(CallError::BadCount { clients })
+    }
+}
+
+/// Returns the error of an invalid line, with its place. If an allocation fails, the error is `Memory`.
+fn line_error(alloc: Global, line: &[u8], error: LineError) -> CallError
+    ensures { IsLineError line.now error result }
+{
+    if error == LineError::Memory {
+        return CallError::Memory;
+    }
+    match place_of_error(alloc, line, error) {
+        Ok(place) => CallError::Line { error, place },
+        Err(Memory) => CallError::Memory,
     }
 }
 
@@ -92,7 +106,7 @@ impl ClientState {
         };
         let batch = match read_batch(alloc, line) {
             Ok(batch) => batch,
-            Err(error) => return CallResult::of(CallError::Line(error)),
+            Err(error) => return CallResult::of(line_error(alloc, line, error)),
         };
         match member.apply(&batch) {
             Ok(replies) => {

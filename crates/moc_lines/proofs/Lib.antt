@@ -10,3 +10,4 @@ pub mod Batching
 pub mod NearLemmas
 pub mod WholeReading
 pub mod NumberingLemmas
+pub mod Placing

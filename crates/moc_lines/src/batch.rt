@@ -27,7 +27,7 @@ fn semicolons_in(line: &[u8]) -> usize
 }
 
 /// Parses a piece of a line.
-fn read_piece(alloc: Global, piece: &[u8]) -> Result<Command, LineError>
+pub(crate) fn read_piece(alloc: Global, piece: &[u8]) -> Result<Command, LineError>
     ensures { ParsesAs (λ command. command) result (piece_command command_of piece.now) }
 {
     if is_blank_text(piece) {

@@ -22,7 +22,7 @@ pub fn is_blank_text(text: &[u8]) -> bool
 }
 
 /// Returns the number of leading blanks of a text.
-fn blanks_in_front(text: &[u8]) -> usize
+pub(crate) fn blanks_in_front(text: &[u8]) -> usize
     ensures count { result ≡ prefix_len is_line_blank text.now }
     ensures within { result ≤ length text.now }
 {

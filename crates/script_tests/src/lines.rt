@@ -3,9 +3,9 @@
 use crate::between::has_text;
 use moc_devices::{OverReader, OverWriter};
 use moc_lines::{
-    Commands, LINE_LIMIT, LineError, RunError, answer_all_lines, answer_text, is_blank_text,
-    is_word, line_after_last, only_field, parse_decimal, push_count, push_cover, push_error,
-    push_reply_line, read_all, read_batch, read_commands, split_line, split_word, two_fields,
+    Commands, LINE_LIMIT, LineError, LinePlace, RunError, answer_all_lines, answer_text,
+    is_blank_text, is_word, line_after_last, only_field, parse_decimal, place_of_error, push_count,
+    push_cover, push_error, push_reply_line, read_all, read_batch, read_commands, split_line, split_word, two_fields,
 };
 use moc_parts::{Map, Reply};
 use moc_ranges::Coverage;
@@ -15,7 +15,7 @@ use std::process::Abort;
 
 #[test]
 fn words(rt: HostRuntime) {
-    for (text, word, behind) in [
+    for (text, word, following) in [
         (" \tadd 0/0", "add", " 0/0"),
         ("take", "take", ""),
         ("\r \t", "", ""),
@@ -23,7 +23,7 @@ fn words(rt: HostRuntime) {
     ] {
         let (seen, rest) = split_word(text.as_bytes());
         has_text(&rt, seen, word);
-        has_text(&rt, rest, behind);
+        has_text(&rt, rest, following);
     }
     for (text, word, is) in [("add", "add", true), ("adds", "add", false)] {
         assert_eq!(rt; is_word(text.as_bytes(), word), is, "{text}");
@@ -124,6 +124,27 @@ fn batches(rt: HostRuntime) {
 }
 
 #[test]
+fn places_of_errors(rt: HostRuntime) {
+    for (line, command, byte) in [
+        ("", 0, 0),
+        ("hop", 0, 0),
+        (" invert 3", 0, 1),
+        ("invert ; ; invert", 1, 9),
+        ("invert;degrade 30", 1, 7),
+        ("count 0/0;near 0 12;hop", 1, 10),
+        ("add 0/x", 0, 6),
+        ("invert ; add 5/7-3", 1, 15),
+        ("read @2 1/4 5/", 0, 14),
+        ("read @30 1/4", 0, 0),
+        (";;;;;;;;;;;;;;;; hop", 16, 17),
+    ] {
+        let error = read_batch(rt.alloc(), line.as_bytes()).err().expect(&rt, "an error");
+        let place = place_of_error(rt.alloc(), line.as_bytes(), error).expect(&rt, "memory");
+        assert_eq!(rt; place, LinePlace { command, byte }, "{line}");
+    }
+}
+
+#[test]
 fn texts_of_answers(rt: HostRuntime) {
     let alloc = rt.alloc();
     let mut text = Vec::new(alloc);
@@ -149,7 +170,7 @@ fn whole_inputs(rt: HostRuntime) {
     for (text, line, behind) in [("a\nb\n", "a", "b\n"), ("\n", "", ""), ("a", "a", "")] {
         let (seen, rest) = split_line(text.as_bytes());
         has_text(&rt, seen, line);
-        has_text(&rt, rest, behind);
+        has_text(&rt, rest, following);
     }
     for (text, number) in [("", 1), ("a", 2), ("a\n", 2), ("a\nb", 3)] {
         assert_eq!(rt; line_after_last(text.as_bytes()), number, "{text:?}");

@@ -1,11 +1,14 @@
 -- Intermediate results of calls that make sets or execute batches.
-use Rattle.std.specs.Prelude.{◌≡◌, ◌⊎◌, ◌∷◌, [], ℕ, List, Result, Ok, Err, String, string_bytes}
+use Rattle.std.specs.Prelude.{◌≡◌, ◌⊎◌, ◌∷◌, [], ℕ, List, Result, Ok, Err, String, string_bytes, ⊥}
 use Rattle.std.specs.declared.alloc.Global.{Global}
 use Rattle.moc_lists.specs.RangeList.{NumberSet}
 use Rattle.moc_ranges.specs.declared.errors.Memory.{Memory}
 use Rattle.moc_parts.specs.declared.command.Command.{Command}
 use Rattle.moc_parts.specs.declared.reply.Reply.{Reply}
 use Rattle.moc_parts.specs.declared.reply.Reply.TheVariants.{Cover}
+use Rattle.moc_lines.specs.declared.error.LineError.{LineError}
+use Rattle.moc_lines.specs.declared.error.LineError.TheVariants.{Memory as LineMemory}
+use Rattle.moc_lines.specs.Places.{error_place}
 use Rattle.moc_shared.specs.Clients.{AfterTryApply, record_of}
 use Rattle.moc_shared.specs.declared.errors.TryError.{TryError}
 use Rattle.moc_shared.specs.declared.errors.TryError.TheVariants as try
@@ -37,6 +40,11 @@ try_error try.Memory = error.Memory
 abbrev pub Tries : Membership → Membership → List Command → Result (List Reply) TryError → Type 0
 Tries old new cs (Ok r) = IsAfter old new × MemberEnds old new cs r
 Tries old new cs (Err e) = IsAfter old new × AfterTryApply old.map cs e (record_of old.client) (record_of new.client)
+
+-- the error of a call with an invalid line: the error of the line and its place, unless an allocation failed
+abbrev pub IsLineError : List ℕ → LineError → CallError → Type 0
+IsLineError line e result =
+    (result ≡ error.Memory) ⊎ ((e ≡ LineMemory → ⊥) × (result ≡ error.Line e (error_place e line)))
 
 -- the reply of a call of one command as a list, or its error
 abbrev pub replies_of : Result Reply TryError → Result (List Reply) TryError

@@ -11,7 +11,7 @@ returns-in-Ok-apply c =
 
 pub returns-in-Err : goal.returns-in-Err
 returns-in-Err c =
-    not_parsed c.args.self.now c.in-Some.member c.args.line.now c.in-Err.error c.of-in-Err.result c.in-Some.is c.in-Err.ensures c.of-in-Err.ensures
+    not_parsed c.args.self.now c.in-Some.member c.args.line.now c.in-Err.error c.line_error.result c.of-in-Err.result c.in-Some.is c.in-Err.ensures c.line_error.ensures c.of-in-Err.ensures
 
 pub returns : goal.returns
 returns c =

@@ -1,0 +1,96 @@
+//! Where a line is invalid.
+ghost use Rattle.std.specs.Prelude.{◌≡◌, ◌≤◌, length, IfOk};
+ghost use Rattle.moc_lines.specs.Places.{coverage_text, error_in_piece, error_place, is_about};
+
+use crate::batch::{first_semicolon, read_piece};
+use crate::error::LineError;
+use crate::words::{blanks_in_front, split_word};
+use moc_parts::MAX_COMMANDS;
+use moc_ranges::Memory;
+use std::alloc::Global;
+
+/// The place of an error in a line.
+#[derive(Clone, Copy, Debug, PartialEq, Eq)]
+pub struct LinePlace {
+    /// The number of the invalid command, from 0.
+    pub command: usize,
+    /// The offset of a byte, from 0: of the error in a coverage, or else of the first byte of the command.
+    pub byte: usize,
+}
+
+/// Returns whether an error of a line is about the piece with a number: too many commands about the 17th, any other
+/// error about each invalid piece.
+fn is_about(
+    alloc: Global,
+    error: LineError,
+    number: usize,
+    piece: &[u8],
+) -> Result<bool, Memory>
+    ensures { IfOk result (λ is. is ≡ is_about error number piece.now) }
+{
+    if error == LineError::TooManyCommands {
+        return Ok(number == MAX_COMMANDS);
+    }
+    match read_piece(alloc, piece) {
+        Ok(_) => Ok(false),
+        Err(LineError::Memory) => Err(Memory),
+        Err(_) => Ok(true),
+    }
+}
+
+/// Returns the text after the word of a command, and after an order that begins with `@`.
+fn coverage_text(piece: &[u8]) -> &[u8]
+    ensures text { result.now ≡ coverage_text piece.now }
+    ensures within { length result.now ≤ length piece.now }
+{
+    let (_, text) = split_word(piece);
+    let (word, following) = split_word(text);
+    if word.starts_with(b"@") {
+        following
+    } else {
+        text
+    }
+}
+
+/// Returns the offset of an error in the piece that it is about.
+fn error_in_piece(error: LineError, piece: &[u8]) -> usize
+    ensures offset { result ≡ error_in_piece error piece.now }
+    ensures within { result ≤ length piece.now }
+{
+    let LineError::Coverage(error) = error else {
+        return blanks_in_front(piece);
+    };
+    let text = coverage_text(piece);
+    let offset = error.place().unwrap_or(0).min(text.len());
+    piece.len() - text.len() + offset
+}
+
+/// Returns where the error of an invalid line is: in the first invalid command, or in the 17th if there are too many.
+///
+/// # Errors
+/// Fails with `Memory` if an allocation fails.
+///
+/// # Complexity
+/// That of parsing the line again.
+pub fn place_of_error(alloc: Global, line: &[u8], error: LineError) -> Result<LinePlace, Memory>
+    ensures { IfOk result (λ place. place ≡ error_place error line.now) }
+{
+    let mut place = LinePlace {
+        command: 0,
+        byte: 0,
+    };
+    let mut rest = line;
+    loop {
+        let (piece, following) = rest.split_at(first_semicolon(rest));
+        if is_about(alloc, error, place.command, piece)? {
+            place.byte += error_in_piece(error, piece);
+            return Ok(place);
+        }
+        place.command += 1;
+        place.byte += piece.len() + 1;
+        let [_semicolon, next @ ..] = following else {
+            return Ok(place);
+        };
+        rest = next;
+    }
+}
