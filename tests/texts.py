@@ -4,6 +4,8 @@
 - `always_failing.py` and `plants.py` replace correct code with wrong code, and CI tries a third of their cases on each day. Every function
   and every line that they replace has to be in its source exactly once, also on days when its case is not tried.
 - No line of a page is longer than 140 columns, except rows of tables. No cell of a table is longer than 120 columns.
+- Each picture of `tools/pictures.py` is the file in `docs/pictures`, and a page shows each file there. The ring numbers of its formulas are
+  those of the table of `crates/outside_tables`, which is from healpy, and the ratios of measurements are those of their times.
 - Each relative link of a page leads to a file of the repository, and its anchor to a heading. Anchors are made by GitHub's rules.
 - The name of a page in the text of another page is a link, except on the CALLING pages.
 - Each line of the program in README.md is in the crate `example_library`, which CI proves and runs.
@@ -20,6 +22,7 @@ import os
 import re
 import sys
 import urllib.parse
+import xml.etree.ElementTree
 from collections.abc import Iterator, Sequence
 
 import always_failing
@@ -29,7 +32,9 @@ from tally import Tally
 TOP = os.path.dirname(os.path.dirname(os.path.abspath(__file__)))
 sys.path.insert(0, os.path.join(TOP, "tools"))
 import codes  # noqa: E402
+import pictures  # noqa: E402
 import signatures  # noqa: E402
+import sky_pictures  # noqa: E402
 import version  # noqa: E402
 
 # The maximal number of columns of a line of a page, and of a cell of a table.
@@ -85,6 +90,41 @@ def check_signatures() -> Iterator[Check]:
     """Checks that the table of the functions that the Python package calls is that which `tools/signatures.py` makes."""
     for path, text in signatures.generated_files().items():
         yield f"{path}: its functions are those of {codes.HEADER}", read_file(path) == text
+
+
+def check_pictures() -> Iterator[Check]:
+    """Checks the pictures that `tools/pictures.py` makes, and that a page shows each picture."""
+    made = pictures.generated_files()
+    for path, text in made.items():
+        yield f"{path}: it is the picture that tools/pictures.py makes", read_file(path) == text
+        yield f"{path}: it is well-formed, with a title and a description", names_of_elements(text)[:3] == ["svg", "title", "desc"]
+    folder = os.path.join("docs", "pictures")
+    files = {os.path.join(folder, name) for name in os.listdir(os.path.join(TOP, folder))}
+    yield f"{folder}: tools/pictures.py makes all pictures", files == set(made)
+    shown = {os.path.normpath(os.path.join(os.path.dirname(name), target))
+             for name in page_names() for target in targets_of(read_file(name))}
+    yield f"a page shows each picture; not shown: {sorted(files - shown)}", files <= shown
+    for name, text in sky_pictures.shown_texts():
+        shown_text = f"\n{text.replace(' ', chr(10))}\n" if name == "NUNIQ" else text
+        yield f"docs/FORMATS.md: the {name} text of the MOC of cells.svg is {text!r}", shown_text in read_file("docs", "FORMATS.md")
+    yield f"{pictures.failures()}: no ratio differs from that of its times", not pictures.failures()
+
+
+def names_of_elements(picture: str) -> list[str]:
+    """Returns the names of the elements of an SVG picture, or an empty list if it is not well-formed."""
+    try:
+        return [element.tag.rpartition("}")[2] for element in xml.etree.ElementTree.fromstring(picture).iter()]
+    except xml.etree.ElementTree.ParseError:
+        return []
+
+
+def check_numberings() -> Iterator[Check]:
+    """Checks the ring numbers of the pictures against a table from healpy, which has all cells of orders 0 to 4."""
+    lines = re.findall(r"^(\d+) (\d+) (\d+)$", read_file("crates", "outside_tables", "stdin"), re.MULTILINE)
+    rows = [tuple(map(int, line)) for line in lines]
+    yield "the table of ring numbers has all cells of orders 0 to 4", len(set(rows)) == sum(12 * 4 ** order for order in range(5))
+    wrong = [row for row in rows if sky_pictures.ring_number(*row[:2]) != row[2]]
+    yield f"sky_pictures.py: ring_number returns the ring number of healpy; wrong: {wrong}", not wrong
 
 
 def page_names() -> list[str]:
@@ -223,6 +263,7 @@ def main() -> int:
     """Runs all checks."""
     tally = Tally()
     for statement, holds in (*check_replaced_functions(), *check_replaced_lines(), *check_codes(), *check_signatures(),
+                             *check_pictures(), *check_numberings(),
                              *check_line_lengths(), *check_cell_lengths(), *check_links(), *check_names_of_pages(),
                              *check_shown_program(), *check_first_output(), *check_versions()):
         tally.check(holds, f"does not hold: {statement}")
