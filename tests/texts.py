@@ -7,7 +7,7 @@
 - Each picture of `tools/pictures.py` is the file in `docs/pictures`, and a page shows each file there. The ring numbers of its formulas are
   those of the table of `crates/outside_tables`, which is from healpy, and the ratios of measurements are those of their times.
 - Each relative link of a page leads to a file of the repository, and its anchor to a heading. Anchors are made by GitHub's rules.
-- The name of a page in the text of another page is a link, except on the CALLING pages.
+- The name of a page in the text of another page is a link. A path of a page in a script or a source leads to a page.
 - Each line of the program in README.md is in the crate `example_library`, which CI proves and runs.
 - The output that README.md shows for its first command is the output that CI compares with the program's.
 - Each file that repeats the version of the project has the version of `ploverchaise.h`.
@@ -40,6 +40,10 @@ import version  # noqa: E402
 # The maximal number of columns of a line of a page, and of a cell of a table.
 MAX_COLUMNS, MAX_CELL_COLUMNS = 140, 120
 PAGES = ("*.md", "docs/*.md", "docs/reference/*.md", "bench/*.md", "crates/*/CALLING.md", "python/*.md")
+# Scripts and sources that may have paths of pages. This script has wrong paths as examples.
+SOURCES = ("moc", ".ci/run", "bench/*.sh", "bench/*.py", "tests/**/*.py", "tests/**/*.c", "tests/**/*.cpp", "tools/**/*.py",
+           "python/**/*.py", "crates/*/src/**/*.rt", "crates/*/specs/**/*.antt", "crates/*/include/*.h", "crates/*/include/*.hpp")
+SELF = os.path.join("tests", "texts.py")
 # The first part of a generated page, whose links may lead to headings of the rest.
 HEAD = os.path.join("docs", "DEFINITIONS.head.md")
 # A block of code; code in backquotes; a comment; a link with its target, and a definition of a target.
@@ -219,16 +223,32 @@ def unlinked_names(name: str, page: str, names: Sequence[str]) -> list[str]:
 
 
 def check_names_of_pages() -> Iterator[Check]:
-    """Checks that the names of pages are links, except on the CALLING pages, and that a name without a link would be found."""
+    """Checks that the names of pages are links, and that a name without a link would be found."""
     names = page_names()
     for name in names:
-        if not name.endswith("CALLING.md"):
-            unlinked = unlinked_names(name, read_file(name), names)
-            yield f"{name}: each name of a page is a link; without link: {unlinked}", not unlinked
+        unlinked = unlinked_names(name, read_file(name), names)
+        yield f"{name}: each name of a page is a link; without link: {unlinked}", not unlinked
     for text in ("see GATE", "`docs/GATE.md`", "the README's example", "crates/moc_c/CALLING.md"):
         yield f"the name of a page without a link is found in {text!r}", len(unlinked_names("docs/PAGE.md", text, names)) == 1
     for text in ("[GATE](GATE.md)", "[what `GATE.md`\nhas](GATE.md)", "    cat README.md", "```text\nREADME\n```", "INVESTIGATE"):
         yield f"no name of a page without a link is found in {text!r}", not unlinked_names("docs/PAGE.md", text, names)
+
+
+def missing_pages(source: str) -> list[str]:
+    """Returns the paths of pages in a source that lead to no page."""
+    paths = re.findall(r"(?<![\w./])(?:docs|bench|crates/\w+)/[\w./]*\.md\b", source)
+    return [path for path in paths if not os.path.exists(os.path.join(TOP, path))]
+
+
+def check_paths_of_pages() -> Iterator[Check]:
+    """Checks the paths of pages in scripts and sources, and that a wrong path would be found."""
+    names = {path for pattern in SOURCES for path in glob.glob(pattern, root_dir=TOP, recursive=True)} - {SELF}
+    for name in sorted(names):
+        source = read_file(name)
+        if ".md" in source:
+            yield f"{name}: each path of a page leads to a page; wrong: {missing_pages(source)}", not missing_pages(source)
+    found = missing_pages("docs/NO.md docs/GATE.md other/docs/NO.md")
+    yield "a path that leads to no page is found, and no other path", found == ["docs/NO.md"]
 
 
 def check_first_output() -> Iterator[Check]:
@@ -265,6 +285,7 @@ def main() -> int:
     for statement, holds in (*check_replaced_functions(), *check_replaced_lines(), *check_codes(), *check_signatures(),
                              *check_pictures(), *check_numberings(),
                              *check_line_lengths(), *check_cell_lengths(), *check_links(), *check_names_of_pages(),
+                             *check_paths_of_pages(),
                              *check_shown_program(), *check_first_output(), *check_versions()):
         tally.check(holds, f"does not hold: {statement}")
     return tally.finish()
