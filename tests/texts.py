@@ -8,6 +8,7 @@
   those of the table of `crates/outside_tables`, which is from healpy, and the ratios of measurements are those of their times.
 - Each relative link of a page leads to a file of the repository, and its anchor to a heading. Anchors are made by GitHub's rules.
 - The name of a page in the text of another page is a link. A path of a page in a script or a source leads to a page.
+- The records of docs/DECISIONS.md have the numbers from 1, each once, and parts with fixed names.
 - Each line of the program in README.md is in the crate `example_library`, which CI proves and runs.
 - The output that README.md shows for its first command is the output that CI compares with the program's.
 - Each file that repeats the version of the project has the version of `ploverchaise.h`.
@@ -44,6 +45,8 @@ PAGES = ("*.md", "docs/*.md", "docs/reference/*.md", "bench/*.md", "crates/*/CAL
 SOURCES = ("moc", ".ci/run", "bench/*.sh", "bench/*.py", "tests/**/*.py", "tests/**/*.c", "tests/**/*.cpp", "tools/**/*.py",
            "python/**/*.py", "crates/*/src/**/*.rt", "crates/*/specs/**/*.antt", "crates/*/include/*.h", "crates/*/include/*.hpp")
 SELF = os.path.join("tests", "texts.py")
+# The parts of a record of docs/DECISIONS.md, each at most once.
+RECORD_PARTS = {"Context", "Decision", "Consequences", "Alternative", "Alternatives"}
 # The first part of a generated page, whose links may lead to headings of the rest.
 HEAD = os.path.join("docs", "DEFINITIONS.head.md")
 # A block of code; code in backquotes; a comment; a link with its target, and a definition of a target.
@@ -251,6 +254,28 @@ def check_paths_of_pages() -> Iterator[Check]:
     yield "a path that leads to no page is found, and no other path", found == ["docs/NO.md"]
 
 
+def wrong_records(page: str) -> list[str]:
+    """Returns what is wrong with the records of a page of decisions: a number twice, a missing number, or a part without its name."""
+    records = re.split(r"^### ", page, flags=re.MULTILINE)[1:]
+    numbers = sorted(int(number) for number in re.findall(r"^### (\d+)\. ", page, re.MULTILINE))
+    wrong = [] if numbers == list(range(1, len(records) + 1)) else ["the numbers"]
+    for record in records:
+        heading, _, body = record.partition("\n")
+        items = re.findall(r"^- ([^:\n]*)", body.partition("\n## ")[0], re.MULTILINE)
+        if not set(items) <= RECORD_PARTS or len(set(items)) < len(items):
+            wrong.append(heading)
+    return wrong
+
+
+def check_decisions() -> Iterator[Check]:
+    """Checks the records of the page of decisions, and that a wrong record would be found."""
+    wrong = wrong_records(read_file("docs", "DECISIONS.md"))
+    yield f"docs/DECISIONS.md: the records have the numbers from 1, and parts with names; wrong: {wrong}", not wrong
+    yield "records with right numbers and parts are accepted", not wrong_records("### 2. B\n- Context: c\n- Decision: d\n### 1. A\n")
+    for page in ("### 2. A\n", "### 1. A\n### 1. B\n", "### A\n", "### 1. A\n- Reason: b\n", "### 1. A\n- Context: b\n- Context: c\n"):
+        yield f"{page!r} is found as a wrong record", len(wrong_records(page)) == 1
+
+
 def check_first_output() -> Iterator[Check]:
     """Checks that README.md shows the output that CI compares with the program's."""
     shown = "".join(f"    {line}\n" for line in read_file("crates", "moc_cli", "stdout").splitlines())
@@ -285,7 +310,7 @@ def main() -> int:
     for statement, holds in (*check_replaced_functions(), *check_replaced_lines(), *check_codes(), *check_signatures(),
                              *check_pictures(), *check_numberings(),
                              *check_line_lengths(), *check_cell_lengths(), *check_links(), *check_names_of_pages(),
-                             *check_paths_of_pages(),
+                             *check_paths_of_pages(), *check_decisions(),
                              *check_shown_program(), *check_first_output(), *check_versions()):
         tally.check(holds, f"does not hold: {statement}")
     return tally.finish()
