@@ -17,7 +17,7 @@ TOLERANCE = 0.0125
 # What the chart writes for parts of the names of operations, so that they fit into its column.
 SHORT = (("ten million", "10⁷"), (" of a million cells at the border of a base pixel", ", at a border"), ("a million cells", "10⁶"))
 # The left end of the bars and of the column after them, the greatest ratio that has a place, and the length of a bar of ratio 1.
-LEFT, RIGHT, MAX_RATIO = 250.0, 506.0, 2
+LEFT, RIGHT, MAX_RATIO = 236.0, 468.0, 2
 SCALE = (RIGHT - 16 - LEFT) / MAX_RATIO
 
 
