@@ -6,6 +6,7 @@
 - No line of a page is longer than 140 columns, except rows of tables. No cell of a table is longer than 120 columns.
 - Each picture of `tools/pictures.py` is the file in `docs/pictures`, and a page shows each file there. The ring numbers of its formulas are
   those of the table of `crates/outside_tables`, which is from healpy, and the ratios of measurements are those of their times.
+- The table of crates in docs/ARCHITECTURE.md has each crate of the product, after the crates that it uses.
 - Each relative link of a page leads to a file of the repository, and its anchor to a heading. Anchors are made by GitHub's rules.
 - The name of a page in the text of another page is a link. A path of a page in a script or a source leads to a page.
 - The records of docs/DECISIONS.md have the numbers from 1, each once, and parts with fixed names.
@@ -33,6 +34,7 @@ from tally import Tally
 TOP = os.path.dirname(os.path.dirname(os.path.abspath(__file__)))
 sys.path.insert(0, os.path.join(TOP, "tools"))
 import codes  # noqa: E402
+import diagrams  # noqa: E402
 import pictures  # noqa: E402
 import signatures  # noqa: E402
 import sky_pictures  # noqa: E402
@@ -115,6 +117,16 @@ def check_pictures() -> Iterator[Check]:
         shown_text = f"\n{text.replace(' ', chr(10))}\n" if name == "NUNIQ" else text
         yield f"docs/FORMATS.md: the {name} text of the MOC of cells.svg is {text!r}", shown_text in read_file("docs", "FORMATS.md")
     yield f"{pictures.failures()}: no ratio differs from that of its times", not pictures.failures()
+
+
+def check_crate_table() -> Iterator[Check]:
+    """Checks that the table of crates in docs/ARCHITECTURE.md has each crate of the product once, after the crates that it uses."""
+    uses = diagrams.product_crates()
+    section = read_file("docs", "ARCHITECTURE.md").partition("\n## Crates\n")[2].partition("\n## ")[0]
+    rows = re.findall(r"^\| `(\w+)` \|", section, re.MULTILINE)
+    yield f"docs/ARCHITECTURE.md: the table has each crate once; it has {rows}", sorted(rows) == sorted(uses)
+    early = [name for number, name in enumerate(rows) if not set(uses.get(name, ())) <= set(rows[:number])]
+    yield f"docs/ARCHITECTURE.md: each crate is after the crates that it uses; too early: {early}", not early
 
 
 def names_of_elements(picture: str) -> list[str]:
@@ -308,7 +320,7 @@ def main() -> int:
     """Runs all checks."""
     tally = Tally()
     for statement, holds in (*check_replaced_functions(), *check_replaced_lines(), *check_codes(), *check_signatures(),
-                             *check_pictures(), *check_numberings(),
+                             *check_pictures(), *check_numberings(), *check_crate_table(),
                              *check_line_lengths(), *check_cell_lengths(), *check_links(), *check_names_of_pages(),
                              *check_paths_of_pages(), *check_decisions(),
                              *check_shown_program(), *check_first_output(), *check_versions()):
