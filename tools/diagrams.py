@@ -156,7 +156,7 @@ def draw_claims() -> str:
         begin = steps[begun - 1]
         elements += dot(place, bottom, 6.0) + text(place, bottom + 22, f"client {begin.client}")
     y = bottom + 52
-    elements += box(12, y - 12, 15, 15, "blue") + text(34, y, "holds the lock of base pixel 0", "left")
+    elements += box(12, y - 12, 15, 15, "blue") + text(34, y, f"holds the lock of base pixel {edits[0][1].line.split()[-1]}", "left")
     elements += dot(262, y - 4, 6.0) + text(276, y, "the claim takes effect", "left")
     elements += text(WIDTH - 12, y, "Time runs to the right.", "right soft")
     about = ("Each client begins a batch, takes the lock of a base pixel, edits, gives the lock back and ends. The second client is "
