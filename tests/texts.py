@@ -4,8 +4,12 @@
 - `always_failing.py` and `plants.py` replace correct code with wrong code, and CI tries a third of their cases on each day. Every function
   and every line that they replace has to be in its source exactly once, also on days when its case is not tried.
 - No line of a page is longer than 140 columns, except rows of tables. No cell of a table is longer than 120 columns.
+- Each picture of `tools/pictures.py` is the file in `docs/pictures`, and a page shows each file there. The ring numbers of its formulas are
+  those of the table of `crates/outside_tables`, which is from healpy, and the ratios of measurements are those of their times.
+- The table of crates in docs/ARCHITECTURE.md has each crate of the product, after the crates that it uses.
 - Each relative link of a page leads to a file of the repository, and its anchor to a heading. Anchors are made by GitHub's rules.
-- The name of a page in the text of another page is a link, except on the CALLING pages.
+- The name of a page in the text of another page is a link. A path of a page in a script or a source leads to a page.
+- The records of docs/DECISIONS.md have the numbers from 1, each once, and parts with fixed names.
 - Each line of the program in README.md is in the crate `example_library`, which CI proves and runs.
 - The output that README.md shows for its first command is the output that CI compares with the program's.
 - Each file that repeats the version of the project has the version of `ploverchaise.h`.
@@ -20,6 +24,7 @@ import os
 import re
 import sys
 import urllib.parse
+import xml.etree.ElementTree
 from collections.abc import Iterator, Sequence
 
 import always_failing
@@ -29,12 +34,21 @@ from tally import Tally
 TOP = os.path.dirname(os.path.dirname(os.path.abspath(__file__)))
 sys.path.insert(0, os.path.join(TOP, "tools"))
 import codes  # noqa: E402
+import diagrams  # noqa: E402
+import pictures  # noqa: E402
 import signatures  # noqa: E402
+import sky_pictures  # noqa: E402
 import version  # noqa: E402
 
 # The maximal number of columns of a line of a page, and of a cell of a table.
 MAX_COLUMNS, MAX_CELL_COLUMNS = 140, 120
 PAGES = ("*.md", "docs/*.md", "docs/reference/*.md", "bench/*.md", "crates/*/CALLING.md", "python/*.md")
+# Scripts and sources that may have paths of pages. This script has wrong paths as examples.
+SOURCES = ("moc", ".ci/run", "bench/*.sh", "bench/*.py", "tests/**/*.py", "tests/**/*.c", "tests/**/*.cpp", "tools/**/*.py",
+           "python/**/*.py", "crates/*/src/**/*.rt", "crates/*/specs/**/*.antt", "crates/*/include/*.h", "crates/*/include/*.hpp")
+SELF = os.path.join("tests", "texts.py")
+# The parts of a record of docs/DECISIONS.md, each at most once.
+RECORD_PARTS = {"Context", "Decision", "Consequences", "Alternative", "Alternatives"}
 # The first part of a generated page, whose links may lead to headings of the rest.
 HEAD = os.path.join("docs", "DEFINITIONS.head.md")
 # A block of code; code in backquotes; a comment; a link with its target, and a definition of a target.
@@ -85,6 +99,51 @@ def check_signatures() -> Iterator[Check]:
     """Checks that the table of the functions that the Python package calls is that which `tools/signatures.py` makes."""
     for path, text in signatures.generated_files().items():
         yield f"{path}: its functions are those of {codes.HEADER}", read_file(path) == text
+
+
+def check_pictures() -> Iterator[Check]:
+    """Checks the pictures that `tools/pictures.py` makes, and that a page shows each picture."""
+    made = pictures.generated_files()
+    for path, text in made.items():
+        yield f"{path}: it is the picture that tools/pictures.py makes", read_file(path) == text
+        yield f"{path}: it is well-formed, with a title and a description", names_of_elements(text)[:3] == ["svg", "title", "desc"]
+    folder = os.path.join("docs", "pictures")
+    files = {os.path.join(folder, name) for name in os.listdir(os.path.join(TOP, folder))}
+    yield f"{folder}: tools/pictures.py makes all pictures", files == set(made)
+    shown = {os.path.normpath(os.path.join(os.path.dirname(name), target))
+             for name in page_names() for target in targets_of(read_file(name))}
+    yield f"a page shows each picture; not shown: {sorted(files - shown)}", files <= shown
+    for name, text in sky_pictures.shown_texts():
+        shown_text = f"\n{text.replace(' ', chr(10))}\n" if name == "NUNIQ" else text
+        yield f"docs/FORMATS.md: the {name} text of the MOC of cells.svg is {text!r}", shown_text in read_file("docs", "FORMATS.md")
+    yield f"{pictures.failures()}: no ratio differs from that of its times", not pictures.failures()
+
+
+def check_crate_table() -> Iterator[Check]:
+    """Checks that the table of crates in docs/ARCHITECTURE.md has each crate of the product once, after the crates that it uses."""
+    uses = diagrams.product_crates()
+    section = read_file("docs", "ARCHITECTURE.md").partition("\n## Crates\n")[2].partition("\n## ")[0]
+    rows = re.findall(r"^\| `(\w+)` \|", section, re.MULTILINE)
+    yield f"docs/ARCHITECTURE.md: the table has each crate once; it has {rows}", sorted(rows) == sorted(uses)
+    early = [name for number, name in enumerate(rows) if not set(uses.get(name, ())) <= set(rows[:number])]
+    yield f"docs/ARCHITECTURE.md: each crate is after the crates that it uses; too early: {early}", not early
+
+
+def names_of_elements(picture: str) -> list[str]:
+    """Returns the names of the elements of an SVG picture, or an empty list if it is not well-formed."""
+    try:
+        return [element.tag.rpartition("}")[2] for element in xml.etree.ElementTree.fromstring(picture).iter()]
+    except xml.etree.ElementTree.ParseError:
+        return []
+
+
+def check_numberings() -> Iterator[Check]:
+    """Checks the ring numbers of the pictures against a table from healpy, which has all cells of orders 0 to 4."""
+    lines = re.findall(r"^(\d+) (\d+) (\d+)$", read_file("crates", "outside_tables", "stdin"), re.MULTILINE)
+    rows = [tuple(map(int, line)) for line in lines]
+    yield "the table of ring numbers has all cells of orders 0 to 4", len(set(rows)) == sum(12 * 4 ** order for order in range(5))
+    wrong = [row for row in rows if sky_pictures.ring_number(*row[:2]) != row[2]]
+    yield f"sky_pictures.py: ring_number returns the ring number of healpy; wrong: {wrong}", not wrong
 
 
 def page_names() -> list[str]:
@@ -179,16 +238,54 @@ def unlinked_names(name: str, page: str, names: Sequence[str]) -> list[str]:
 
 
 def check_names_of_pages() -> Iterator[Check]:
-    """Checks that the names of pages are links, except on the CALLING pages, and that a name without a link would be found."""
+    """Checks that the names of pages are links, and that a name without a link would be found."""
     names = page_names()
     for name in names:
-        if not name.endswith("CALLING.md"):
-            unlinked = unlinked_names(name, read_file(name), names)
-            yield f"{name}: each name of a page is a link; without link: {unlinked}", not unlinked
+        unlinked = unlinked_names(name, read_file(name), names)
+        yield f"{name}: each name of a page is a link; without link: {unlinked}", not unlinked
     for text in ("see GATE", "`docs/GATE.md`", "the README's example", "crates/moc_c/CALLING.md"):
         yield f"the name of a page without a link is found in {text!r}", len(unlinked_names("docs/PAGE.md", text, names)) == 1
     for text in ("[GATE](GATE.md)", "[what `GATE.md`\nhas](GATE.md)", "    cat README.md", "```text\nREADME\n```", "INVESTIGATE"):
         yield f"no name of a page without a link is found in {text!r}", not unlinked_names("docs/PAGE.md", text, names)
+
+
+def missing_pages(source: str) -> list[str]:
+    """Returns the paths of pages in a source that lead to no page."""
+    paths = re.findall(r"(?<![\w./])(?:docs|bench|crates/\w+)/[\w./]*\.md\b", source)
+    return [path for path in paths if not os.path.exists(os.path.join(TOP, path))]
+
+
+def check_paths_of_pages() -> Iterator[Check]:
+    """Checks the paths of pages in scripts and sources, and that a wrong path would be found."""
+    names = {path for pattern in SOURCES for path in glob.glob(pattern, root_dir=TOP, recursive=True)} - {SELF}
+    for name in sorted(names):
+        source = read_file(name)
+        if ".md" in source:
+            yield f"{name}: each path of a page leads to a page; wrong: {missing_pages(source)}", not missing_pages(source)
+    found = missing_pages("docs/NO.md docs/GATE.md other/docs/NO.md")
+    yield "a path that leads to no page is found, and no other path", found == ["docs/NO.md"]
+
+
+def wrong_records(page: str) -> list[str]:
+    """Returns what is wrong with the records of a page of decisions: a number twice, a missing number, or a part without its name."""
+    records = re.split(r"^### ", page, flags=re.MULTILINE)[1:]
+    numbers = sorted(int(number) for number in re.findall(r"^### (\d+)\. ", page, re.MULTILINE))
+    wrong = [] if numbers == list(range(1, len(records) + 1)) else ["the numbers"]
+    for record in records:
+        heading, _, body = record.partition("\n")
+        items = re.findall(r"^- ([^:\n]*)", body.partition("\n## ")[0], re.MULTILINE)
+        if not set(items) <= RECORD_PARTS or len(set(items)) < len(items):
+            wrong.append(heading)
+    return wrong
+
+
+def check_decisions() -> Iterator[Check]:
+    """Checks the records of the page of decisions, and that a wrong record would be found."""
+    wrong = wrong_records(read_file("docs", "DECISIONS.md"))
+    yield f"docs/DECISIONS.md: the records have the numbers from 1, and parts with names; wrong: {wrong}", not wrong
+    yield "records with right numbers and parts are accepted", not wrong_records("### 2. B\n- Context: c\n- Decision: d\n### 1. A\n")
+    for page in ("### 2. A\n", "### 1. A\n### 1. B\n", "### A\n", "### 1. A\n- Reason: b\n", "### 1. A\n- Context: b\n- Context: c\n"):
+        yield f"{page!r} is found as a wrong record", len(wrong_records(page)) == 1
 
 
 def check_first_output() -> Iterator[Check]:
@@ -223,7 +320,9 @@ def main() -> int:
     """Runs all checks."""
     tally = Tally()
     for statement, holds in (*check_replaced_functions(), *check_replaced_lines(), *check_codes(), *check_signatures(),
+                             *check_pictures(), *check_numberings(), *check_crate_table(),
                              *check_line_lengths(), *check_cell_lengths(), *check_links(), *check_names_of_pages(),
+                             *check_paths_of_pages(), *check_decisions(),
                              *check_shown_program(), *check_first_output(), *check_versions()):
         tally.check(holds, f"does not hold: {statement}")
     return tally.finish()
