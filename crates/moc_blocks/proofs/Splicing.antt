@@ -12,7 +12,7 @@ use Rattle.moc_blocks.specs.Private.Blocks.{next_of, width_of, IsStored}
 use Rattle.moc_blocks.specs.Private.Built.{EndsBelow, first_length, last_length}
 use Rattle.moc_blocks.specs.Private.Walks.{all_ranges, EndsBy, EndsAfterAt}
 use Rattle.moc_blocks.specs.Private.Edits.{parts_from, IsMergedRange, IsSplit}
-use Rattle.moc_blocks.specs.Private.Edits.{new_ranges, old_ranges, spliced, spliced_length, CanSplice, FitsSplice, IsBlockSplice, IsSplice, KeepsFillRule}
+use Rattle.moc_blocks.specs.Private.Edits.{new_ranges, old_ranges, after_splice, spliced_length, CanSplice, FitsSplice, IsBlockSplice, IsSplice, KeepsFillRule}
 use Rattle.moc_blocks.specs.declared.edits.rebuild.EditKind.{EditKind}
 use Rattle.moc_blocks.specs.declared.edits.rebuild.EditKind.TheVariants.{Insert, Remove}
 use Rattle.moc_blocks.specs.declared.edits.splice.Splice.{Splice}
@@ -27,7 +27,7 @@ use Rattle.moc_blocks.proofs.Replacing.{block_edit_node, block_edit_normal, bloc
 pub insert_length : {X : Type 0} (xs : List X) (i : ℕ) (x : X) → i ≤ length xs → length (insert xs i x) ≡ length xs + 1
 insert_length xs i x le = omega (arith, length-append (take i xs) (x ∷ drop i xs), length-take-le i xs le, length-drop i xs)
 
-pub length_after : (s : Splice) (ranges : List (ℕ × ℕ)) → FitsSplice s (length ranges) → length (spliced s ranges) ≡ spliced_length s (length ranges)
+pub length_after : (s : Splice) (ranges : List (ℕ × ℕ)) → FitsSplice s (length ranges) → length (after_splice s ranges) ≡ spliced_length s (length ranges)
 length_after (splice.Insert place range) ranges fits = insert_length ranges place range fits
 length_after (splice.Replace place range) ranges fits =
     omega (arith, fits, length-append (take place ranges) (range ∷ drop (place + 1) ranges), length-take-le place ranges (omega (arith, fits)), length-drop (place + 1) ranges)
@@ -39,7 +39,7 @@ length_after (splice.Join place range) ranges fits =
     omega (arith, fits, length-append (take place ranges) (range ∷ drop (place + 2) ranges), length-take-le place ranges (omega (arith, fits)), length-drop (place + 2) ranges)
 
 -- the new ranges are normal
-pub new_normal : (s : Splice) (ranges : List (ℕ × ℕ)) → IsNormal (spliced s ranges) → IsNormal (new_ranges s)
+pub new_normal : (s : Splice) (ranges : List (ℕ × ℕ)) → IsNormal (after_splice s ranges) → IsNormal (new_ranges s)
 new_normal (splice.Insert place range) ranges normal = let n = IsNormal-suffix (take place ranges) (range ∷ drop place ranges) normal in (n.0, n.1, tt, tt)
 new_normal (splice.Replace place range) ranges normal = let n = IsNormal-suffix (take place ranges) (range ∷ drop (place + 1) ranges) normal in (n.0, n.1, tt, tt)
 new_normal (splice.Remove place) ranges normal = tt
@@ -85,7 +85,7 @@ width_spliced place count ranges new =
       ap width_of (drop-drop count place ranges),
     )
 
-pub spliced_width : (s : Splice) (ranges : List (ℕ × ℕ)) → width_of (spliced s ranges) + width_of (old_ranges s ranges) ≡ width_of ranges + width_of (new_ranges s)
+pub spliced_width : (s : Splice) (ranges : List (ℕ × ℕ)) → width_of (after_splice s ranges) + width_of (old_ranges s ranges) ≡ width_of ranges + width_of (new_ranges s)
 spliced_width (splice.Insert place range) ranges =
     omega (arith, width-append (take place ranges) (range ∷ drop place ranges), width-append (range ∷ []) (drop place ranges), width-append (take place ranges) (drop place ranges), ap width_of (take-append-drop place ranges))
 spliced_width (splice.Replace place range) ranges = width_spliced place 1 ranges (range ∷ [])
@@ -111,10 +111,10 @@ rest_of_count k m ranges rest suffix many =
     suffix ∙ ap (λ n. drop n (drop k ranges)) count ∙ drop-drop m k ranges
 
 pub inserts : (from to start end k m : ℕ) (ranges rest : List (ℕ × ℕ)) (s : Splice) → IsNormal ranges → from < to → to ≤ pixel_count → k ≤ length ranges → EndsBy (from - 1) (all_ranges (λ (r : ℕ × ℕ). r ∷ []) (take k ranges)) → EndsAfterAt (λ (r : ℕ × ℕ). r ∷ []) ranges (from - 1) k → start ≡ min from (next_of (drop k ranges)) → IsMergedRange start to (drop k ranges) end rest
-    → length ranges - k - length rest ≡ m → ((l : List (ℕ × ℕ)) → l ≡ drop (k + m) ranges → spliced s ranges ≡ take k ranges ++ (start, end) ∷ l) → FitsSplice s (length ranges) → IsSplice Insert from to ranges s
+    → length ranges - k - length rest ≡ m → ((l : List (ℕ × ℕ)) → l ≡ drop (k + m) ranges → after_splice s ranges ≡ take k ranges ++ (start, end) ∷ l) → FitsSplice s (length ranges) → IsSplice Insert from to ranges s
 inserts from to start end k m ranges rest s normal filled within bound ended past is merged many shape fits = record {
   fits = fits;
-  edited = range_inserted_at_cut from to start end k ranges rest (spliced s ranges) normal filled within ended past is merged (shape rest (rest_of_count k m ranges rest merged.suffix many));
+  edited = range_inserted_at_cut from to start end k ranges rest (after_splice s ranges) normal filled within ended past is merged (shape rest (rest_of_count k m ranges rest merged.suffix many));
 }
 
 -- the shapes of splices with 0, 1 and 2 ranges replaced
@@ -199,11 +199,11 @@ split_of_one before after ranges keeps = record {
 }
 
 pub block_splice : (edit : EditKind) (from to front back : ℕ) (nodes before after : List (List (List (ℕ × ℕ)))) (node left right : List (List (ℕ × ℕ))) (run : List (ℕ × ℕ)) (s : Splice) → IsStored [] nodes → nodes ≡ before ++ node ∷ after → EndsBelow from (concat (concat before)) → node ≡ left ++ run ∷ right → EndsBelow from (concat left)
-    → to < next_of (concat right ++ concat (concat after)) → IsSplice edit from to run s → front ≡ last_length (concat before ++ left) → back ≡ first_length (right ++ concat after) → KeepsFillRule front (length (spliced s run)) back → IsBlockSplice edit from to nodes (length before) (length left) s
+    → to < next_of (concat right ++ concat (concat after)) → IsSplice edit from to run s → front ≡ last_length (concat before ++ left) → back ≡ first_length (right ++ concat after) → KeepsFillRule front (length (after_splice s run)) back → IsBlockSplice edit from to nodes (length before) (length left) s
 block_splice edit from to front back nodes before after node left right run s stored parts below1 here below2 above edits front_is back_is keeps =
     let sized = subst AreBlocks (concat_around_node nodes before after node parts) stored.sized in
     let normal = subst (λ (l : List (List (ℕ × ℕ))). IsNormal (concat l)) (concat_around_node nodes before after node parts) stored.normal in
-    let ranges = spliced s run in
+    let ranges = after_splice s run in
     let split = split_of_one (concat before ++ left) (right ++ concat after) ranges (subst (λ n. KeepsFillRule n (length ranges) (first_length (right ++ concat after))) front_is (subst (λ n. KeepsFillRule front (length ranges) n) back_is keeps)) in
     record {
       ranges = ranges;
@@ -237,9 +237,9 @@ splice_run edit from to node block s nodes nodes' found same b is =
     let whole = block_edit_node edit from to node block nodes nodes' b.ranges found same b.block_edit is ∙ b.block_edit.edited_block.parts in
     ap (λ (l : List (List (ℕ × ℕ))). get_or l block []) whole ∙ get_between b.block_edit.left b.block_edit.right b.block_edit.run [] block b.block_edit.place
 
-pub splice_ranges : (edit : EditKind) (from to node block : ℕ) (s : Splice) (nodes nodes' : List (List (List (ℕ × ℕ)))) (found : List (List (ℕ × ℕ))) → nodes' ≡ nodes → (b : IsBlockSplice edit from to nodes' node block s) → found ≡ get_or nodes node found → spliced s (get_or found block []) ≡ b.ranges
+pub splice_ranges : (edit : EditKind) (from to node block : ℕ) (s : Splice) (nodes nodes' : List (List (List (ℕ × ℕ)))) (found : List (List (ℕ × ℕ))) → nodes' ≡ nodes → (b : IsBlockSplice edit from to nodes' node block s) → found ≡ get_or nodes node found → after_splice s (get_or found block []) ≡ b.ranges
 splice_ranges edit from to node block s nodes nodes' found same b is =
-    ap (spliced s) (splice_run edit from to node block s nodes nodes' found same b is) ∙ sym b.made
+    ap (after_splice s) (splice_run edit from to node block s nodes nodes' found same b is) ∙ sym b.made
 
 -- the requirements of the splice on the node
 pub can_splice : (edit : EditKind) (from to node block : ℕ) (s : Splice) (nodes nodes' : List (List (List (ℕ × ℕ)))) (found : List (List (ℕ × ℕ))) → nodes' ≡ nodes → IsBlockSplice edit from to nodes' node block s → found ≡ get_or nodes node found → CanSplice found block s
@@ -264,8 +264,8 @@ spliced_there [] block run there normal = absurd (omega arith)
 spliced_there (b ∷ bs) zero run there normal = IsNormal-prefix run (concat bs) normal
 spliced_there (b ∷ bs) (suc block) run there normal = spliced_there bs block run (omega arith) (IsNormal-suffix b (concat (slice_set bs block run)) normal)
 
-pub spliced_normal : (node : List (List (ℕ × ℕ))) (block : ℕ) (s : Splice) → CanSplice node block s → IsNormal (spliced s (get_or node block []))
-spliced_normal node block s can = spliced_there node block (spliced s (get_or node block [])) can.there can.normal
+pub spliced_normal : (node : List (List (ℕ × ℕ))) (block : ℕ) (s : Splice) → CanSplice node block s → IsNormal (after_splice s (get_or node block []))
+spliced_normal node block s can = spliced_there node block (after_splice s (get_or node block [])) can.there can.normal
 
 same_at : {X : Type 0} (xs : List X) (i : ℕ) (x d : X) → i < length xs → x ≡ get_or xs i x → x ≡ get_or xs i d
 same_at {X} [] i x d lt is = absurd (omega arith)
@@ -277,10 +277,10 @@ pub set_again : {X : Type 0} (xs : List X) (i : ℕ) (new again : X) → i < len
 set_again {X} xs i new again lt is = is ∙ get_or-set_same xs i new again lt
 
 -- the blocks after the splice
-pub spliced_is : (blocks node : List (List (ℕ × ℕ))) (block : ℕ) (s : Splice) (found new : List (ℕ × ℕ)) → blocks ≡ node → block < length node → found ≡ get_or blocks block found → new ≡ spliced s found → slice_set blocks block new ≡ slice_set node block (spliced s (get_or node block []))
+pub spliced_is : (blocks node : List (List (ℕ × ℕ))) (block : ℕ) (s : Splice) (found new : List (ℕ × ℕ)) → blocks ≡ node → block < length node → found ≡ get_or blocks block found → new ≡ after_splice s found → slice_set blocks block new ≡ slice_set node block (after_splice s (get_or node block []))
 spliced_is blocks node block s found new same lt is made =
     let there : found ≡ get_or node block [] = same_at node block found [] lt (is ∙ ap (λ (l : List (List (ℕ × ℕ))). get_or l block found) same) in
-    λ i. slice_set (same i) block ((made ∙ ap (spliced s) there) i)
+    λ i. slice_set (same i) block ((made ∙ ap (after_splice s) there) i)
 
 pub on_true : {P : Type 0} (b : Bool) → b ≡ true → OnTrue b P → P
 on_true {P} b is holds = subst (λ (t : Bool). OnTrue t P) is holds

@@ -5,7 +5,7 @@ ghost use Rattle.std.specs.Bool.{OnTrue, OnFalse};
 ghost use Rattle.std.specs.List.{insert};
 ghost use Rattle.moc_blocks.specs.RangeList.{IsNormal};
 ghost use Rattle.moc_blocks.specs.Private.Blocks.{first_of, last_of, width_of};
-ghost use Rattle.moc_blocks.specs.Private.Edits.{FitsSplice, spliced};
+ghost use Rattle.moc_blocks.specs.Private.Edits.{FitsSplice, after_splice};
 
 use crate::edits::splice::Splice;
 use std::alloc::{AllocError, Global};
@@ -71,7 +71,7 @@ fn insert_into(
 /// Changes ranges of a list.
 fn splice_list(ranges: &mut Vec<(u64, u64)>, splice: Splice) -> Result<(), AllocError>
     requires { FitsSplice splice (length ranges.old.items) }
-    ensures put { OnOk result (ranges.new.items ≡ spliced splice ranges.old.items) }
+    ensures put { OnOk result (ranges.new.items ≡ after_splice splice ranges.old.items) }
     ensures unchanged { OnErr result (ranges.new.items ≡ ranges.old.items) }
 {
     match splice {
@@ -173,10 +173,10 @@ impl Block {
     pub fn splice(&mut self, splice: Splice) -> Result<bool, AllocError>
         requires inside { FitsSplice splice (length self.old) }
         requires was_normal { IsNormal self.old }
-        requires some { 0 < length (spliced splice self.old) }
-        requires fits { length (spliced splice self.old) ≤ MAX_BLOCK_RANGES }
-        requires normal { IsNormal (spliced splice self.old) }
-        ensures put { IfOk result (λ done. OnTrue done (self.new ≡ spliced splice self.old)) }
+        requires some { 0 < length (after_splice splice self.old) }
+        requires fits { length (after_splice splice self.old) ≤ MAX_BLOCK_RANGES }
+        requires normal { IsNormal (after_splice splice self.old) }
+        ensures put { IfOk result (λ done. OnTrue done (self.new ≡ after_splice splice self.old)) }
         ensures same { IfOk result (λ done. OnFalse done (self.new ≡ self.old)) }
         ensures unchanged { OnErr result (self.new ≡ self.old) }
     {

@@ -6,7 +6,7 @@ ghost use Rattle.std.specs.Bool.{OnTrue, OnFalse};
 ghost use Rattle.moc_blocks.specs.RangeList.{IsNormal};
 ghost use Rattle.moc_blocks.specs.Private.Blocks.{first_of, last_of, width_of};
 ghost use Rattle.moc_blocks.specs.Blocks.{concat, AreBlocks};
-ghost use Rattle.moc_blocks.specs.Private.Edits.{spliced, CanSplice};
+ghost use Rattle.moc_blocks.specs.Private.Edits.{after_splice, CanSplice};
 
 use crate::block::Block;
 use crate::edits::splice::Splice;
@@ -200,7 +200,7 @@ impl Node {
     pub fn splice(&mut self, block: usize, splice: Splice) -> Result<bool, AllocError>
         requires { CanSplice self.old block splice }
         ensures put { IfOk result (λ done. OnTrue done
-            (self.new ≡ slice_set self.old block (spliced splice (get_or self.old block [])))) }
+            (self.new ≡ slice_set self.old block (after_splice splice (get_or self.old block [])))) }
         ensures same { IfOk result (λ done. OnFalse done (self.new ≡ self.old)) }
         ensures unchanged { OnErr result (self.new ≡ self.old) }
     {

@@ -20,12 +20,7 @@ pub struct LinePlace {
 
 /// Returns whether an error of a line is about the piece with a number: too many commands about the 17th, any other
 /// error about each invalid piece.
-fn is_about(
-    alloc: Global,
-    error: LineError,
-    number: usize,
-    piece: &[u8],
-) -> Result<bool, Memory>
+fn is_about(alloc: Global, error: LineError, number: usize, piece: &[u8]) -> Result<bool, Memory>
     ensures { IfOk result (λ is. is ≡ is_about error number piece.now) }
 {
     if error == LineError::TooManyCommands {

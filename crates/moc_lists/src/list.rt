@@ -179,8 +179,8 @@ impl RangeList {
     /// pixels. Up to two ranges are changed in place if no other list shares their block and the blocks of its node.
     /// Otherwise the block is rebuilt. It is replaced in its node if no other list shares the blocks of the node and it
     /// stays one block; otherwise it is put into a new node that shares the other blocks. Two blocks are rebuilt if the
-    /// fill rule requires it. Returns `None` if the range touches more blocks, if the fill rule would still be broken, or if
-    /// a list without blocks would have more than 128 ranges; the list is then unchanged.
+    /// fill rule requires it. Returns `None` if the range touches more blocks, if the fill rule would still be broken,
+    /// or if a list without blocks would have more than 128 ranges; the list is then unchanged.
     ///
     /// # Errors
     ///

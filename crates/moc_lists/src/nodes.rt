@@ -302,8 +302,8 @@ impl Nodes {
         Ok(())
     }
 
-    /// Inserts or removes a range as `edit` does, but rebuilds the blocks that change. One block is replaced in its node
-    /// if the node is not shared and it stays one block. Otherwise the node is rebuilt.
+    /// Inserts or removes a range as `edit` does, but rebuilds the blocks that change. One block is replaced in its
+    /// node if the node is not shared and it stays one block. Otherwise the node is rebuilt.
     fn rebuild(
         &mut self,
         alloc: Global,
@@ -346,8 +346,8 @@ impl Nodes {
     }
 
     /// Inserts or removes a range if this changes only one block, or two adjacent blocks of a node, and returns whether
-    /// it succeeded. Up to two ranges of a block are changed in place. Otherwise the blocks are rebuilt. Returns `false`
-    /// if the range touches more blocks, or if the fill rule would be broken; the nodes are then unchanged.
+    /// it succeeded. Up to two ranges of a block are changed in place. Otherwise the blocks are rebuilt. Returns
+    /// `false` if the range touches more blocks, or if the fill rule would be broken; the nodes are then unchanged.
     fn edit(
         &mut self,
         alloc: Global,

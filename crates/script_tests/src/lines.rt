@@ -5,7 +5,8 @@ use moc_devices::{OverReader, OverWriter};
 use moc_lines::{
     Commands, LINE_LIMIT, LineError, LinePlace, RunError, answer_all_lines, answer_text,
     is_blank_text, is_word, line_after_last, only_field, parse_decimal, place_of_error, push_count,
-    push_cover, push_error, push_reply_line, read_all, read_batch, read_commands, split_line, split_word, two_fields,
+    push_cover, push_error, push_reply_line, read_all, read_batch, read_commands, split_line,
+    split_word, two_fields,
 };
 use moc_parts::{Map, Reply};
 use moc_ranges::Coverage;
@@ -138,7 +139,9 @@ fn places_of_errors(rt: HostRuntime) {
         ("read @30 1/4", 0, 0),
         (";;;;;;;;;;;;;;;; hop", 16, 17),
     ] {
-        let error = read_batch(rt.alloc(), line.as_bytes()).err().expect(&rt, "an error");
+        let error = read_batch(rt.alloc(), line.as_bytes())
+            .err()
+            .expect(&rt, "an error");
         let place = place_of_error(rt.alloc(), line.as_bytes(), error).expect(&rt, "memory");
         assert_eq!(rt; place, LinePlace { command, byte }, "{line}");
     }

@@ -141,12 +141,12 @@ FitsSplice (SpliceSplit place first second) n = place < n
 FitsSplice (SpliceJoin place range) n = place + 1 < n
 
 -- the ranges after a splice
-abbrev pub spliced : Splice → List (ℕ × ℕ) → List (ℕ × ℕ)
-spliced (SpliceInsert place range) ranges = insert ranges place range
-spliced (SpliceReplace place range) ranges = take place ranges ++ range ∷ drop (place + 1) ranges
-spliced (SpliceRemove place) ranges = take place ranges ++ drop (place + 1) ranges
-spliced (SpliceSplit place first second) ranges = take place ranges ++ first ∷ (second ∷ drop (place + 1) ranges)
-spliced (SpliceJoin place range) ranges = take place ranges ++ range ∷ drop (place + 2) ranges
+abbrev pub after_splice : Splice → List (ℕ × ℕ) → List (ℕ × ℕ)
+after_splice (SpliceInsert place range) ranges = insert ranges place range
+after_splice (SpliceReplace place range) ranges = take place ranges ++ range ∷ drop (place + 1) ranges
+after_splice (SpliceRemove place) ranges = take place ranges ++ drop (place + 1) ranges
+after_splice (SpliceSplit place first second) ranges = take place ranges ++ first ∷ (second ∷ drop (place + 1) ranges)
+after_splice (SpliceJoin place range) ranges = take place ranges ++ range ∷ drop (place + 2) ranges
 
 -- the number of ranges after a splice, from their number before it
 abbrev pub spliced_length : Splice → ℕ → ℕ
@@ -175,7 +175,7 @@ new_ranges (SpliceJoin place range) = range ∷ []
 -- a splice changes ranges as an edit with a range does
 pub record IsSplice (edit : EditKind) (from to : ℕ) (ranges : List (ℕ × ℕ)) (splice : Splice) : Type 0 where
   pub fits : FitsSplice splice (length ranges)
-  pub edited : AreEditedRanges edit from to ranges (spliced splice ranges)
+  pub edited : AreEditedRanges edit from to ranges (after_splice splice ranges)
 
 -- a block of a length obeys the fill rule between blocks of two other lengths, of which 0 stands for no block
 pub record KeepsFillRule (before length after : ℕ) : Type 0 where
@@ -191,17 +191,17 @@ pub record IsBlockSplice (edit : EditKind) (from to : ℕ) (nodes : List (List (
   pub block_edit : IsBlockEdit edit from to nodes node block ranges
   pub was_normal : IsNormal block_edit.run
   pub fits : FitsSplice splice (length block_edit.run)
-  pub made : ranges ≡ spliced splice block_edit.run
+  pub made : ranges ≡ after_splice splice block_edit.run
 
 -- a splice can be applied to a block of a node
 pub record CanSplice (node : List (List (ℕ × ℕ))) (block : ℕ) (splice : Splice) : Type 0 where
   pub there : block < length node
   pub was_normal : IsNormal (get_or node block [])
   pub fits : FitsSplice splice (length (get_or node block []))
-  pub some : 0 < length (spliced splice (get_or node block []))
-  pub small : length (spliced splice (get_or node block [])) ≤ max_block_ranges
-  pub normal : IsNormal (concat (slice_set node block (spliced splice (get_or node block []))))
-  pub sized : AreBlocks (slice_set node block (spliced splice (get_or node block [])))
+  pub some : 0 < length (after_splice splice (get_or node block []))
+  pub small : length (after_splice splice (get_or node block [])) ≤ max_block_ranges
+  pub normal : IsNormal (concat (slice_set node block (after_splice splice (get_or node block []))))
+  pub sized : AreBlocks (slice_set node block (after_splice splice (get_or node block [])))
 
 -- a list of one or two elements
 abbrev pub one_or_two : {X : Type 0} → X → Option X → List X

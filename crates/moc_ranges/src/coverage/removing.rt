@@ -22,11 +22,11 @@ impl Coverage {
     /// Usually O(log n), also if blocks are shared. One range of a block is changed in place if no other set shares the
     /// block, the range touches no other block, and the fill rule stays true. Otherwise the block is rebuilt. A
     /// neighbour in its node is rebuilt too if the range reaches it, if the block would be empty, or if two adjacent
-    /// blocks would fit into one.
-    /// The pointers to the other blocks of the node are copied if another set shares the node, if the block is split,
-    /// or if two blocks are rebuilt. One step for each later node is added if the number of blocks changes. The cost is
-    /// the cost of a difference if the range touches three blocks or blocks of two nodes, or if two blocks cannot hold
-    /// the rest by the fill rule. Allocates nothing if the set has no pixel in the range.
+    /// blocks would fit into one. The pointers to the other blocks of the node are copied if another set shares the
+    /// node, if the block is split, or if two blocks are rebuilt. One step for each later node is added if the number
+    /// of blocks changes. The cost is the cost of a difference if the range touches three blocks or blocks of two
+    /// nodes, or if two blocks cannot hold the rest by the fill rule. Allocates nothing if the set has no pixel in the
+    /// range.
     pub fn remove_range(&mut self, alloc: Global, from: u64, to: u64) -> Result<u64, Memory>
         requires within { to ≤ pixel_count }
         ensures set { OnOk result (self.new ≡ set.difference self.old (numbers from to)) }

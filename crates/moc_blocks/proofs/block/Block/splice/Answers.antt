@@ -2,7 +2,7 @@ use Rattle.std.proofs.Common.{◌≡◌, ◌∙◌, arith, ap, sym, subst, lengt
 use Rattle.std.proofs.lemmas.List.{get_or_read}
 use Rattle.moc_blocks.specs.Private.Blocks.{width_of}
 use Rattle.moc_blocks.specs.RangeList.{IsNormal}
-use Rattle.moc_blocks.specs.Private.Edits.{old_ranges, spliced}
+use Rattle.moc_blocks.specs.Private.Edits.{old_ranges, after_splice}
 use Rattle.moc_blocks.proofs.Blocking.{first_of-get, last_of-get, width_bounded}
 use Rattle.moc_blocks.proofs.Splicing.{new_normal, old_width_bounded, spliced_width}
 use Rattle.moc_blocks.proofs.block.Block.splice.Goals as goal
@@ -29,7 +29,7 @@ pub invariant_of-self-2 : goal.invariant_of-self-2
 invariant_of-self-2 c =
     let new = c.splice_list.new.ranges.items in
     let is : c.in-Some.ranges.now.items ≡ c.args.self.now = ap (λ v. v.items) c.in-Some.ensures.value ∙ c.self.view_is in
-    let made : new ≡ spliced c.args.splice c.args.self.now = c.in_ok-splice_list.ensures.put ∙ ap (spliced c.args.splice) is in
+    let made : new ≡ after_splice c.args.splice c.args.self.now = c.in_ok-splice_list.ensures.put ∙ ap (after_splice c.args.splice) is in
     let first = get_or_read new _ _ (omega (arith, ap length made, c.requires.some)) c.index.ensures (0, 0) in
     let last = get_or_read new _ _ (omega (arith, ap length made, c.requires.some, c.len.ensures)) c.index-2.ensures (0, 0) in
     record {

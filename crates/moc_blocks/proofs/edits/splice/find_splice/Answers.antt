@@ -2,7 +2,7 @@ use Rattle.std.proofs.Common.{◌≡◌, List, ℕ, length, subst, sym, ap, ◌�
 use Rattle.moc_blocks.specs.RangeList.{IsNormal}
 use Rattle.moc_blocks.specs.Blocks.{concat}
 use Rattle.moc_blocks.specs.Private.Built.{EndsBelow}
-use Rattle.moc_blocks.specs.Private.Edits.{spliced, spliced_length, KeepsFillRule}
+use Rattle.moc_blocks.specs.Private.Edits.{after_splice, spliced_length, KeepsFillRule}
 use Rattle.moc_blocks.proofs.Passing.{all_ranges-nodes, all_ranges-blocks}
 use Rattle.moc_blocks.proofs.Editing.{concat_around_node, node_normal, run_normal}
 use Rattle.moc_blocks.proofs.Splicing.{block_splice, length_after}
@@ -32,7 +32,7 @@ returns c =
     let run = own.run.now in
     let front = c.ranges_in_last-before.result in
     let back = c.ranges_in_next-after.result in
-    let many : c.length_after-length.result ≡ length (spliced c.in_ok-splice.splice run) =
+    let many : c.length_after-length.result ≡ length (after_splice c.in_ok-splice.splice run) =
     c.length_after-length.ensures ∙ ap (spliced_length c.in_ok-splice.splice) (ap length c.ranges-2.ensures.value) ∙ sym (length_after c.in_ok-splice.splice run edits.fits) in
     block_splice c.args.edit c.args.from c.args.to front back c.args.nodes.now place.before.now place.after.now place.run.now own.before.now own.after.now run c.in_ok-splice.splice
     c.requires.stored c.in_ok-place.ensures.parts

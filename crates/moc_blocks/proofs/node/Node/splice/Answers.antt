@@ -3,7 +3,7 @@ use Rattle.std.proofs.lemmas.List.{get_or_read}
 use Rattle.std.specs.Arc.{arc_value}
 use Rattle.moc_blocks.specs.RangeList.{IsNormal}
 use Rattle.moc_blocks.specs.Private.Blocks.{first_of, last_of, width_of}
-use Rattle.moc_blocks.specs.Private.Edits.{spliced}
+use Rattle.moc_blocks.specs.Private.Edits.{after_splice}
 use Rattle.moc_blocks.specs.Blocks.{concat, AreBlocks}
 use Rattle.moc_blocks.proofs.Blocking.{first_of-concat, last_of-concat, length_last, width_bounded, range_count_bounded}
 use Rattle.moc_blocks.proofs.Replacing.{width_replaced, length_replaced, as_many}
@@ -28,7 +28,7 @@ splice-requires-clause-normal c =
     let none : List (ℕ × ℕ) = [] in
     let whole : bs ≡ c.args.self.now = ap (λ v. v.items) c.in-Some.ensures.value ∙ c.self.view_is in
     let is = get_or_read bs c.args.block c.index_mut.result.now (omega (arith, ap length whole, c.requires.there)) c.index_mut.ensures.value none in
-    subst (λ (b : List (ℕ × ℕ)). IsNormal (spliced c.args.splice b)) (ap (λ (l : List (List (ℕ × ℕ))). get_or l c.args.block none) (sym whole) ∙ sym is)
+    subst (λ (b : List (ℕ × ℕ)). IsNormal (after_splice c.args.splice b)) (ap (λ (l : List (List (ℕ × ℕ))). get_or l c.args.block none) (sym whole) ∙ sym is)
     (spliced_normal c.args.self.now c.args.block c.args.splice c.requires)
 
 pub splice-requires-clause-was_normal : goal.splice-requires-clause-was_normal
