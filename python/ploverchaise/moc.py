@@ -12,8 +12,8 @@ from typing import TYPE_CHECKING, Any, Literal, Self, SupportsIndex, TypeVar, ov
 from ._arrays import (MIN_RANGES_FOR_SORTING, PIECE_LENGTH, ArrayLike, Buffer, Input, Integers, Numbers, Pairs, PlainInput, as_input,
                       as_pairs, buffer_of, pieces_of, without_missing, without_missing_rows, zeros)
 from ._codes import TOO_COARSE
-from ._library import (NO_ORDER, c_arguments, call_on_rows, call_with_store, check_result, open_store, run_interruptibly,
-                       store_functions, text_of)
+from ._library import (MAX_BRIEF_RANGES, NO_ORDER, brief_functions, c_arguments, call_on_rows, call_with_store, check_result, new_handle,
+                       open_store, run_interruptibly, store_functions, text_of)
 from ._regions import border_cells, components, ranges_by_value
 from ._signatures import Result, StoreHandle
 from .errors import MocError, check_order
@@ -44,7 +44,7 @@ _MAX_ASCENDING_LENGTH = 2**21
 _PICTURE_ORDERS = (29, 6, 5, 4, 3, 2, 1, 0)
 # The maximal numbers of characters of `str`, and of bytes of the picture that a notebook displays.
 _MAX_STR_LENGTH, _MAX_PICTURE_LENGTH = 2000, 100_000
-_share, _free = store_functions["share"], store_functions["free"]
+_contains = brief_functions["contains"]
 
 
 class MOC:
@@ -77,14 +77,14 @@ class MOC:
     _hash: int
 
     def __init__(self) -> None:
-        self._store = open_store()
+        self._store = open_store(0)
         self._id = call_with_store("empty", self._store).first
         self._range_bound = 0
 
     @classmethod
     def _from_call(cls, function: str, *arguments: Any, range_bound: int) -> Self:
         """Returns the coverage that a function of the library makes, which has at most this number of ranges."""
-        store = open_store()
+        store = open_store(range_bound)
         return cls._in_store(store, call_with_store(function, store, *c_arguments(*arguments)).first, range_bound)
 
     @classmethod
@@ -106,19 +106,24 @@ class MOC:
 
     def _copy_to(self, store: StoreHandle) -> int:
         """Copies the coverage to a store, and returns its id there. Takes O(n / 128) for n ranges."""
-        result: Result = _share(self._store, self._id, store)
-        return (check_result(result, "share") if result.code else result).first
+        return call_with_store("share", self._store, self._id, store).first
 
-    def _make(self, function: str, *others: MOC, order: tuple[int, ...] = ()) -> Self:
-        """Returns the coverage that a function makes of this MOC, other MOCs, and an order."""
-        store = open_store()
-        mocs: tuple[MOC, ...] = (self, *others)
-        ids = [moc._copy_to(store) for moc in mocs]
-        made = _call(function, store, *ids, *order, is_long=_have_many_ranges(*mocs)).first
-        moc = type(self)._in_store(store, made, sum([moc._range_bound for moc in mocs]) + 1)
-        for copied in ids:
-            _free(store, copied)
-        return moc
+    def _change(self, function: str, *order: int) -> Self:
+        """Returns the coverage that a function makes of this MOC, and of an order if there is one."""
+        bound = self._range_bound + 1
+        store = open_store(bound)
+        copied = self._copy_to(store)
+        made = _call(function, store, copied, *order, is_long=_have_many_ranges(self)).first
+        call_with_store("free", store, copied)
+        return self._in_store(store, made, bound)
+
+    def _combine(self, operation: str, other: MOC) -> Self:
+        """Returns the result of an operation with another MOC. Raises TypeError if the argument is not a MOC."""
+        if not isinstance(other, MOC):
+            _check_moc(other)
+        bound = self._range_bound + other._range_bound + 1
+        store = new_handle(bound)
+        return self._in_store(store, _call_with_pair(operation, bound, self, other, store).first, bound)
 
     # Constructors
 
@@ -193,7 +198,7 @@ class MOC:
             raise TypeError("expected a text, not a path: use MOC.load for a file")
         text = value.encode() if isinstance(value, str) else bytes(memoryview(value))
 
-        store = open_store()
+        store = open_store(len(text) // 2 + 1)
         try:
             made = _call(_PARSERS[format], store, text, is_long=len(text) > _MAX_SHORT_TEXT).first
         except MocError as error:
@@ -507,11 +512,11 @@ class MOC:
 
     # Set operations
 
-    def _combine(self, operation: str, *others: MOC) -> Self:
+    def _combine_all(self, operation: str, others: tuple[MOC, ...]) -> Self:
         """Returns the result of an operation with each of the other MOCs in turn. Raises TypeError if one of them is not a MOC."""
         moc = self
         for other in others:
-            moc = moc._make(operation, _check_moc(other))
+            moc = moc._combine(operation, other)
         return moc
 
     def union(self, *others: MOC) -> Self:
@@ -527,7 +532,7 @@ class MOC:
         >>> print(MOC.from_string("0/0 1/4").union(MOC.from_string("0/1")))
         0/0-1
         """
-        return self._combine("union", *others)
+        return self._combine_all("open_union", others)
 
     def intersection(self, *others: MOC) -> Self:
         """Returns the pixels that are in this MOC and in all others.
@@ -542,7 +547,7 @@ class MOC:
         >>> print(MOC.from_string("0/0 1/4").intersection(MOC.from_string("0/1")))
         1/4
         """
-        return self._combine("intersection", *others)
+        return self._combine_all("open_intersection", others)
 
     def difference(self, *others: MOC) -> Self:
         """Returns the pixels that are in this MOC and in none of the others.
@@ -557,7 +562,7 @@ class MOC:
         >>> print(MOC.from_string("0/0 1/4").difference(MOC.from_string("0/1")))
         0/0
         """
-        return self._combine("difference", *others)
+        return self._combine_all("open_difference", others)
 
     def symmetric_difference(self, *others: MOC) -> Self:
         """Returns the pixels that are in an odd number of the MOCs.
@@ -572,7 +577,7 @@ class MOC:
         >>> print(MOC.from_string("0/0 1/4").symmetric_difference(MOC.from_string("0/1")))
         0/0 1/5-7
         """
-        return self._combine("symmetric", *others)
+        return self._combine_all("open_symmetric", others)
 
     def complement(self) -> Self:
         """Returns the pixels of the sky that are not in this MOC.
@@ -582,7 +587,7 @@ class MOC:
         >>> print(MOC.from_string("0/0 1/4-5").complement())
         0/2-11 1/6-7
         """
-        return self._make("complement")
+        return self._change("complement")
 
     def degrade_to_order(self, new_order: SupportsIndex) -> Self:
         """Returns all pixels of each cell of an order that has a pixel in this MOC.
@@ -602,7 +607,7 @@ class MOC:
         >>> print(MOC.from_string("9/77 500-503").degrade_to_order(5))
         5/0-1
         """
-        return self._make("degrade", order=(check_order(new_order),))
+        return self._change("degrade", check_order(new_order))
 
     def add_neighbours(self, order: SupportsIndex | None = None) -> Self:
         """Returns this MOC and all cells of an order that touch it, in a corner or along a side.
@@ -729,25 +734,26 @@ class MOC:
         return self.covers(other) and self != other if isinstance(other, MOC) else NotImplemented
 
     def __or__(self, other: MOC) -> Self:
-        return self.union(other) if isinstance(other, MOC) else NotImplemented
+        return self._combine("open_union", other) if isinstance(other, MOC) else NotImplemented
 
     def __and__(self, other: MOC) -> Self:
-        return self.intersection(other) if isinstance(other, MOC) else NotImplemented
+        return self._combine("open_intersection", other) if isinstance(other, MOC) else NotImplemented
 
     def __sub__(self, other: MOC) -> Self:
-        return self.difference(other) if isinstance(other, MOC) else NotImplemented
+        return self._combine("open_difference", other) if isinstance(other, MOC) else NotImplemented
 
     def __xor__(self, other: MOC) -> Self:
-        return self.symmetric_difference(other) if isinstance(other, MOC) else NotImplemented
+        return self._combine("open_symmetric", other) if isinstance(other, MOC) else NotImplemented
 
     def __invert__(self) -> Self:
         return self.complement()
 
     # Queries
 
-    def _query(self, function: str, *arguments: Any) -> int:
-        """Returns the value that a function returns for this MOC. The function takes O(log n) for n ranges."""
-        return call_with_store(function, self._store, self._id, *arguments).first
+    def _query(self, function: str) -> int:
+        """Returns the value that a brief function returns for this MOC."""
+        result = brief_functions[function](self._store, self._id)
+        return (check_result(result) if result.code else result).first
 
     def _long_query(self, function: str, *arguments: Any) -> Result:
         """Returns the result of a function for this MOC. The function uses a copy of the MOC, so that no other call waits for it."""
@@ -758,9 +764,8 @@ class MOC:
         """Returns the value that a function returns for two MOCs, or for the other one and then this one.
 
         Raises TypeError if the other one is not a MOC."""
-        store = open_store()
         first, second = (_check_moc(other), self) if is_reversed else (self, _check_moc(other))
-        return _call(function, store, first._copy_to(store), second._copy_to(store), is_long=_have_many_ranges(self, other)).first
+        return _call_with_pair(f"pair_{function}", first._range_bound + second._range_bound, first, second).first
 
     def count(self) -> int:
         """Returns the number of pixels.
@@ -1004,7 +1009,7 @@ class MOC:
         flags, count = pixels.new_output("B"), len(pixels)
         if count <= _MAX_SHORT_LENGTH:
             rows = slice(0, count)
-            self._query("contains_all", *c_arguments(pixels.buffer(rows), flags.buffer(rows)))
+            call_with_store("contains_all", self._store, self._id, *c_arguments(pixels.buffer(rows), flags.buffer(rows)))
             return flags.booleans()
         store = open_store()
         copied = self._copy_to(store)
@@ -1030,7 +1035,10 @@ class MOC:
         if isinstance(what, MOC):
             return self.covers(what)
         pixel = operator.index(what)
-        return 0 <= pixel < PIXEL_COUNT and bool(self._query("contains", pixel))
+        if not 0 <= pixel < PIXEL_COUNT:
+            return False
+        result = _contains(self._store, self._id, pixel)
+        return (check_result(result) if result.code else result).first == 1
 
     def __eq__(self, other: object) -> bool:
         if not isinstance(other, MOC):
@@ -1430,6 +1438,16 @@ def _have_many_ranges(*mocs: MOC) -> bool:
     for moc in mocs:
         moc._range_bound = moc.range_count()
     return sum([moc._range_bound for moc in mocs]) > _MAX_SHORT_RANGES
+
+
+def _call_with_pair(function: str, bound: int, first: MOC, second: MOC, *store: StoreHandle) -> Result:
+    """Calls a function with two MOCs, which have at most `bound` ranges, and with the store that it opens, if there is one."""
+    if bound > _MAX_SHORT_RANGES and _have_many_ranges(first, second):
+        return run_interruptibly(lambda: check_result(
+            store_functions[function](first._store, first._id, second._store, second._id, *store), function))
+    functions = brief_functions if bound <= MAX_BRIEF_RANGES else store_functions
+    result = functions[function](first._store, first._id, second._store, second._id, *store)
+    return check_result(result, function) if result.code else result
 
 
 def _call(function: str, store: StoreHandle, *arguments: Any, is_long: bool) -> Result:
