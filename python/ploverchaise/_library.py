@@ -18,11 +18,11 @@ import _thread
 import ctypes
 import os
 import threading
-from collections.abc import Callable, Iterator
+from collections.abc import Callable
 from ctypes import c_bool
 from typing import Any, TypeVar
 
-from ._arrays import PIECE_LENGTH, Buffer, Input, Output, pieces_of
+from ._arrays import Buffer, Input, Output, pieces_of
 from ._codes import KINDS, MEMORY, NO_SUCH_CELL, NOT_UNIQ, RANGE_BACKWARDS, RANGE_PIXEL_TOO_LARGE
 from ._signatures import CLIENT, CLIENT_CALLS, ID_CALLS, NUMBER_CALLS, STORE, STORE_CALLS, TEXT, ClientHandle, Result, StoreHandle, Text
 from .errors import MocError
@@ -186,12 +186,6 @@ def call_on_rows(call: Callable[..., Value], order: int | None, rows: slice, num
         raise MocError(error.code, place, detail=_describe_number(error.code, numbers.text_of_row(place), order)) from None
 
 
-def call_on_pieces(call: Callable[..., Value], order: int | None, numbers: Input, *outputs: Output,
-                   max_length: int = PIECE_LENGTH) -> Iterator[Value]:
-    """Returns an iterator over the values of `call_on_rows` for each piece, of at most `max_length` rows, of an input and of outputs."""
-    return (call_on_rows(call, order, rows, numbers, *outputs) for rows in pieces_of(len(numbers), max_length))
-
-
 def _describe_number(code: int, text: str, order: int | None) -> str:
     """Returns what is wrong with a number or a range that an error is about."""
     if code == NO_SUCH_CELL and order is not None:
@@ -200,10 +194,10 @@ def _describe_number(code: int, text: str, order: int | None) -> str:
 
 
 def convert(name: str, order: int | None, numbers: Input, *outputs: Output) -> None:
-    """Calls `moc_NAME`, which takes neither a store nor a client, with all pieces of arrays. Raises as `call_on_pieces`."""
+    """Calls `moc_NAME`, which takes neither a store nor a client, with all pieces of arrays. Raises as `call_on_rows`."""
     function = number_functions[name]
-    for _ in call_on_pieces(lambda *arguments: check_result(function(*c_arguments(*arguments)), name), order, numbers, *outputs):
-        pass
+    for rows in pieces_of(len(numbers)):
+        call_on_rows(lambda *arguments: check_result(function(*c_arguments(*arguments)), name), order, rows, numbers, *outputs)
 
 
 def text_of(call: Callable[..., Result], *arguments: Any) -> str:

@@ -11,12 +11,12 @@ from typing import TYPE_CHECKING, Any, Literal, Self, SupportsIndex, TypeVar, ov
 
 from ._arrays import (MIN_RANGES_FOR_SORTING, PIECE_LENGTH, ArrayLike, Buffer, Input, Integers, Numbers, Pairs, PlainInput, as_input,
                       as_pairs, buffer_of, pieces_of, without_missing, without_missing_rows, zeros)
-from ._codes import TOO_COARSE
+from ._codes import NO_SUCH_ORDER, TOO_COARSE
 from ._library import (MAX_BRIEF_RANGES, NO_ORDER, brief_functions, c_arguments, call_on_rows, call_with_store, check_result, new_handle,
                        open_store, run_interruptibly, store_functions, text_of)
 from ._regions import border_cells, components, ranges_by_value
 from ._signatures import Result, StoreHandle
-from .errors import MocError, check_order
+from .errors import MocError, check_order, too_coarse
 
 if TYPE_CHECKING:
     from pickle import PickleBuffer
@@ -174,7 +174,8 @@ class MOC:
         Raises
         ------
         MocError
-            For the first error of the text. Its `detail` names another format if the text looks like it. The errors are, by format:
+            For the first error of the text. Its `detail` quotes the part that is invalid, or names another format if the text looks like
+            it. The errors are, by format:
 
             - ASCII, with the position of a byte: `BadByte`, `NoOrder`, `OrderTooLarge`, `CellTooLarge`, `Backwards`, `Unfinished`;
             - JSON, without a position: `NotJson`, `NotObject`; with the position of a name: `BadOrder`, `NotArray`; with those of a name
@@ -202,10 +203,7 @@ class MOC:
         try:
             made = _call(_PARSERS[format], store, text, is_long=len(text) > _MAX_SHORT_TEXT).first
         except MocError as error:
-            likely = _likely_format(text)
-            if likely is None or likely == format:
-                raise
-            raise error._with_detail(f"this looks like {_FORMAT_NAMES[likely]}") from None
+            raise _text_error(error, text, format) from None
         return cls._in_store(store, made, len(text) // 2 + 1)
 
     @classmethod
@@ -339,8 +337,8 @@ class MOC:
         Raises
         ------
         MocError
-            `NoSuchOrder` if an order is not 0 to 29; `NoSuchCell` with the position of a number that is not a cell number. For several
-            orders, it is the first such number of the least order that has one.
+            `NoSuchOrder` if an order is not 0 to 29; `NoSuchCell` with the position of a number that is not a cell number. The error is
+            about the first invalid order or number.
         ValueError
             If the number of orders differs from the number of cells.
 
@@ -364,13 +362,19 @@ class MOC:
         """Returns the set of the pixels in any of the cells. The order of each cell is at the same position."""
         if len(cells) != len(orders):
             raise ValueError(f"depth has {len(orders)} orders for {len(cells)} cells")
-        moc = cls()
-        for order in map(check_order, sorted(orders.distinct())):
+        moc, errors = cls(), dict[int, MocError]()
+        for order in sorted(orders.distinct()):
             positions = orders.positions_of(order)
+            if not 0 <= order <= 29:
+                errors[int(positions[0])] = MocError(NO_SUCH_ORDER, int(orders.text_of_row(positions[0])))
+                continue
             try:
                 moc |= cls._from_input("from_cells", order, cells.take(positions))
             except MocError as error:
-                raise MocError(error.code, *(int(positions[index]) for index in error.place), detail=error.detail) from None
+                place = int(positions[error.place[0]])
+                errors[place] = MocError(error.code, place, detail=error.detail)
+        if errors:
+            raise errors[min(errors)]
         return moc
 
     @classmethod
@@ -660,9 +664,9 @@ class MOC:
         deepest = self.max_order
         if order is None:
             return deepest
-        if check_order(order) < deepest:
-            raise MocError(TOO_COARSE)
-        return operator.index(order)
+        if (depth := check_order(order)) < deepest:
+            raise too_coarse(depth, deepest)
+        return depth
 
     def split(self, include_indirect_neighbours: bool = False) -> list[Self]:
         """Returns the connected parts of this MOC, by their first pixels. Takes O(log n) for each of n cells.
@@ -1020,14 +1024,10 @@ class MOC:
         is_ascending = pixels.is_ascending()
         is_sorted_first = not is_ascending and self.range_count() > MIN_RANGES_FOR_SORTING
         for rows in pieces_of(count, _MAX_ASCENDING_LENGTH if is_ascending else PIECE_LENGTH):
-            positions = pixels.sorting_order(rows) if is_sorted_first else None
-            if positions is None:
-                look_up(pixels.buffer(rows), flags.buffer(rows))
+            if is_sorted_first:
+                pixels.call_sorted(look_up, rows, flags)
             else:
-                piece = pixels.take(positions)
-                piece_flags, all_rows = piece.new_output("B"), slice(0, len(piece))
-                look_up(piece.buffer(all_rows), piece_flags.buffer(all_rows))
-                flags.put(positions, piece_flags)
+                look_up(pixels.buffer(rows), flags.buffer(rows))
         return flags.booleans()
 
     def __contains__(self, what: SupportsIndex | MOC) -> bool:
@@ -1227,7 +1227,10 @@ class MOC:
         if format == "uniq":
             return text_of(self._long_query, "write_uniq").removesuffix("\n")
         stated = NO_ORDER if max_order is None else check_order(max_order)
-        text = text_of(self._long_query, f"write_{format}", stated).removesuffix("\n")
+        try:
+            text = text_of(self._long_query, f"write_{format}", stated).removesuffix("\n")
+        except MocError as error:
+            raise too_coarse(stated, self.max_order) if error.code == TOO_COARSE else error from None
         return "\n".join(_fold(text, fold, " " if format == "ascii" else ",")) if fold else text
 
     def save(self, path: str | os.PathLike[str], format: str | None = None, *, max_order: SupportsIndex | None = None,
@@ -1457,14 +1460,14 @@ def _call(function: str, store: StoreHandle, *arguments: Any, is_long: bool) -> 
     return call_with_store(function, store, *c_arguments(*arguments))
 
 
-def _likely_format(text: bytes) -> str | None:
-    """Returns the format that a text looks like, by the rules of the program `moc`."""
-    first = text[:_MAX_SHORT_TEXT].lstrip(b" \t\r\n")[:1]
-    if first == b"{":
-        return "json"
-    if not first or first not in b"0123456789s,":
-        return None
-    return "ascii" if b"/" in text else "uniq"
+def _text_error(error: MocError, text: bytes, format: str) -> MocError:
+    """Returns the error of a text, with the format that the text looks like, or with a quotation if the text is not long."""
+    from ._diagnostics import likely_format, quotation_of
+
+    likely = likely_format(text)
+    if likely is not None and likely != format:
+        return error._with_detail(f"this looks like {_FORMAT_NAMES[likely]}")
+    return error._with_detail(quotation_of(text, format, error)) if len(text) <= _MAX_SHORT_TEXT else error
 
 
 def _json_member(order: object, cells: Iterable[SupportsIndex]) -> str:

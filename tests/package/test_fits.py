@@ -202,7 +202,7 @@ class Peer(TestCase):
             file = parse(path.read_bytes())
             self.assertEqual((file.moc, file.format, file.order), (MOC.from_string(text), "fits", order))
             # cds.moc of MOC 1.1 begins a text with a comment, which has the MOC order.
-            cells = "".join(line for line in text_path.read_text().splitlines() if not line.startswith("#"))
+            cells = "\n".join(line for line in text_path.read_text().splitlines() if not line.startswith("#"))
             self.assertEqual(MOC.from_string(cells), MOC.from_string(text))
 
 

@@ -122,7 +122,7 @@ class Examples(TestCase):
         self.assertEqual((caught.exception.place, caught.exception.detail), ((1,), "700 is not a cell of order 2 (0 to 191)"))
         with self.assertRaises(MocError) as caught:
             MOC.full().degrade_to_order(30)
-        self.assertEqual(caught.exception.detail, "orders are 0 to 29")
+        self.assertEqual(str(caught.exception), "NoSuchOrder: the order is not 0 to 29 (order 30)")
 
         calls: list[tuple[Callable[[], object], str]] = [
             (lambda: nest2ring(2, [0, 99]), "99 is not a cell of order 1 (0 to 47)"),
