@@ -135,11 +135,11 @@ class Examples(TestCase):
             self.assertEqual(caught.exception.detail, detail)
 
     def test_hints(self) -> None:
-        """Checks that an error names the format that the text looks like, as the program does."""
+        """Checks that an error names the format that the text looks like, as the program does, or else quotes the text."""
         rows: list[tuple[str, Format, str]] = [
             ('{"0":[3]}', "ascii", "this looks like JSON"), (" \n{", "uniq", "this looks like JSON"),
             ("s3/1", "json", "this looks like ASCII"), ("0/1", "uniq", "this looks like ASCII"),
-            ("4\n5", "ascii", "this looks like a NUNIQ list"), ("x", "ascii", ""), ("5/7x", "ascii", ""), ("", "json", "")]
+            ("4\n5", "ascii", "this looks like a NUNIQ list"), ("x", "ascii", "`x`"), ("0/1 5/7x", "ascii", "`5/7x`"), ("", "json", "")]
         for text, format, detail in rows:
             with self.subTest(text=text), self.assertRaises(MocError) as caught:
                 MOC.from_string(text, format)
