@@ -31,7 +31,7 @@ Value = TypeVar("Value")
 
 NO_ORDER = 255
 """The value of an optional order that is not stated, `MOC_NO_ORDER` in C."""
-MAX_BRIEF_RANGES = 1000
+MAX_BRIEF_RANGES = 200
 """A call is brief if its coverages have at most this number of ranges together."""
 # The time in seconds after which another thread that has not begun a call does not make it.
 _MAX_START_TIME = 0.2

@@ -585,7 +585,7 @@ static void two_stores(void)
     CHECK(opens(moc_open_union(&store, a, &store, a, &opened), &opened, "0/0 1/4-5\n"));
     RETURNS(moc_pair_count_common(&store, a, &other, b), BASE / 2 + BASE / 16);
     RETURNS(moc_pair_meets(&store, a, &other, b), 1);
-    RETURNS(moc_pair_meets(&store, set("0/2"), &other, b), 0);
+    RETURNS(moc_pair_meets(&store, set("0/3"), &other, b), 0);
     RETURNS(moc_pair_covers(&store, a, &other, b), 0);
     RETURNS(moc_pair_covers(&store, set("0/0-2"), &other, b), 1);
     RETURNS(moc_pair_covers(&other, b, &store, set("2/12")), 1);
