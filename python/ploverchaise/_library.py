@@ -57,9 +57,12 @@ def declare_function(library: ctypes.CDLL, name: str, result: Any, *arguments: A
     return function  # type: ignore[no-any-return]
 
 
-def _declare_store_functions(library: ctypes.CDLL) -> dict[str, Callable[..., Result]]:
-    """Returns the functions of a store by their names."""
-    return {name: declare_function(library, name, Result, STORE, *types) for name, types in STORE_CALLS.items()}
+class _BriefFunctions(dict[str, Callable[..., Result]]):
+    """The functions of a store by their names, as functions that keep the GIL. Each is declared when it is first used."""
+
+    def __missing__(self, name: str) -> Callable[..., Result]:
+        self[name] = declare_function(_brief_library, name, Result, STORE, *STORE_CALLS[name])
+        return self[name]
 
 
 class BriefStoreHandle(StoreHandle):
@@ -69,7 +72,9 @@ class BriefStoreHandle(StoreHandle):
 library = ctypes.CDLL(_library_path())
 # The same library. Calls of its functions keep the GIL.
 _brief_library = ctypes.PyDLL(_library_path())
-store_functions, brief_functions = _declare_store_functions(library), _declare_store_functions(_brief_library)
+store_functions: dict[str, Callable[..., Result]] = {name: declare_function(library, name, Result, STORE, *types)
+                                                     for name, types in STORE_CALLS.items()}
+brief_functions = _BriefFunctions()
 client_functions = {name: declare_function(library, name, Result, CLIENT, *types) for name, types in CLIENT_CALLS.items()}
 number_functions = {name: declare_function(library, name, Result, *types) for name, types in NUMBER_CALLS.items()}
 _store_open = declare_function(_brief_library, "store_open", c_bool, STORE)
