@@ -226,8 +226,8 @@ class Waiting(TestCase):
         self.assertLess(last, ended[0])
 
     def test_other_threads_run_meanwhile(self) -> None:
-        """Checks that a thread, such as the event loop of a Dask worker, runs at least every 0.1 seconds while another one makes and deletes
-        large MOCs. The time is longer if more threads are ready than processors exist."""
+        """Checks that a thread, such as the event loop of a Dask worker, runs every 0.1 seconds while another one makes and deletes large
+        MOCs. The time is longer if more threads are ready than processors exist."""
         cells = array("Q", random_cells(29, 400_000))
         longest, is_ended = 0.0, threading.Event()
 
