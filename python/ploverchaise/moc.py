@@ -1198,7 +1198,7 @@ class MOC:
         format : {"ascii", "json", "uniq"}
             The format: ASCII or JSON of MOC 2.0, or a list of NUNIQ numbers with one number on a line.
         fold : int
-            The maximal number of characters of a line in ASCII and JSON, or 0 for one line. A longer word or number has a line of its own.
+            The maximal number of characters of a line in ASCII and JSON, or 0 for one line. A longer word or number is alone on a line.
         max_order : int, optional
             The MOC order that the text states. MOC 2.0 requires it if the MOC was made of deeper cells than it needs. The format `uniq`
             states no order, and ignores this argument.
