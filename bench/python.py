@@ -1,5 +1,5 @@
 #!/usr/bin/env python3
-"""Times functions of the Python package on arrays, and in turn those of healpy, astropy-healpix and numpy if they are installed.
+"""Times functions of the Python package, and in turn those of Python's sets, healpy, astropy-healpix and numpy if they are installed.
 
 usage: bench/python.py [REPEATS]
 
@@ -12,6 +12,7 @@ import os
 import sys
 import time
 from collections.abc import Callable, Iterator
+from functools import partial
 from typing import Any
 
 import numpy as numpy_module
@@ -38,7 +39,7 @@ except ImportError:
 
 DATA = os.path.join(TOP, "bench", "data")
 REPEATS = int(sys.argv[1]) if len(sys.argv) > 1 else 5
-MANY, FEWER = 10_000_000, 1_000_000
+MANY, FEWER, SMALL_CALLS = 10_000_000, 1_000_000, 10_000
 PIXELS = 12 * 4**29
 
 # The packages that can do a task, each with its function.
@@ -107,6 +108,23 @@ def set_tasks() -> Iterator[tuple[str, Task]]:
         yield name, {"ploverchaise": function}
 
 
+def small_tasks() -> Iterator[tuple[str, Task]]:
+    """Returns the tasks with small calls, each made `SMALL_CALLS` times, and the same calls of Python's sets of cells."""
+    a, b = MOC.from_string("3/1-30"), MOC.from_string("4/7-90")
+    cells, other = set(range(4, 124)), set(range(7, 91))
+    calls: dict[str, tuple[Callable[[], Any], Callable[[], Any]]] = {
+        "contains(5)": (lambda: a.contains(5), lambda: 5 in cells), "union of two small sets": (lambda: a | b, lambda: cells | other),
+        "a small set equals another": (lambda: a == b, lambda: cells == other)}
+    for name, (ours, theirs) in calls.items():
+        yield f"{SMALL_CALLS} times {name}", {"ploverchaise": partial(repeat, ours), "set": partial(repeat, theirs)}
+
+
+def repeat(call: Callable[[], Any]) -> None:
+    """Makes a call `SMALL_CALLS` times."""
+    for _ in range(SMALL_CALLS):
+        call()
+
+
 def is_equal(ours: Any, theirs: Any) -> bool:
     """Returns whether two results are equal. The other packages return adjacent cells in any order, and as columns."""
     if getattr(ours, "ndim", 0) == 2 and ours.shape[1] == 8:
@@ -127,7 +145,7 @@ def minimal_times(task: Task) -> dict[str, float]:
 
 def main() -> None:
     """Compares and times all tasks."""
-    for title, task in (*number_tasks(13), *number_tasks(29), *set_tasks()):
+    for title, task in (*small_tasks(), *number_tasks(13), *number_tasks(29), *set_tasks()):
         result = task["ploverchaise"]()
         for name, function in task.items():
             if name != "ploverchaise" and not is_equal(result, function()):

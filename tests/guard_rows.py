@@ -9,10 +9,11 @@ import itertools
 from collections.abc import Iterator
 
 # The sizes and alignments of the types of elements, and a valid array of each.
-SIZES = {"uint8_t": (1, 1), "uint32_t": (4, 4), "uint64_t": (8, 8), "moc_range": (16, 8), "uint64_t[8]": (64, 8), "moc_text": (16, 8)}
+SIZES = {"uint8_t": (1, 1), "uint32_t": (4, 4), "uint64_t": (8, 8), "moc_range": (16, 8), "uint64_t[8]": (64, 8), "moc_text": (16, 8),
+         "moc_store": (8, 8)}
 ARRAYS = {"uint8_t": "at.bytes", "uint32_t": "at.xs", "uint64_t": "at.cells", "moc_range": "at.ranges", "uint64_t[8]": "at.rows"}
-# A valid text.
-TEXT, VALID_TEXT = "moc_text", "&at.text"
+# A valid text, and a valid handle of a store that a call opens.
+TEXT, VALID_TEXT, VALID_OUTPUT = "moc_text", "&at.text", "&at.opened"
 # Of the handles: valid ones, a zeroed one, and one in the memory of `guards.c`, with its offset.
 VALID_HANDLES = {"moc_store": ["&store", "&target"], "moc_client": ["&client", "&other"]}
 NULL_HANDLES = {"moc_store": "&no_store", "moc_client": "&no_client"}
@@ -44,30 +45,35 @@ class Call:
         The numbers of the arguments that are pointers.
     read : set of int
         The numbers of the pointers that the function only reads.
+    opened : int or None
+        The number of the handle of the store that the function opens.
     """
 
-    def __init__(self, name: str, types: list[str], id_functions: set[str]) -> None:
+    def __init__(self, name: str, types: list[str], id_functions: set[str], opening: set[str]) -> None:
         self.name = name
         self.macro = "NO_ID_AT" if name in id_functions else "WRONG_AT"
         self.types = [kind.removeprefix("const ").removesuffix("*") for kind in types]
         self.pointers = [place for place, kind in enumerate(types) if "*" in kind]
         self.read = {place for place, kind in enumerate(types) if kind.startswith("const ")}
+        self.opened = len(types) - 1 if name in opening else None
 
     def is_handle(self, place: int) -> bool:
-        """Returns whether an argument is a pointer to a handle."""
-        return self.types[place] in VALID_HANDLES
+        """Returns whether an argument is a pointer to an open handle."""
+        return self.types[place] in VALID_HANDLES and place != self.opened
 
     def is_array(self, place: int) -> bool:
         """Returns whether an argument is a pointer with a length."""
-        return place in self.pointers and not self.is_handle(place) and self.types[place] != TEXT
+        return place in self.pointers and not self.is_handle(place) and self.types[place] != TEXT and place != self.opened
 
     def text(self, changed: dict[int, str], is_apart: bool = False) -> str:
         """Returns the call in C. Arguments without a text in the dictionary are valid. All arrays have distinct memory if `is_apart`."""
         handles = {kind: iter(names) for kind, names in VALID_HANDLES.items()}
         arguments = []
         for place, kind in enumerate(self.types):
-            if kind in handles:
+            if self.is_handle(place):
                 valid = next(handles[kind])
+            elif place == self.opened:
+                valid = VALID_OUTPUT
             elif kind == TEXT:
                 valid = VALID_TEXT
             elif place in self.pointers:
@@ -78,7 +84,7 @@ class Call:
         return f"{self.name}({', '.join(arguments)})"
 
     def extent(self, place: int) -> int:
-        """Returns the size in bytes of a text, or of an array of `LENGTH` elements."""
+        """Returns the size in bytes of a text, of the handle of a store, or of an array of `LENGTH` elements."""
         size = SIZES[self.types[place]][0]
         return LENGTH * size if self.is_array(place) else size
 
@@ -135,7 +141,7 @@ def function(name: str, parameter: str, rows: list[str]) -> str:
     return f"\nstatic void {name}({parameter})\n{{\n" + "".join(f"    {row}\n" for row in rows) + "}\n"
 
 
-def make_rows(functions: dict[str, list[str]], id_functions: set[str]) -> str:
+def make_rows(functions: dict[str, list[str]], id_functions: set[str], opening: set[str]) -> str:
     """Returns the checks, as a file in C.
 
     Parameters
@@ -144,8 +150,10 @@ def make_rows(functions: dict[str, list[str]], id_functions: set[str]) -> str:
         The functions of the header that return a result, each with the types of its arguments.
     id_functions : set of str
         The functions that return the id of a new coverage.
+    opening : set of str
+        The functions whose last argument is the handle of a store that they open.
     """
-    calls = [Call(name, types, id_functions) for name, types in functions.items()]
+    calls = [Call(name, types, id_functions, opening) for name, types in functions.items()]
     return "".join([HEAD, function("null_pointers", "void", [row for call in calls for row in null_rows(call)]),
                     function("misaligned_pointers", "void *misaligned", [row for call in calls for row in misaligned_rows(call, 8)]),
                     function("misaligned_halves", "void *misaligned", [row for call in calls for row in misaligned_rows(call, 4)]),

@@ -29,7 +29,7 @@ CRATE = os.path.join(TOP, "crates", "moc_c")
 sys.path.insert(0, os.path.join(TOP, "tools"))
 import codes  # noqa: E402
 import linking  # noqa: E402
-from guards import CLIENT, HEADER, ID_FUNCTIONS, PROVED, RESULT, STORE, TEXT  # noqa: E402
+from guards import CLIENT, HEADER, ID_FUNCTIONS, OPENING, PROVED, RESULT, RETURNING_ID, STORE, TEXT  # noqa: E402
 from guards import Function, guards_source, parse_header, proved_declarations  # noqa: E402
 
 CC, CXX = os.environ.get("CC", "cc"), os.environ.get("CXX", "c++")
@@ -165,7 +165,8 @@ def write_rows(tally: Tally, folder: str) -> None:
     text, functions = read_text(TOP, "tests", "c", "guards.c"), functions_in(COMMENT.sub("", read_text(HEADER)))
     with_result = {name: types for name, (result, *types) in functions.items() if result == RESULT}
     tally.check(any("*" in kind for types in with_result.values() for kind in types), "no function has a pointer")
-    write_text(os.path.join(folder, "guard_rows.h"), make_rows(with_result, {f"moc_{name}" for name in ID_FUNCTIONS}))
+    write_text(os.path.join(folder, "guard_rows.h"),
+               make_rows(with_result, {f"moc_{name}" for name in RETURNING_ID}, {f"moc_{name}" for name in OPENING}))
     others = [name for name, (result, *_) in functions.items() if result in ("bool", "void")]
     tally.check(bool(others) and all(f"{name}(NULL)" in text for name in others),
                 f"guards.c does not call functions with null pointers: {others}")

@@ -152,8 +152,8 @@ DEFECTS = [
            '_close_store = declare_function(library, "store_close", None, STORE)\n'
            'setattr(StoreHandle, "__del__", lambda store: _close_store(store))', "package"),
     Defect("generators_are_sorted", "", "python/ploverchaise/_arrays.py",
-           "elements, iterator = array(\"Q\"), iter(numbers)",
-           "elements, iterator = array(\"Q\"), iter(numbers if isinstance(numbers, (list, tuple, range, array)) else sorted(numbers))",
+           "tuple[int, ...](), iter(numbers)",
+           "tuple[int, ...](), iter(numbers if isinstance(numbers, (list, tuple, range, array)) else sorted(numbers))",
            "package"),
     Defect("long_calls_ignore_signals", "", "python/ploverchaise/_library.py",
            "    if threading.current_thread() is not threading.main_thread():\n", "    if True:\n", "package"),
@@ -169,6 +169,8 @@ DEFECTS = [
            "if other >= 0 and end <= ends[other]:", "if other >= 0 and start < ends[other]:", "package"),
     Defect("densities_ignore_the_area", "", "python/ploverchaise/_regions.py",
            "weight * nside**2 for weight", "weight for weight", "package"),
+    Defect("last_error_of_cells_of_several_orders_is_reported", "", "python/ploverchaise/moc.py",
+           "            raise errors[min(errors)]", "            raise errors[max(errors)]", "package"),
     # the part of the library for C that is not proved
     Defect("forked_child_keeps_the_locks", "moc_c", "c/handles.c",
            "pthread_atfork(before_fork, after_fork, after_fork)", "pthread_atfork(before_fork, after_fork, NULL)", "library"),
@@ -192,6 +194,12 @@ DEFECTS = [
     Defect("ids_have_no_store", "moc_c", "c/handles.c",
            "return ((store->number - 1) % STORE_COUNT + 1) << STORE_SHIFT;",
            "return (store->number ? 1ull : 0) << STORE_SHIFT;", "library"),
+    Defect("second_store_is_not_locked", "moc_c", "c/handles.c",
+           "        enter_both(first, second);\n    enter(to);", "        enter(first);\n    enter(to);", "library"),
+    Defect("store_of_a_failed_operation_stays_open", "moc_c", "c/handles.c",
+           "    if (result.code)\n        close_store(out);\n", "", "library"),
+    Defect("operation_is_on_the_first_coverage_only", "moc_c", "c/handles.c",
+           "call(&to->proved.store, copies[0], copies[1])", "call(&to->proved.store, copies[0], copies[0])", "library"),
 ]
 
 

@@ -21,6 +21,8 @@ PYTHON = os.path.join("python", "ploverchaise", "_codes.py")
 BEGIN, END = "/* Codes: made by tools/codes.py from codes.tsv. */\n", "/* End of the codes. */\n"
 # The codes of errors in the arguments of a call, which only the guards in C return.
 GUARD_CODES = frozenset(["NULL", "MISALIGNED", "OVERLAP"])
+# The meanings of codes in Python that differ from those in C, where an order is not negative.
+PYTHON_MEANINGS = {"NO_SUCH_ORDER": "the order is not 0 to 29"}
 
 
 class Code(NamedTuple):
@@ -109,7 +111,8 @@ def python_table(codes: list[Code]) -> str:
             words = "".join(f'"{word}", ' for word, _ in code.numbers).rstrip()
             words = words.rstrip(",") if len(code.numbers) > 1 else words
             place = f", ({words})" if words else ""
-            lines.append(f'    {code.name}: Kind("{code.python_name}", "{code.meaning}"{place}),')
+            meaning = PYTHON_MEANINGS.get(code.name, code.meaning)
+            lines.append(f'    {code.name}: Kind("{code.python_name}", "{meaning}"{place}),')
     return "\n".join([*lines, "}", ""])
 
 

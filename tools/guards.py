@@ -78,6 +78,14 @@ TEXT_FUNCTIONS = frozenset(["write_ascii", "write_json", "write_uniq", "describe
 WRITTEN = {"store_open": "open_store", "store_close": "close_store", "client_open": "open_client", "client_close": "close_client",
            "text_free": "free_text", "map_begin": "begin_map", "map_join": "join_map", "map_busy_timeout": "set_timeout",
            "map_execute": "execute_line", "map_apply": "apply_line", "map_answer": "replies_of"}
+# The functions that open a store with the result of an operation on coverages of two stores, and those that query coverages of two stores,
+# each with the proved function that is called on copies of the coverages. They take the locks of their handles.
+OPENING = {f"open_{operation}": operation for operation in ("union", "intersection", "difference", "symmetric")}
+QUERYING = {f"pair_{query}": query for query in ("count_common", "meets", "covers", "same")}
+CALLED_ON_COPIES = {**OPENING, **QUERYING}
+WRITTEN |= {**dict.fromkeys(OPENING, "open_result"), **dict.fromkeys(QUERYING, "query_copies")}
+# The functions whose result has an id.
+RETURNING_ID = ID_FUNCTIONS | {*OPENING}
 # The functions that wait if a part is held.
 VERBS = ("add", "remove", "claim", "count", "contains")
 WAITING = frozenset(["map_execute", "map_apply", "map_coverage",
@@ -90,7 +98,7 @@ PROVED_DECLARATIONS = [f"bool {PROVED}store_open({STORE} *out)", f"void {PROVED}
                        f"{RESULT} {PROVED}text({STORE} *store, uint8_t *out, size_t length)",
                        f"{RESULT} {PROVED}map_answer({CLIENT} *client, uint8_t *out, size_t length)"]
 # The functions of the header without a proved function.
-UNPROVED = frozenset([*TEXTS, "text_free", "map_execute", "map_busy_timeout"])
+UNPROVED = frozenset([*TEXTS, "text_free", "map_execute", "map_busy_timeout", *CALLED_ON_COPIES])
 
 # The other parts of the header: comments, preprocessor lines, types, and the braces for C++.
 OTHER_PARTS = [re.compile(r"/\*.*?\*/", re.DOTALL), re.compile(r"^#.*", re.MULTILINE),
@@ -104,8 +112,9 @@ POINTER_TO_HANDLE = re.compile(rf"(const )?({STORE}|{CLIENT}) \*(\w+)")
 POINTER_TO_TEXT = re.compile(rf"{TEXT} \*(\w+)")
 ARRAY = re.compile(rf"(const )?(?!void |{STORE} |{CLIENT} |{TEXT} )(\w+) (?:\*(\w+)|\(\*(\w+)\)\[\d+\])")
 LENGTH = re.compile(r"size_t (\w+)")
-# The names of the arguments that are ids.
+# The names of the arguments that are ids, and of the store that a function opens.
 IDS = ("a", "b")
+OPENED = "out"
 
 
 class Function(NamedTuple):
@@ -126,9 +135,13 @@ class Function(NamedTuple):
     arguments: list[str]
 
     def handles(self) -> list[tuple[str, str]]:
-        """Returns the member of a handle, `store` or `client`, and the name of each argument that is a handle."""
+        """Returns the member of a handle, `store` or `client`, and the name of each argument that is an open handle."""
         matches = map(POINTER_TO_HANDLE.fullmatch, self.arguments)
-        return [(match[2].removeprefix("moc_"), match[3]) for match in matches if match]
+        return [(match[2].removeprefix("moc_"), match[3]) for match in matches if match and not self.opens(match[3])]
+
+    def opens(self, name: str) -> bool:
+        """Returns whether an argument is the handle of a store that the function opens for its result."""
+        return self.name in OPENING and name == OPENED
 
     def ids(self) -> list[str]:
         """Returns the names of the arguments that are ids."""
@@ -155,7 +168,9 @@ class Pointer(NamedTuple):
     is_bytes : bool
         Whether the elements are bytes, which need no alignment.
     handle : str
-        The type of the handle, or an empty text.
+        The type of the open handle, or an empty text.
+    zero : str
+        The value of what the function makes if it fails, or an empty text if the pointer is to something else than what it makes.
     """
 
     place: int
@@ -164,6 +179,7 @@ class Pointer(NamedTuple):
     is_read: bool = False
     is_bytes: bool = False
     handle: str = ""
+    zero: str = ""
 
     def null_condition(self) -> str:
         """Returns the condition in C that the pointer is null."""
@@ -205,11 +221,14 @@ def parse_arguments(function: Function) -> tuple[list[Pointer], list[str]]:
                 passed.append(f"proved_id({stores[0]}, {match[2]})")
             else:
                 passed.append(f"byte({match[2]})" if match[1] == "uint32_t" and match[2] != "milliseconds" else match[2])
-        elif match := POINTER_TO_HANDLE.fullmatch(argument):
+        elif (match := POINTER_TO_HANDLE.fullmatch(argument)) and function.opens(match[3]):
+            pointers.append(Pointer(place, match[3], zero=f"({STORE}){{NULL}}"))
+            passed.append(match[3])
+        elif match:
             pointers.append(Pointer(place, match[3], is_read=bool(match[1]), handle=match[2]))
             passed.append(f"{match[3]}_handle" if is_written else f"&{match[3]}_handle->proved.{match[2].removeprefix('moc_')}")
         elif match := POINTER_TO_TEXT.fullmatch(argument):
-            pointers.append(Pointer(place, match[1]))
+            pointers.append(Pointer(place, match[1], zero=f"({TEXT}){{NULL, 0}}"))
             passed += [match[1]] if is_written else []
         elif match := ARRAY.fullmatch(argument):
             array, length = match[3] or match[4], LENGTH.fullmatch(next(places, (0, ""))[1])
@@ -232,13 +251,13 @@ def failures(pointers: list[Pointer]) -> Iterator[tuple[str, str, int]]:
                 yield earlier.overlap_condition(later), "MOC_OVERLAP", later.place
 
 
-def zero_text(pointers: list[Pointer]) -> list[str]:
-    """Returns the lines of a guard that zero the text that the function makes, if the pointer to it is valid."""
+def zero_output(pointers: list[Pointer]) -> list[str]:
+    """Returns the lines of a guard that zero the text or the store that the function makes, if the pointer to it is valid."""
     lines = []
-    for text in pointers:
-        if not text.length and not text.handle:
-            overlaps = "".join(f" && !{other.overlap_condition(text)}" for other in pointers if other is not text)
-            lines += [f"if ({text.name} && IS_ALIGNED({text.name}){overlaps})", f"    *{text.name} = (moc_text){{NULL, 0}};"]
+    for made in pointers:
+        if made.zero:
+            overlaps = "".join(f" && !{other.overlap_condition(made)}" for other in pointers if other is not made)
+            lines += [f"if ({made.name} && IS_ALIGNED({made.name}){overlaps})", f"    *{made.name} = {made.zero};"]
     return lines
 
 
@@ -270,9 +289,13 @@ def proved_declarations(functions: list[Function]) -> list[str]:
 
 
 def call_lines(function: Function, passed: list[str]) -> list[str]:
-    """Returns the lines of a guard that enter the handles, call a function and leave the handles. `result` is the result."""
+    """Returns the lines of a guard that enter the handles, call a function and leave the handles. `result` is the result.
+
+    A function that takes the locks of its handles is only called."""
     handles = function.handles()
     names = [f"{name}_handle" for _, name in handles]
+    if function.name in CALLED_ON_COPIES:
+        return [f"result = {callee(function)}({', '.join([f'{PROVED}{CALLED_ON_COPIES[function.name]}', *passed])});"]
     call = f"{callee(function)}({', '.join(passed)})"
     if function.name in ID_FUNCTIONS:
         call = f"id_result({call}, {function.stores()[-1]})"
@@ -309,8 +332,8 @@ def guard_body(function: Function) -> list[str]:
     handle, text = POINTER_TO_HANDLE.fullmatch(argument), POINTER_TO_TEXT.fullmatch(argument)
     if function.result == RESULT:
         pointers, passed = parse_arguments(function)
-        wrapped = "id_failure({})" if function.name in ID_FUNCTIONS else "{}"
-        lines = zero_text(pointers)
+        wrapped = "id_failure({})" if function.name in RETURNING_ID else "{}"
+        lines = zero_output(pointers)
         for condition, code, place in failures(pointers):
             lines += [f"if ({condition})", "    return " + wrapped.format(f"failure({code}, {place})") + ";"]
         if not function.handles():

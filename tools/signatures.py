@@ -70,7 +70,7 @@ def python_module(header: str) -> str:
     for table, handle, comment in TABLES:
         lines += ["", f"# {comment}", f"{table}: dict[str, tuple[Any, ...]] = {{", *signatures(functions, handle), "}"]
     lines += ["", "# The functions that return the id of a new coverage.", "ID_CALLS = frozenset(["]
-    lines += [f'    "{function.name}",' for function in functions if function.name in guards.ID_FUNCTIONS]
+    lines += [f'    "{function.name}",' for function in functions if function.name in guards.RETURNING_ID]
     used = [name for name in ("c_size_t", "c_uint8", "c_uint32", "c_uint64", "c_void_p") if any(name in line for line in lines)]
     head = ['"""The functions of the library, with the types of their arguments.', "",
             f'Made by `tools/signatures.py` from `{HEADER}`."""', "from __future__ import annotations", "", "import ctypes",

@@ -10,7 +10,7 @@ import operator
 from abc import ABC, abstractmethod
 from array import array
 from bisect import bisect_right
-from collections.abc import Iterable, Iterator, Sequence, Set, ValuesView
+from collections.abc import Callable, Iterable, Iterator, Sequence, Set, ValuesView
 from itertools import islice
 from typing import TYPE_CHECKING, Any, NamedTuple, Protocol, SupportsIndex, Union
 
@@ -134,11 +134,10 @@ class Input(ABC):
     def text_of_row(self, row: int) -> str:
         """Returns the text of the elements of a row, for an error."""
 
-    @abstractmethod
-    def sorting_order(self, rows: slice) -> Any:
-        """Returns the positions of the elements of rows, such that pixels are sorted by the cell of order 6 that contains them.
-
-        Returns None if sorting is not worthwhile."""
+    def call_sorted(self, call: Callable[[Buffer, Buffer], object], rows: slice, output: Output) -> None:
+        """Calls a function with the memory of pixels and of an output with one element for each. Sorts the pixels for the call if that is
+        worthwhile. The output has the values in the sequence of the pixels."""
+        call(self.buffer(rows), output.buffer(rows))
 
     @abstractmethod
     def is_ascending(self) -> bool:
@@ -155,10 +154,6 @@ class Output(ABC):
     @abstractmethod
     def buffer(self, rows: slice) -> Buffer:
         """Returns the memory of rows."""
-
-    @abstractmethod
-    def put(self, positions: Any, values: Output) -> None:
-        """Replaces the elements at these positions by values."""
 
     @abstractmethod
     def result(self) -> Any:
@@ -183,13 +178,23 @@ def _to_uint64(number: SupportsIndex) -> int:
     return number if 0 <= number <= INVALID_NUMBER else INVALID_NUMBER
 
 
-def _plain_array(numbers: list[SupportsIndex]) -> array[int]:
-    """Returns an array of ints. Raises TypeError if a number is not an integer."""
-    elements: Any = numbers
-    try:
-        return array("Q", elements)
-    except OverflowError:
-        return array("Q", map(_to_uint64, numbers))
+def _first_outside(numbers: list[SupportsIndex], start: int = 0) -> tuple[int, ...]:
+    """Returns the position and the value of the first number outside 0 to 2^64 - 1, if there is one.
+
+    `start` is the position of the first number. Raises TypeError if a number before it is not an integer."""
+    values = ((start + position, operator.index(number)) for position, number in enumerate(numbers))
+    return next((pair for pair in values if not 0 <= pair[1] <= INVALID_NUMBER), ())
+
+
+def _flatten_pairs(pairs: Iterable[Any]) -> Iterator[SupportsIndex]:
+    """Returns an iterator over the numbers of pairs. Raises ValueError or TypeError, with its position, for an item that is not a pair."""
+    for position, pair in enumerate(pairs):
+        try:
+            start, end = pair
+        except (TypeError, ValueError) as error:
+            raise type(error)(f"item {position} is not a pair (from, to): {pair!r}") from None
+        yield start
+        yield end
 
 
 class PlainInput(Input):
@@ -203,22 +208,27 @@ class PlainInput(Input):
         The number of elements of a row.
     is_scalar : bool
         Whether the argument was a single int. Results are then ints.
+    outside : tuple of int
+        The position and the value of the first int outside 0 to 2^64 - 1, if there is one.
     """
 
-    def __init__(self, numbers: array[int], is_scalar: bool = False, width: int = 1) -> None:
-        self.numbers, self.is_scalar, self.width = numbers, is_scalar, width
+    def __init__(self, numbers: array[int], is_scalar: bool = False, width: int = 1, outside: tuple[int, ...] = ()) -> None:
+        self.numbers, self.is_scalar, self.width, self.outside = numbers, is_scalar, width, outside
 
     @classmethod
     def of(cls, numbers: Any, width: int = 1) -> PlainInput:
         """Returns an int or the ints of an iterable. Raises TypeError if a number is not an integer."""
         if not hasattr(numbers, "__iter__"):
-            return cls(array("Q", [_to_uint64(numbers)]), True)
-        if type(numbers) is list and len(numbers) <= PIECE_LENGTH:
-            return cls(_plain_array(numbers), width=width)
-        elements, iterator = array("Q"), iter(numbers)
+            return cls(array("Q", [_to_uint64(numbers)]), True, outside=_first_outside([numbers]))
+        elements, outside, iterator = array("Q"), tuple[int, ...](), iter(numbers)
         while piece := list(islice(iterator, PIECE_LENGTH)):
-            elements += _plain_array(piece)
-        return cls(elements, width=width)
+            part: Any = piece
+            try:
+                elements += array("Q", part)
+            except OverflowError:
+                outside = outside or _first_outside(piece, len(elements))
+                elements += array("Q", map(_to_uint64, piece))
+        return cls(elements, width=width, outside=outside)
 
     def __len__(self) -> int:
         return len(self.numbers) // self.width
@@ -242,15 +252,18 @@ class PlainInput(Input):
         return [position for position, element in enumerate(self.numbers) if element == number]
 
     def take(self, positions: list[int]) -> PlainInput:
-        return PlainInput(array("Q", [self.numbers[position] for position in positions]))
+        outside = tuple[int, ...]()
+        if self.outside and self.outside[0] in positions:
+            outside = positions.index(self.outside[0]), self.outside[1]
+        return PlainInput(array("Q", [self.numbers[position] for position in positions]), outside=outside)
 
     def text_of_row(self, row: int) -> str:
-        """Returns the text of the elements of a row. The value of an int outside 0 to 2^64 - 1 is not known."""
-        numbers = self.numbers[row * self.width:(row + 1) * self.width]
-        return ", ".join("a number outside 0 to 2^64 - 1" if number == INVALID_NUMBER else str(number) for number in numbers)
-
-    def sorting_order(self, rows: slice) -> None:
-        """Returns None: the elements of a list are looked up in the given order."""
+        """Returns the text of the elements of a row. Only for the first int outside 0 to 2^64 - 1, the value is known."""
+        texts = {position: str(self.numbers[position]) for position in range(row * self.width, (row + 1) * self.width)}
+        texts |= {position: "a number outside 0 to 2^64 - 1" for position in texts if self.numbers[position] == INVALID_NUMBER}
+        if self.outside and self.outside[0] in texts:
+            texts[self.outside[0]] = str(self.outside[1])
+        return ", ".join(texts.values())
 
     def is_ascending(self) -> bool:
         """Returns False: a comparison of the elements of a list takes longer than it saves."""
@@ -289,10 +302,6 @@ class PlainOutput(Output):
 
     def buffer(self, rows: slice) -> Buffer:
         return buffer_of(self.numbers, rows, self.width)
-
-    def put(self, positions: Iterable[int], values: Output) -> None:
-        """Is not called, because lists are not sorted."""
-        raise NotImplementedError
 
     def result(self) -> Any:
         """Returns the elements as a list, or the element as an int."""
@@ -359,15 +368,21 @@ class NumpyInput(Input):
         import numpy
 
         elements = self.elements[rows.start * self.width:rows.stop * self.width]
-        dtype = numpy.uint64 if elements.dtype.kind == "u" else numpy.int64
-        return numpy.require(elements, dtype, ["C", "A"]).view(numpy.uint64)
+        wide: NDArray[Any] = numpy.require(elements, self._wide_dtype(), ["C", "A"])
+        return wide.view(numpy.uint64)
 
     def buffer(self, rows: slice) -> Buffer:
         numbers = self.numbers(rows)
         return Buffer(numbers.ctypes.data, len(numbers) // self.width, numbers)
 
     def private(self) -> NumpyInput:
-        return NumpyInput(self.elements.copy(), self.shape, self.width)
+        import numpy
+
+        return NumpyInput(numpy.array(self.elements, self._wide_dtype()), self.shape, self.width)
+
+    def _wide_dtype(self) -> Any:
+        """Returns the dtype of 64 bits with the kind of the elements."""
+        return "uint64" if self.elements[:0].dtype.kind == "u" else "int64"
 
     def new_output(self, code: str = "Q", width: int = 1) -> NumpyOutput:
         import numpy
@@ -399,18 +414,22 @@ class NumpyInput(Input):
     def text_of_row(self, row: int) -> str:
         return ", ".join(str(number) for number in self.elements[row * self.width:(row + 1) * self.width].tolist())
 
-    def sorting_order(self, rows: slice) -> NDArray[numpy.int64] | None:
-        """Returns the positions in the order in which pixels are looked up faster. A number that is not a pixel may be at any position.
-
-        Returns None for a short array, and for an ascending one."""
+    def call_sorted(self, call: Callable[[Buffer, Buffer], object], rows: slice, output: Output) -> None:
+        """Sorts the pixels by the cells of order 6 that contain them, unless the array is short or ascending. A number that is not a pixel
+        may be at any position."""
         import numpy
 
         numbers = self.numbers(rows)
         if len(numbers) <= _MIN_LENGTH_FOR_SORTING or not (numbers[1:] < numbers[:-1]).any():
-            return None
+            super().call_sorted(call, rows, output)
+            return
         cells = (numbers >> numpy.uint64(_ORDER_6_SHIFT)).astype(numpy.uint16)
-        positions: NDArray[numpy.int64] = numpy.argsort(cells, kind="stable") + rows.start
-        return positions
+        positions = numpy.argsort(cells, kind="stable") + rows.start
+        piece, all_rows = self.take(positions), slice(0, len(positions))
+        piece_output = piece.new_output("B")
+        call(piece.buffer(all_rows), piece_output.buffer(all_rows))
+        assert isinstance(output, NumpyOutput)
+        output.numbers[positions] = piece_output.numbers
 
     def flags_of_cells(self, bounds: array[int], order: int, is_whole: bool) -> Any:
         import numpy
@@ -450,10 +469,6 @@ class NumpyOutput(Output):
     def buffer(self, rows: slice) -> Buffer:
         numbers = self.numbers[rows.start * self.width:rows.stop * self.width]
         return Buffer(numbers.ctypes.data, rows.stop - rows.start, numbers)
-
-    def put(self, positions: Any, values: Output) -> None:
-        assert isinstance(values, NumpyOutput)
-        self.numbers[positions] = values.numbers
 
     def result(self) -> Any:
         """Returns the elements as int64, which healpy uses too, in the shape of the argument."""
@@ -564,7 +579,7 @@ def as_pairs(pairs: Pairs) -> Input:
     _check_not_lazy(pairs)
     argument = without_missing(pairs)
     if not hasattr(argument, "__array__"):
-        return PlainInput.of((number for start, end in argument for number in (start, end)), width=2)
+        return PlainInput.of(_flatten_pairs(argument), width=2)
     numbers = NumpyInput.of(argument, width=2)
     if len(numbers.elements) and numbers.shape[1:] != (2,):
         raise ValueError(f"expected an array of pairs (from, to) with the shape (n, 2), not {numbers.shape}")

@@ -63,7 +63,7 @@ OVERLAP = 81
 KINDS = {
     BUFFER_TOO_SHORT: Kind("BufferTooShort", "the buffer is too short", ("wanted",)),
     NO_SUCH_SET: Kind("NoSuchSet", "no set has the id, or the set was freed", ("key",)),
-    NO_SUCH_ORDER: Kind("NoSuchOrder", "the order is above 29", ("order",)),
+    NO_SUCH_ORDER: Kind("NoSuchOrder", "the order is not 0 to 29", ("order",)),
     LENGTHS_DIFFER: Kind("LengthsDiffer", "two arrays that belong together differ in length"),
     NO_SUCH_CELL: Kind("NoSuchCell", "a number is not the number of a cell of the order", ("place",)),
     NOT_UNIQ: Kind("NotUniq", "a number is not a NUNIQ number", ("place",)),

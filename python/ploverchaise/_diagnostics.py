@@ -1,7 +1,8 @@
-"""Positions and quotations of errors in texts, in the words of the program `moc`."""
+"""Formats of texts, and positions and quotations of errors in texts, in the words of the program `moc`."""
 from __future__ import annotations
 
 import json
+import re
 from typing import Any
 
 from .errors import MocError
@@ -9,6 +10,14 @@ from .errors import MocError
 # The maximal number of bytes of a text that a quotation has.
 MAX_QUOTED = 40
 _SEPARATORS = (b" ", b",", b"\t", b"\r", b"\n")
+
+
+def likely_format(text: bytes) -> str | None:
+    """Returns the format that a text looks like, by the rules of the program `moc`, or None if it looks like none."""
+    first = re.match(rb"[ \t\r\n]*(.)", text, re.DOTALL)
+    if first is None or first[1] not in b"{0123456789s,":
+        return None
+    return "json" if first[1] == b"{" else "ascii" if b"/" in text else "uniq"
 
 
 def quote(part: bytes) -> str:
@@ -19,15 +28,25 @@ def quote(part: bytes) -> str:
 
 def position_of(data: bytes, format: str, error: MocError) -> str:
     """Returns the position of the error of a text, with a quotation, or an empty text if the error has no position."""
+    return ": ".join(part for part in _position_and_quotation(data, format, error) if part)
+
+
+def quotation_of(data: bytes, format: str, error: MocError) -> str:
+    """Returns the quotation of the part of a text that an error is about, or an empty text if the error has no position."""
+    return _position_and_quotation(data, format, error)[1]
+
+
+def _position_and_quotation(data: bytes, format: str, error: MocError) -> tuple[str, str]:
+    """Returns the position of the error of a text, and the quotation. Each may be an empty text."""
     if format == "json":
         return _position_in_json(data, error)
     if not error.place:
-        return ""
+        return "", ""
     place = error.place[0]
     if format == "uniq":
-        return f"line {place}: {quote(_line(data, place))}"
+        return f"line {place}", quote(_line(data, place))
     line, start = data.count(b"\n", 0, place) + 1, data.rfind(b"\n", 0, place) + 1
-    return f"byte {place}, line {line}, byte {place - start} of it: {quote(_word(data, place))}"
+    return f"byte {place}, line {line}, byte {place - start} of it", quote(_word(data, place))
 
 
 def _line(data: bytes, number: int) -> bytes:
@@ -42,20 +61,20 @@ def _word(data: bytes, place: int) -> bytes:
     return data[start:end]
 
 
-def _position_in_json(data: bytes, error: MocError) -> str:
-    """Returns the position of the error of a JSON text. For an invalid text it is that of Python's parser."""
+def _position_in_json(data: bytes, error: MocError) -> tuple[str, str]:
+    """Returns the position of the error of a JSON text, and the quotation. For an invalid text it is the position of Python's parser."""
     try:
         content: Any = json.loads(data)
     except json.JSONDecodeError as failure:
-        return f"line {failure.lineno}, column {failure.colno}"
-    except ValueError:
-        return ""
+        return f"line {failure.lineno}, column {failure.colno}", ""
+    except (ValueError, RecursionError):
+        return "", ""
     if not error.place:
-        return ""
-    name = sorted(content, key=str.encode)[error.place[0]]
+        return "", ""
+    name: str = sorted(content, key=str.encode)[error.place[0]]
     if error.name == "BadOrder":
-        return f"name {error.place[0]}: {quote(name.encode())}"
+        return f"name {error.place[0]}", quote(name.encode())
     if error.name == "NotArray":
-        return f"order {int(name)}: {quote(name.encode())}"
+        return f"order {int(name)}", quote(name.encode())
     item = json.dumps(content[name][error.place[1]], separators=(",", ":"), ensure_ascii=False)
-    return f"order {int(name)}, number {error.place[1]}: {quote(item.encode())}"
+    return f"order {int(name)}, number {error.place[1]}", quote(item.encode())

@@ -4,9 +4,9 @@ from __future__ import annotations
 import contextlib
 import json
 import os
-import re
 from typing import Any, NamedTuple, SupportsIndex
 
+from ._diagnostics import likely_format
 from .errors import MocError
 from .moc import MOC, AnyMOC
 
@@ -22,9 +22,8 @@ _GZIP_MAGIC, _FITS_MAGIC = b"\x1f\x8b", b"SIMPLE  ="
 # The formats of the suffixes of names. Other names are those of ASCII texts.
 _SUFFIXES = {".fits": "fits", ".fit": "fits", ".fts": "fits", ".json": "json", ".uniq": "uniq"}
 _COMPRESSED = ".gz"
-# The number of bytes that are read or written at once. Ctrl-C is answered between two pieces.
+# The number of bytes that are read or written at once. Signal handlers run between two pieces.
 _PIECE = 2**22
-_FIRST_LINE_OF_UNIQ = re.compile(rb"\s*[0-9]+[ \t\r]*(?:\n|\Z)")
 
 
 class CoverageFile(NamedTuple):
@@ -77,13 +76,8 @@ class TextError(Exception):
 def recognize_format(data: bytes) -> str:
     """Returns the format of the content of a file that is not compressed.
 
-    A FITS file begins with the key SIMPLE, and JSON with a brace. A text without `/` whose first line is a number is a list of NUNIQ
-    numbers. Any other text is ASCII."""
-    if data.startswith(_FITS_MAGIC):
-        return "fits"
-    if re.match(rb"\s*\{", data):
-        return "json"
-    return "uniq" if b"/" not in data and _FIRST_LINE_OF_UNIQ.match(data) else "ascii"
+    A FITS file begins with the key SIMPLE. A text that looks like no format is ASCII."""
+    return "fits" if data.startswith(_FITS_MAGIC) else likely_format(data) or "ascii"
 
 
 def format_of_name(path: str | os.PathLike[str]) -> str:

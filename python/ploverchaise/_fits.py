@@ -10,9 +10,8 @@ import warnings
 from types import ModuleType
 from typing import TYPE_CHECKING, Any, SupportsIndex
 
-from ._codes import TOO_COARSE
 from ._files import FileError
-from .errors import MocError, check_order
+from .errors import MocError, check_order, too_coarse
 from .moc import MOC
 
 if TYPE_CHECKING:
@@ -150,7 +149,7 @@ def write_fits(moc: MOC, *, max_order: SupportsIndex | None = None, ordering: st
     fits = _import_fits()
     order = moc.max_order if max_order is None else check_order(max_order)
     if order < moc.max_order:
-        raise MocError(TOO_COARSE)
+        raise too_coarse(order, moc.max_order)
     numbers = moc.uniq_hpx if ordering == "NUNIQ" else moc.to_depth29_ranges.reshape(-1)
     table = fits.BinTableHDU.from_columns([fits.Column(name=COLUMNS[ordering], format="1K", array=numbers)])
     for key, value, comment in (

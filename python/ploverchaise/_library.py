@@ -1,8 +1,11 @@
 """Loads the library with ctypes, and calls its functions.
 
-Each coverage has a store of its own. The library has a lock for each store and each client, and no Python code runs while a lock is held.
+Each coverage is in a separate store. The library has a lock for each store and each client, and no Python code runs while a lock is held.
 A call that may take long uses a copy of the coverage in a temporary store, so that no other call waits for it. A copy shares the ranges of
-the coverage. During a call, ctypes lets other threads of Python run.
+the coverage.
+
+During a call, ctypes releases the global interpreter lock (GIL), so that other threads of Python run. Only brief calls, which take some
+microseconds, keep it. To release it, and to wait until it is free again, would take longer than the call.
 
 The library closes handles and frees texts without Python code. So an exception that a signal handler raises is never lost in a finalizer.
 
@@ -15,11 +18,11 @@ import _thread
 import ctypes
 import os
 import threading
-from collections.abc import Callable, Iterator
+from collections.abc import Callable
 from ctypes import c_bool
 from typing import Any, TypeVar
 
-from ._arrays import PIECE_LENGTH, Buffer, Input, Output, pieces_of
+from ._arrays import Buffer, Input, Output, pieces_of
 from ._codes import KINDS, MEMORY, NO_SUCH_CELL, NOT_UNIQ, RANGE_BACKWARDS, RANGE_PIXEL_TOO_LARGE
 from ._signatures import CLIENT, CLIENT_CALLS, ID_CALLS, NUMBER_CALLS, STORE, STORE_CALLS, TEXT, ClientHandle, Result, StoreHandle, Text
 from .errors import MocError
@@ -28,6 +31,8 @@ Value = TypeVar("Value")
 
 NO_ORDER = 255
 """The value of an optional order that is not stated, `MOC_NO_ORDER` in C."""
+MAX_BRIEF_RANGES = 200
+"""A call is brief if its coverages have at most this number of ranges together."""
 # The time in seconds after which another thread that has not begun a call does not make it.
 _MAX_START_TIME = 0.2
 _NUMBER_ERRORS = (NO_SUCH_CELL, NOT_UNIQ, RANGE_BACKWARDS, RANGE_PIXEL_TOO_LARGE)
@@ -52,17 +57,34 @@ def declare_function(library: ctypes.CDLL, name: str, result: Any, *arguments: A
     return function  # type: ignore[no-any-return]
 
 
+class _BriefFunctions(dict[str, Callable[..., Result]]):
+    """The functions of a store by their names, as functions that keep the GIL. Each is declared when it is first used."""
+
+    def __missing__(self, name: str) -> Callable[..., Result]:
+        self[name] = declare_function(_brief_library, name, Result, STORE, *STORE_CALLS[name])
+        return self[name]
+
+
+class BriefStoreHandle(StoreHandle):
+    """A store with few ranges. Its calls are brief."""
+
+
 library = ctypes.CDLL(_library_path())
-store_functions = {name: declare_function(library, name, Result, STORE, *types) for name, types in STORE_CALLS.items()}
+# The same library. Calls of its functions keep the GIL.
+_brief_library = ctypes.PyDLL(_library_path())
+store_functions: dict[str, Callable[..., Result]] = {name: declare_function(library, name, Result, STORE, *types)
+                                                     for name, types in STORE_CALLS.items()}
+brief_functions = _BriefFunctions()
 client_functions = {name: declare_function(library, name, Result, CLIENT, *types) for name, types in CLIENT_CALLS.items()}
 number_functions = {name: declare_function(library, name, Result, *types) for name, types in NUMBER_CALLS.items()}
-_store_open = declare_function(library, "store_open", c_bool, STORE)
+_store_open = declare_function(_brief_library, "store_open", c_bool, STORE)
 _client_open = declare_function(library, "client_open", c_bool, CLIENT)
 
 # Python calls a method of this type with the object, and runs no Python code for it.
 _method = ctypes.pythonapi.PyInstanceMethod_New
 _method.argtypes, _method.restype = [ctypes.py_object], ctypes.py_object
 setattr(StoreHandle, "__del__", _method(declare_function(library, "store_close", None, STORE)))
+setattr(BriefStoreHandle, "__del__", _method(declare_function(_brief_library, "store_close", None, STORE)))
 setattr(ClientHandle, "__del__", _method(declare_function(library, "client_close", None, CLIENT)))
 setattr(Text, "__del__", _method(declare_function(library, "text_free", None, TEXT)))
 
@@ -103,9 +125,16 @@ def c_arguments(*arguments: Any) -> list[Any]:
     return converted
 
 
-def open_store() -> StoreHandle:
-    """Returns a new store. Raises MemoryError if an allocation fails."""
-    store = StoreHandle()
+def new_handle(range_bound: int) -> StoreHandle:
+    """Returns the handle of a store that is not open, for a coverage with at most this number of ranges."""
+    return BriefStoreHandle() if range_bound <= MAX_BRIEF_RANGES else StoreHandle()
+
+
+def open_store(range_bound: int | None = None) -> StoreHandle:
+    """Returns a new store. Its calls are brief if its coverages have few ranges together.
+
+    Raises MemoryError if an allocation fails."""
+    store = StoreHandle() if range_bound is None else new_handle(range_bound)
     if not _store_open(store):
         raise MemoryError("no memory is left for a coverage")
     return store
@@ -121,7 +150,8 @@ def open_client() -> ClientHandle:
 
 def call_with_store(name: str, store: StoreHandle, *arguments: Any) -> Result:
     """Calls `moc_NAME` with a store and arguments for C, and returns its result. Raises as `check_result`."""
-    result: Result = store_functions[name](store, *arguments)
+    functions = brief_functions if type(store) is BriefStoreHandle else store_functions
+    result = functions[name](store, *arguments)
     return check_result(result, name) if result.code else result
 
 
@@ -161,12 +191,6 @@ def call_on_rows(call: Callable[..., Value], order: int | None, rows: slice, num
         raise MocError(error.code, place, detail=_describe_number(error.code, numbers.text_of_row(place), order)) from None
 
 
-def call_on_pieces(call: Callable[..., Value], order: int | None, numbers: Input, *outputs: Output,
-                   max_length: int = PIECE_LENGTH) -> Iterator[Value]:
-    """Returns an iterator over the values of `call_on_rows` for each piece, of at most `max_length` rows, of an input and of outputs."""
-    return (call_on_rows(call, order, rows, numbers, *outputs) for rows in pieces_of(len(numbers), max_length))
-
-
 def _describe_number(code: int, text: str, order: int | None) -> str:
     """Returns what is wrong with a number or a range that an error is about."""
     if code == NO_SUCH_CELL and order is not None:
@@ -175,10 +199,10 @@ def _describe_number(code: int, text: str, order: int | None) -> str:
 
 
 def convert(name: str, order: int | None, numbers: Input, *outputs: Output) -> None:
-    """Calls `moc_NAME`, which takes neither a store nor a client, with all pieces of arrays. Raises as `call_on_pieces`."""
+    """Calls `moc_NAME`, which takes neither a store nor a client, with all pieces of arrays. Raises as `call_on_rows`."""
     function = number_functions[name]
-    for _ in call_on_pieces(lambda *arguments: check_result(function(*c_arguments(*arguments)), name), order, numbers, *outputs):
-        pass
+    for rows in pieces_of(len(numbers)):
+        call_on_rows(lambda *arguments: check_result(function(*c_arguments(*arguments)), name), order, rows, numbers, *outputs)
 
 
 def text_of(call: Callable[..., Result], *arguments: Any) -> str:

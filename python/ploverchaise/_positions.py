@@ -6,9 +6,10 @@ coordinates (ICRS), as in MOC 2.0.
 from __future__ import annotations
 
 import importlib
-from collections.abc import Callable, Iterator
+from collections.abc import Callable
 from typing import TYPE_CHECKING, Any
 
+from ._arrays import pieces_of
 from .errors import check_order
 
 if TYPE_CHECKING:
@@ -16,8 +17,6 @@ if TYPE_CHECKING:
 
 # The modules that have the function `ang2pix` of healpy.
 _MODULES: tuple[str, ...] = ("astropy_healpix.healpy", "healpy")
-# The number of positions that are converted at once. Ctrl-C is answered between two pieces.
-_PIECE_SIZE = 2**18
 
 
 def _import_healpy() -> Any:
@@ -93,14 +92,9 @@ def pixels_of(lon: NDArray[Any], lat: NDArray[Any], depth: int) -> NDArray[Any]:
     flat_lon, flat_lat = lon.reshape(-1), lat.reshape(-1)
     _check(flat_lon, flat_lat)
     cells = numpy.empty(flat_lon.shape, numpy.int64)
-    for piece in _pieces(len(cells)):
-        cells[piece] = healpy.ang2pix(nside, flat_lon[piece], flat_lat[piece], nest=True, lonlat=True)
+    for rows in pieces_of(len(cells)):
+        cells[rows] = healpy.ang2pix(nside, flat_lon[rows], flat_lat[rows], nest=True, lonlat=True)
     return cells.reshape(lon.shape)
-
-
-def _pieces(count: int) -> Iterator[slice]:
-    """Returns slices of at most `_PIECE_SIZE` elements of an array with `count` elements."""
-    return (slice(start, start + _PIECE_SIZE) for start in range(0, count, _PIECE_SIZE))
 
 
 def cells_of_catalogue(lon: Any, lat: Any, depth: int) -> NDArray[Any]:

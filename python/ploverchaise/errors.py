@@ -4,7 +4,7 @@ from __future__ import annotations
 import operator
 from typing import SupportsIndex
 
-from ._codes import KINDS, NO_SUCH_ORDER
+from ._codes import KINDS, NO_SUCH_ORDER, TOO_COARSE
 
 
 class MocError(ValueError):
@@ -26,7 +26,7 @@ class MocError(ValueError):
         - For `NoSuchOrder` it is the order, and for `Busy` the base pixel and the number of the other client.
 
     detail : str
-        The value and its bounds, or the format that a text looks like, if the package knows them. Empty for most errors.
+        The value and its bounds, the quoted part of a text, or the format that a text looks like. Empty for some errors.
 
     Examples
     --------
@@ -62,5 +62,10 @@ def check_order(order: SupportsIndex) -> int:
     """Returns an order as an int. Raises MocError `NoSuchOrder` if it is not 0 to 29, and TypeError if it is not an integer."""
     order = operator.index(order)
     if not 0 <= order <= 29:
-        raise MocError(NO_SUCH_ORDER, order, detail="orders are 0 to 29")
+        raise MocError(NO_SUCH_ORDER, order)
     return order
+
+
+def too_coarse(order: int, deepest: int) -> MocError:
+    """Returns the error for an order that is not as deep as the deepest cells."""
+    return MocError(TOO_COARSE, detail=f"the order is {order}, and the deepest cells have order {deepest}")

@@ -11,12 +11,12 @@ from typing import TYPE_CHECKING, Any, Literal, Self, SupportsIndex, TypeVar, ov
 
 from ._arrays import (MIN_RANGES_FOR_SORTING, PIECE_LENGTH, ArrayLike, Buffer, Input, Integers, Numbers, Pairs, PlainInput, as_input,
                       as_pairs, buffer_of, pieces_of, without_missing, without_missing_rows, zeros)
-from ._codes import TOO_COARSE
-from ._library import (NO_ORDER, c_arguments, call_on_rows, call_with_store, check_result, open_store, run_interruptibly,
-                       store_functions, text_of)
+from ._codes import NO_SUCH_ORDER, TOO_COARSE
+from ._library import (MAX_BRIEF_RANGES, NO_ORDER, brief_functions, c_arguments, call_on_rows, call_with_store, check_result, new_handle,
+                       open_store, run_interruptibly, store_functions, text_of)
 from ._regions import border_cells, components, ranges_by_value
 from ._signatures import Result, StoreHandle
-from .errors import MocError, check_order
+from .errors import MocError, check_order, too_coarse
 
 if TYPE_CHECKING:
     from pickle import PickleBuffer
@@ -44,7 +44,7 @@ _MAX_ASCENDING_LENGTH = 2**21
 _PICTURE_ORDERS = (29, 6, 5, 4, 3, 2, 1, 0)
 # The maximal numbers of characters of `str`, and of bytes of the picture that a notebook displays.
 _MAX_STR_LENGTH, _MAX_PICTURE_LENGTH = 2000, 100_000
-_share, _free = store_functions["share"], store_functions["free"]
+_contains = brief_functions["contains"]
 
 
 class MOC:
@@ -77,14 +77,14 @@ class MOC:
     _hash: int
 
     def __init__(self) -> None:
-        self._store = open_store()
+        self._store = open_store(0)
         self._id = call_with_store("empty", self._store).first
         self._range_bound = 0
 
     @classmethod
     def _from_call(cls, function: str, *arguments: Any, range_bound: int) -> Self:
         """Returns the coverage that a function of the library makes, which has at most this number of ranges."""
-        store = open_store()
+        store = open_store(range_bound)
         return cls._in_store(store, call_with_store(function, store, *c_arguments(*arguments)).first, range_bound)
 
     @classmethod
@@ -106,19 +106,24 @@ class MOC:
 
     def _copy_to(self, store: StoreHandle) -> int:
         """Copies the coverage to a store, and returns its id there. Takes O(n / 128) for n ranges."""
-        result: Result = _share(self._store, self._id, store)
-        return (check_result(result, "share") if result.code else result).first
+        return call_with_store("share", self._store, self._id, store).first
 
-    def _make(self, function: str, *others: MOC, order: tuple[int, ...] = ()) -> Self:
-        """Returns the coverage that a function makes of this MOC, other MOCs, and an order."""
-        store = open_store()
-        mocs: tuple[MOC, ...] = (self, *others)
-        ids = [moc._copy_to(store) for moc in mocs]
-        made = _call(function, store, *ids, *order, is_long=_have_many_ranges(*mocs)).first
-        moc = type(self)._in_store(store, made, sum([moc._range_bound for moc in mocs]) + 1)
-        for copied in ids:
-            _free(store, copied)
-        return moc
+    def _change(self, function: str, *order: int) -> Self:
+        """Returns the coverage that a function makes of this MOC, and of an order if there is one."""
+        bound = self._range_bound + 1
+        store = open_store(bound)
+        copied = self._copy_to(store)
+        made = _call(function, store, copied, *order, is_long=_have_many_ranges(self)).first
+        call_with_store("free", store, copied)
+        return self._in_store(store, made, bound)
+
+    def _combine(self, operation: str, other: MOC) -> Self:
+        """Returns the result of an operation with another MOC. Raises TypeError if the argument is not a MOC."""
+        if not isinstance(other, MOC):
+            _check_moc(other)
+        bound = self._range_bound + other._range_bound + 1
+        store = new_handle(bound)
+        return self._in_store(store, _call_with_pair(operation, bound, self, other, store).first, bound)
 
     # Constructors
 
@@ -169,7 +174,8 @@ class MOC:
         Raises
         ------
         MocError
-            For the first error of the text. Its `detail` names another format if the text looks like it. The errors are, by format:
+            For the first error of the text. Its `detail` quotes the part that is invalid, or names another format if the text looks like
+            it. The errors are, by format:
 
             - ASCII, with the position of a byte: `BadByte`, `NoOrder`, `OrderTooLarge`, `CellTooLarge`, `Backwards`, `Unfinished`;
             - JSON, without a position: `NotJson`, `NotObject`; with the position of a name: `BadOrder`, `NotArray`; with those of a name
@@ -193,14 +199,11 @@ class MOC:
             raise TypeError("expected a text, not a path: use MOC.load for a file")
         text = value.encode() if isinstance(value, str) else bytes(memoryview(value))
 
-        store = open_store()
+        store = open_store(len(text) // 2 + 1)
         try:
             made = _call(_PARSERS[format], store, text, is_long=len(text) > _MAX_SHORT_TEXT).first
         except MocError as error:
-            likely = _likely_format(text)
-            if likely is None or likely == format:
-                raise
-            raise error._with_detail(f"this looks like {_FORMAT_NAMES[likely]}") from None
+            raise _text_error(error, text, format) from None
         return cls._in_store(store, made, len(text) // 2 + 1)
 
     @classmethod
@@ -334,8 +337,8 @@ class MOC:
         Raises
         ------
         MocError
-            `NoSuchOrder` if an order is not 0 to 29; `NoSuchCell` with the position of a number that is not a cell number. For several
-            orders, it is the first such number of the least order that has one.
+            `NoSuchOrder` if an order is not 0 to 29; `NoSuchCell` with the position of a number that is not a cell number. The error is
+            about the first invalid order or number.
         ValueError
             If the number of orders differs from the number of cells.
 
@@ -359,13 +362,19 @@ class MOC:
         """Returns the set of the pixels in any of the cells. The order of each cell is at the same position."""
         if len(cells) != len(orders):
             raise ValueError(f"depth has {len(orders)} orders for {len(cells)} cells")
-        moc = cls()
-        for order in map(check_order, sorted(orders.distinct())):
+        moc, errors = cls(), dict[int, MocError]()
+        for order in sorted(orders.distinct()):
             positions = orders.positions_of(order)
+            if not 0 <= order <= 29:
+                errors[int(positions[0])] = MocError(NO_SUCH_ORDER, int(orders.text_of_row(positions[0])))
+                continue
             try:
                 moc |= cls._from_input("from_cells", order, cells.take(positions))
             except MocError as error:
-                raise MocError(error.code, *(int(positions[index]) for index in error.place), detail=error.detail) from None
+                place = int(positions[error.place[0]])
+                errors[place] = MocError(error.code, place, detail=error.detail)
+        if errors:
+            raise errors[min(errors)]
         return moc
 
     @classmethod
@@ -507,11 +516,11 @@ class MOC:
 
     # Set operations
 
-    def _combine(self, operation: str, *others: MOC) -> Self:
+    def _combine_all(self, operation: str, others: tuple[MOC, ...]) -> Self:
         """Returns the result of an operation with each of the other MOCs in turn. Raises TypeError if one of them is not a MOC."""
         moc = self
         for other in others:
-            moc = moc._make(operation, _check_moc(other))
+            moc = moc._combine(operation, other)
         return moc
 
     def union(self, *others: MOC) -> Self:
@@ -527,7 +536,7 @@ class MOC:
         >>> print(MOC.from_string("0/0 1/4").union(MOC.from_string("0/1")))
         0/0-1
         """
-        return self._combine("union", *others)
+        return self._combine_all("open_union", others)
 
     def intersection(self, *others: MOC) -> Self:
         """Returns the pixels that are in this MOC and in all others.
@@ -542,7 +551,7 @@ class MOC:
         >>> print(MOC.from_string("0/0 1/4").intersection(MOC.from_string("0/1")))
         1/4
         """
-        return self._combine("intersection", *others)
+        return self._combine_all("open_intersection", others)
 
     def difference(self, *others: MOC) -> Self:
         """Returns the pixels that are in this MOC and in none of the others.
@@ -557,7 +566,7 @@ class MOC:
         >>> print(MOC.from_string("0/0 1/4").difference(MOC.from_string("0/1")))
         0/0
         """
-        return self._combine("difference", *others)
+        return self._combine_all("open_difference", others)
 
     def symmetric_difference(self, *others: MOC) -> Self:
         """Returns the pixels that are in an odd number of the MOCs.
@@ -572,7 +581,7 @@ class MOC:
         >>> print(MOC.from_string("0/0 1/4").symmetric_difference(MOC.from_string("0/1")))
         0/0 1/5-7
         """
-        return self._combine("symmetric", *others)
+        return self._combine_all("open_symmetric", others)
 
     def complement(self) -> Self:
         """Returns the pixels of the sky that are not in this MOC.
@@ -582,7 +591,7 @@ class MOC:
         >>> print(MOC.from_string("0/0 1/4-5").complement())
         0/2-11 1/6-7
         """
-        return self._make("complement")
+        return self._change("complement")
 
     def degrade_to_order(self, new_order: SupportsIndex) -> Self:
         """Returns all pixels of each cell of an order that has a pixel in this MOC.
@@ -602,7 +611,7 @@ class MOC:
         >>> print(MOC.from_string("9/77 500-503").degrade_to_order(5))
         5/0-1
         """
-        return self._make("degrade", order=(check_order(new_order),))
+        return self._change("degrade", check_order(new_order))
 
     def add_neighbours(self, order: SupportsIndex | None = None) -> Self:
         """Returns this MOC and all cells of an order that touch it, in a corner or along a side.
@@ -655,9 +664,9 @@ class MOC:
         deepest = self.max_order
         if order is None:
             return deepest
-        if check_order(order) < deepest:
-            raise MocError(TOO_COARSE)
-        return operator.index(order)
+        if (depth := check_order(order)) < deepest:
+            raise too_coarse(depth, deepest)
+        return depth
 
     def split(self, include_indirect_neighbours: bool = False) -> list[Self]:
         """Returns the connected parts of this MOC, by their first pixels. Takes O(log n) for each of n cells.
@@ -729,25 +738,26 @@ class MOC:
         return self.covers(other) and self != other if isinstance(other, MOC) else NotImplemented
 
     def __or__(self, other: MOC) -> Self:
-        return self.union(other) if isinstance(other, MOC) else NotImplemented
+        return self._combine("open_union", other) if isinstance(other, MOC) else NotImplemented
 
     def __and__(self, other: MOC) -> Self:
-        return self.intersection(other) if isinstance(other, MOC) else NotImplemented
+        return self._combine("open_intersection", other) if isinstance(other, MOC) else NotImplemented
 
     def __sub__(self, other: MOC) -> Self:
-        return self.difference(other) if isinstance(other, MOC) else NotImplemented
+        return self._combine("open_difference", other) if isinstance(other, MOC) else NotImplemented
 
     def __xor__(self, other: MOC) -> Self:
-        return self.symmetric_difference(other) if isinstance(other, MOC) else NotImplemented
+        return self._combine("open_symmetric", other) if isinstance(other, MOC) else NotImplemented
 
     def __invert__(self) -> Self:
         return self.complement()
 
     # Queries
 
-    def _query(self, function: str, *arguments: Any) -> int:
-        """Returns the value that a function returns for this MOC. The function takes O(log n) for n ranges."""
-        return call_with_store(function, self._store, self._id, *arguments).first
+    def _query(self, function: str) -> int:
+        """Returns the value that a brief function returns for this MOC."""
+        result = brief_functions[function](self._store, self._id)
+        return (check_result(result) if result.code else result).first
 
     def _long_query(self, function: str, *arguments: Any) -> Result:
         """Returns the result of a function for this MOC. The function uses a copy of the MOC, so that no other call waits for it."""
@@ -758,9 +768,8 @@ class MOC:
         """Returns the value that a function returns for two MOCs, or for the other one and then this one.
 
         Raises TypeError if the other one is not a MOC."""
-        store = open_store()
         first, second = (_check_moc(other), self) if is_reversed else (self, _check_moc(other))
-        return _call(function, store, first._copy_to(store), second._copy_to(store), is_long=_have_many_ranges(self, other)).first
+        return _call_with_pair(f"pair_{function}", first._range_bound + second._range_bound, first, second).first
 
     def count(self) -> int:
         """Returns the number of pixels.
@@ -1004,7 +1013,7 @@ class MOC:
         flags, count = pixels.new_output("B"), len(pixels)
         if count <= _MAX_SHORT_LENGTH:
             rows = slice(0, count)
-            self._query("contains_all", *c_arguments(pixels.buffer(rows), flags.buffer(rows)))
+            call_with_store("contains_all", self._store, self._id, *c_arguments(pixels.buffer(rows), flags.buffer(rows)))
             return flags.booleans()
         store = open_store()
         copied = self._copy_to(store)
@@ -1015,14 +1024,10 @@ class MOC:
         is_ascending = pixels.is_ascending()
         is_sorted_first = not is_ascending and self.range_count() > MIN_RANGES_FOR_SORTING
         for rows in pieces_of(count, _MAX_ASCENDING_LENGTH if is_ascending else PIECE_LENGTH):
-            positions = pixels.sorting_order(rows) if is_sorted_first else None
-            if positions is None:
-                look_up(pixels.buffer(rows), flags.buffer(rows))
+            if is_sorted_first:
+                pixels.call_sorted(look_up, rows, flags)
             else:
-                piece = pixels.take(positions)
-                piece_flags, all_rows = piece.new_output("B"), slice(0, len(piece))
-                look_up(piece.buffer(all_rows), piece_flags.buffer(all_rows))
-                flags.put(positions, piece_flags)
+                look_up(pixels.buffer(rows), flags.buffer(rows))
         return flags.booleans()
 
     def __contains__(self, what: SupportsIndex | MOC) -> bool:
@@ -1030,7 +1035,10 @@ class MOC:
         if isinstance(what, MOC):
             return self.covers(what)
         pixel = operator.index(what)
-        return 0 <= pixel < PIXEL_COUNT and bool(self._query("contains", pixel))
+        if not 0 <= pixel < PIXEL_COUNT:
+            return False
+        result = _contains(self._store, self._id, pixel)
+        return (check_result(result) if result.code else result).first == 1
 
     def __eq__(self, other: object) -> bool:
         if not isinstance(other, MOC):
@@ -1190,7 +1198,7 @@ class MOC:
         format : {"ascii", "json", "uniq"}
             The format: ASCII or JSON of MOC 2.0, or a list of NUNIQ numbers with one number on a line.
         fold : int
-            The maximal number of characters of a line in ASCII and JSON, or 0 for one line. A longer word or number has a line of its own.
+            The maximal number of characters of a line in ASCII and JSON, or 0 for one line. A longer word or number is alone on a line.
         max_order : int, optional
             The MOC order that the text states. MOC 2.0 requires it if the MOC was made of deeper cells than it needs. The format `uniq`
             states no order, and ignores this argument.
@@ -1219,7 +1227,10 @@ class MOC:
         if format == "uniq":
             return text_of(self._long_query, "write_uniq").removesuffix("\n")
         stated = NO_ORDER if max_order is None else check_order(max_order)
-        text = text_of(self._long_query, f"write_{format}", stated).removesuffix("\n")
+        try:
+            text = text_of(self._long_query, f"write_{format}", stated).removesuffix("\n")
+        except MocError as error:
+            raise too_coarse(stated, self.max_order) if error.code == TOO_COARSE else error from None
         return "\n".join(_fold(text, fold, " " if format == "ascii" else ",")) if fold else text
 
     def save(self, path: str | os.PathLike[str], format: str | None = None, *, max_order: SupportsIndex | None = None,
@@ -1432,6 +1443,16 @@ def _have_many_ranges(*mocs: MOC) -> bool:
     return sum([moc._range_bound for moc in mocs]) > _MAX_SHORT_RANGES
 
 
+def _call_with_pair(function: str, bound: int, first: MOC, second: MOC, *store: StoreHandle) -> Result:
+    """Calls a function with two MOCs, which have at most `bound` ranges, and with the store that it opens, if there is one."""
+    if bound > _MAX_SHORT_RANGES and _have_many_ranges(first, second):
+        return run_interruptibly(lambda: check_result(
+            store_functions[function](first._store, first._id, second._store, second._id, *store), function))
+    functions = brief_functions if bound <= MAX_BRIEF_RANGES else store_functions
+    result = functions[function](first._store, first._id, second._store, second._id, *store)
+    return check_result(result, function) if result.code else result
+
+
 def _call(function: str, store: StoreHandle, *arguments: Any, is_long: bool) -> Result:
     """Calls a function with a store that no other call uses. If the call may take long, signal handlers run meanwhile."""
     if is_long:
@@ -1439,14 +1460,14 @@ def _call(function: str, store: StoreHandle, *arguments: Any, is_long: bool) -> 
     return call_with_store(function, store, *c_arguments(*arguments))
 
 
-def _likely_format(text: bytes) -> str | None:
-    """Returns the format that a text looks like, by the rules of the program `moc`."""
-    first = text[:_MAX_SHORT_TEXT].lstrip(b" \t\r\n")[:1]
-    if first == b"{":
-        return "json"
-    if not first or first not in b"0123456789s,":
-        return None
-    return "ascii" if b"/" in text else "uniq"
+def _text_error(error: MocError, text: bytes, format: str) -> MocError:
+    """Returns the error of a text, with the format that the text looks like, or with a quotation if the text is not long."""
+    from ._diagnostics import likely_format, quotation_of
+
+    likely = likely_format(text)
+    if likely is not None and likely != format:
+        return error._with_detail(f"this looks like {_FORMAT_NAMES[likely]}")
+    return error._with_detail(quotation_of(text, format, error)) if len(text) <= _MAX_SHORT_TEXT else error
 
 
 def _json_member(order: object, cells: Iterable[SupportsIndex]) -> str:

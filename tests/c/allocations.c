@@ -102,6 +102,22 @@ static void share(void)
     moc_client_close(&second);
 }
 
+/* Opens a store with the union of a set of 1,000 pixels of the target and of a set of the store, and queries both sets. */
+static void use_two_stores(uint64_t shared)
+{
+    moc_store opened = {&opened};
+    moc_result made = moc_open_union(&target, shared, &store, first_id + 3, &opened);
+    if (made.code == MOC_MEMORY) {
+        failures++;
+        REQUIRE(made.first == UINT64_MAX && made.second == 0 && !opened.at);
+        made = moc_open_union(&target, shared, &store, first_id + 3, &opened);
+    }
+    REQUIRE(made.code == MOC_OK && moc_count(&opened, made.first).first == 1000);
+    moc_store_close(&opened);
+    RETURNS_NUMBER(moc_pair_count_common(&target, shared, &store, first_id + 4), 1000);
+    RETURNS_NUMBER(moc_pair_same(&store, first_id, &target, shared), 1);
+}
+
 int main(void)
 {
     static moc_range ranges[1000], out[1000];
@@ -148,6 +164,7 @@ int main(void)
     }
     REPEATED(made, moc_share(&store, first_id, &target));
     REQUIRE(moc_count(&target, made.first).first == 1000);
+    use_two_stores(made.first);
     moc_store_close(&target);
 
     const struct {

@@ -560,6 +560,55 @@ static void ids_of_stores(void)
     moc_store_close(&other);
 }
 
+/* Returns whether a call opened a store with only the coverage of an ASCII text. Closes the store. */
+static bool opens(moc_result result, moc_store *opened, const char *expected)
+{
+    moc_text written = {NULL, 0};
+    bool is_equal = result.code == MOC_OK && moc_write_ascii(opened, result.first, MOC_NO_ORDER, &written).code == MOC_OK
+                    && strcmp(written.bytes, expected) == 0;
+    moc_text_free(&written);
+    moc_store_close(opened);
+    return is_equal;
+}
+
+/* Operations and queries on coverages of two stores. The sets are those of the first recipe of docs/PYTHON.md. */
+static void two_stores(void)
+{
+    moc_store other, opened;
+    CHECK(moc_store_open(&other));
+    uint64_t a = set("0/0 1/4-5"), b = moc_read_ascii(&other, bytes("1/3-4 6-7 2/20 32"), 17).first;
+    CHECK(opens(moc_open_union(&store, a, &other, b, &opened), &opened, "0/0-1 2/32\n"));
+    CHECK(opens(moc_open_intersection(&store, a, &other, b, &opened), &opened, "1/3-4 2/20\n"));
+    CHECK(opens(moc_open_difference(&store, a, &other, b, &opened), &opened, "1/0-2 2/21-23\n"));
+    CHECK(opens(moc_open_difference(&other, b, &store, a, &opened), &opened, "1/6-7 2/32\n"));
+    CHECK(opens(moc_open_symmetric(&store, a, &other, b, &opened), &opened, "1/0-2 6-7 2/21-23 32\n"));
+    CHECK(opens(moc_open_union(&store, a, &store, a, &opened), &opened, "0/0 1/4-5\n"));
+    RETURNS(moc_pair_count_common(&store, a, &other, b), BASE / 2 + BASE / 16);
+    RETURNS(moc_pair_meets(&store, a, &other, b), 1);
+    RETURNS(moc_pair_meets(&store, set("0/3"), &other, b), 0);
+    RETURNS(moc_pair_covers(&store, a, &other, b), 0);
+    RETURNS(moc_pair_covers(&store, set("0/0-2"), &other, b), 1);
+    RETURNS(moc_pair_covers(&other, b, &store, set("2/12")), 1);
+    RETURNS(moc_pair_same(&store, a, &other, b), 0);
+    RETURNS(moc_pair_same(&store, set("2/32 20 1/7 3-4 6"), &other, b), 1);
+    RETURNS(moc_pair_same(&store, a, &store, a), 1);
+    FAILS(moc_pair_meets(&store, unused, &other, a), MOC_NO_SUCH_SET, unused);
+    FAILS(moc_pair_same(&store, a, &other, a), MOC_NO_SUCH_SET, a);
+    opened.at = &opened;
+    NO_ID(moc_open_union(&other, a, &other, a, &opened), MOC_NO_SUCH_SET, a);
+    CHECK(!opened.at);
+    opened.at = &opened;
+    NO_ID(moc_open_union(&store, a, &other, a, &opened), MOC_NO_SUCH_SET, a);
+    CHECK(!opened.at);
+    moc_result made = moc_open_union(&store, a, &other, b, &opened);
+    CHECK(made.code == MOC_OK && moc_free(&store, a).code == MOC_OK);
+    RETURNS(moc_count(&opened, made.first), 2 * BASE + BASE / 16);
+    moc_result next = moc_empty(&opened);
+    CHECK(next.code == MOC_OK && next.first == made.first + 1);
+    moc_store_close(&opened);
+    moc_store_close(&other);
+}
+
 #define MADE 2000
 
 /* Makes coverages in the common store, and checks and frees them. */
@@ -766,6 +815,7 @@ int main(void)
     threads();
     clients();
     ids_of_stores();
+    two_stores();
     common_store();
     sharing();
     timeouts();

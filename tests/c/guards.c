@@ -22,6 +22,7 @@ static struct {
     uint32_t xs[1], ys[1];
     uint8_t bytes[1], faces[1];
     moc_text text;
+    moc_store opened;
 } at;
 
 /* Two memory areas, and their expected contents. In the first one, all numbers are 17. The second one has a store at byte 32, with one
@@ -117,6 +118,23 @@ static void before_all_else(void)
     NULL_AT(1, moc_map_begin(&client, NULL, 99, 0));
     NULL_AT(0, moc_map_join(NULL, NULL));
     NULL_AT(1, moc_map_apply(&other, NULL, 1));
+    NO_ID_AT(MOC_NULL, 2, moc_open_union(&store, 99, NULL, 99, NULL));
+}
+
+/* Checks that a call with an invalid pointer zeroes the store that it would open, which then may be closed. */
+static void stores_of_invalid_calls(void *misaligned)
+{
+    static const moc_store old = {&sky};
+    at.opened = old;
+    CHECK(is(moc_open_union(NULL, 99, misaligned, 99, &at.opened), MOC_NULL, UINT64_MAX, 0) && is_unchanged());
+    at.opened = old;
+    CHECK(is(moc_open_difference(&store, sky, &no_store, 99, &at.opened), MOC_NULL, UINT64_MAX, 2) && is_unchanged());
+    at.opened = old;
+    CHECK(is(moc_open_symmetric(misaligned, sky, &store, sky, &at.opened), MOC_MISALIGNED, UINT64_MAX, 0) && is_unchanged());
+    at.opened = old;
+    CHECK(is(moc_open_intersection(&store, sky, &target, sky, &at.opened), MOC_NO_SUCH_SET, UINT64_MAX, sky) && is_unchanged());
+    moc_store copy = store;
+    CHECK(is(moc_pair_same(&store, sky, &copy, sky), MOC_OK, 1, 0) && is_unchanged());
 }
 
 /* Checks that a call with an invalid pointer zeroes a text, which then may be freed. */
@@ -326,6 +344,7 @@ int main(void)
     before_all_else();
     /* Pointers into the area of numbers and into the area of zeros. */
     texts_of_invalid_calls(bytes + 17);
+    stores_of_invalid_calls(bytes + 17);
     for (size_t i = 1; i < 8; i++) {
         not_aligned(bytes + 16 + i);
         not_aligned(placed_bytes + 160 + i);

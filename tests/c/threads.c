@@ -76,6 +76,47 @@ static void opposite_shares(void)
         CHECK(pthread_join(threads[i], NULL) == 0);
 }
 
+/* Calls with a coverage of each store, the two in an order that depends on the number. Returns the number of failed calls. */
+static uintptr_t use_both(int number)
+{
+    moc_store opened;
+    const moc_store *first = stores + number % 2, *second = stores + 1 - number % 2;
+    uintptr_t failures = moc_open_union(first, 0, second, 0, &opened).code != MOC_OK;
+    failures += moc_pair_meets(second, 0, first, 0).code != MOC_OK;
+    moc_store_close(&opened);
+    return failures;
+}
+
+static void *use_both_always(void *number)
+{
+    uintptr_t failures = 0;
+    for (int turn = 0; turn < TURNS; turn++)
+        failures += use_both(turn + *(int *)number);
+    return (void *)failures;
+}
+
+/* Threads that call with both stores in opposite orders do not wait for each other forever, and a child can use both stores. */
+static void calls_with_both(void)
+{
+    pthread_t threads[2];
+    static int numbers[2] = {0, 1};
+    for (int i = 0; i < 2; i++)
+        CHECK(pthread_create(&threads[i], NULL, use_both_always, numbers + i) == 0);
+    for (int i = 0; i < 100; i++) {
+        pid_t child = fork();
+        if (child == 0) {
+            alarm(20);
+            _exit(use_both(i) == 0 ? 0 : 1);
+        }
+        int status = -1;
+        CHECK(child > 0 && waitpid(child, &status, 0) == child && status == 0);
+    }
+    for (int i = 0; i < 2; i++) {
+        void *failures = threads;
+        CHECK(pthread_join(threads[i], &failures) == 0 && failures == NULL);
+    }
+}
+
 /* Joins the map, and leaves it. Returns the number of times in which another open handle had the client. */
 static uintptr_t join_and_leave(int turns)
 {
@@ -155,6 +196,7 @@ int main(void)
     CHECK(moc_store_open(stores) && moc_store_open(stores + 1) && moc_client_open(&client) && moc_client_open(&waiting));
     timeouts();
     opposite_shares();
+    calls_with_both();
     CHECK(is(moc_map_begin(&client, stores, 0, CLIENTS), MOC_OK, 0, 0));
     joins();
     forks();

@@ -89,6 +89,47 @@ class Errors(TestCase):
                 self.assertFault("NoSuchOrder", (order,), call, order)
         self.assertFault("NoSuchOrder", (30,), MOC.from_healpix_cells, [0, 0], [0, 30])
 
+    def test_the_first_error_is_reported(self) -> None:
+        for cells, orders, name, place in (([0, 48, 12], [0, 1, 0], "NoSuchCell", 1), ([12, 48, 0], [0, 1, 0], "NoSuchCell", 0),
+                                           ([0, 0, 0], [0, 31, -1], "NoSuchOrder", 31), ([0, 0, 0], [0, -2, 31], "NoSuchOrder", -2),
+                                           ([0, 48, 0], [0, 1, 30], "NoSuchCell", 1), ([0, 0, 48], [0, 30, 1], "NoSuchOrder", 30)):
+            with self.subTest(cells=cells, orders=orders):
+                self.assertFault(name, (place,), MOC.from_healpix_cells, cells, orders)
+        self.assertFault("Backwards", (1,), MOC.from_ranges, [(0, 1), (5, 4), (0, PIXELS + 1), (3, 2)])
+        self.assertFault("PixelTooLarge", (1,), MOC.from_ranges, [(0, 1), (0, PIXELS + 1), (5, 4)])
+
+    def test_messages_have_the_value_and_its_bounds(self) -> None:
+        """Checks the end of each message, after the meaning of the error and its position."""
+        moc, no_pair = MOC.from_string("3/5"), "a pair (from, to): "
+        triple: Any = (1, 2, 3)
+        number: Any = 7
+        rows: list[tuple[str, Callable[[], object]]] = [
+            ("(place 1): 48 is not a cell of order 1 (0 to 47)", lambda: MOC.from_healpix_cells([5, 48], 1)),
+            ("(place 1): -7 is not a cell of order 1 (0 to 47)", lambda: MOC.from_healpix_cells([5, -7, -8], 1)),
+            ("(place 0): -1 is not a cell of order 2 (0 to 191)", lambda: nest2ring(4, -1)),
+            (f"(place 2): {2**64} is not a cell of order 0 (0 to 11)", lambda: MOC.from_healpix_cells([1, 2, 2**64], [1, 1, 0])),
+            ("(place 1): 3 is not a NUNIQ number (4 to 2^62 - 1)", lambda: MOC.from_uniq([4, 3])),
+            ("(place 0): (9, 8)", lambda: MOC.from_ranges([(9, 8)])),
+            (f"above 12 * 4^29 (place 0): (0, {PIXELS + 1})", lambda: MOC.from_ranges([(0, PIXELS + 1)])),
+            ("(place 1): (-2, 3)", lambda: MOC.from_ranges([(1, 2), (-2, 3)])),
+            (f"item 1 is not {no_pair}(1, 2, 3)", lambda: MOC.from_ranges([(0, 1), triple])),
+            (f"item 0 is not {no_pair}7", lambda: MOC.from_ranges([number])),
+            ("the order is not 0 to 29 (order -1)", lambda: moc.degrade_to_order(-1)),
+            ("the order is not 0 to 29 (order 30)", lambda: moc.degrade_to_order(30)),
+            ("the order is not 0 to 29 (order 30): 1073741824 is above 2^29", lambda: nest2ring(2**30, 0)),
+            ("power of two, not 3", lambda: nest2ring(3, 0)),
+            ("the order is 2, and the deepest cells have order 3", lambda: moc.to_string(max_order=2)),
+            ("the order is 1, and the deepest cells have order 3", lambda: moc.add_neighbours(1)),
+            ("(byte 8): `2/7-5`", lambda: MOC.from_string("1/0-3\n2/7-5")),
+            ("(line 2): `3`", lambda: MOC.from_string("4\n3\n", "uniq")),
+            ("(name 0, item 1): `48`", lambda: MOC.from_json({"1": [0, 48]})),
+            ("(byte 0): this looks like a NUNIQ list", lambda: MOC.from_string("4\n5\n")),
+            ("at least 0, not -1", lambda: moc.to_string(fold=-1))]
+        for end, call in rows:
+            with self.subTest(end=end), self.assertRaises((TypeError, ValueError)) as caught:
+                call()
+            self.assertTrue(str(caught.exception).endswith(end), caught.exception)
+
     def test_stated_order_is_too_coarse(self) -> None:
         moc = MOC.from_string("1/1-2 4 2/12-14 21 23 25 8/")
         for text_format in ("ascii", "json"):
@@ -135,7 +176,7 @@ class Errors(TestCase):
         with self.assertRaises(MocError) as caught:
             MOC.from_json('{"1":[0,48]}')
         error = caught.exception
-        self.assertEqual(str(error), "CellTooLarge: an item is not the number of a cell of its order (name 0, item 1)")
+        self.assertEqual(str(error), "CellTooLarge: an item is not the number of a cell of its order (name 0, item 1): `48`")
         copy = pickle.loads(pickle.dumps(error))
         self.assertIsInstance(copy, MocError)
         self.assertEqual((copy.code, copy.name, copy.place, str(copy)), (error.code, error.name, error.place, str(error)))

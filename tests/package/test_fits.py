@@ -1,4 +1,4 @@
-"""FITS files: the tables of the standard, errors, and files of cds.moc."""
+"""FITS files: the tables of the standard, errors, and files of cds.moc and Aladin."""
 from __future__ import annotations
 
 import gzip
@@ -25,8 +25,7 @@ try:
 except ImportError:
     pass
 
-CDS_MOC = "/usr/share/java/cds.moc.jar"
-PEER = os.path.join(TOP, "tests", "package", "CdsMoc.java")
+CDS_MOC, ALADIN = "/usr/share/java/cds.moc.jar", "/usr/share/java/aladin.jar"
 # The set of an example of the standard, and its NUNIQ numbers, 4^(order + 1) + cell.
 EXAMPLE = "1/1-2 4 2/12-14 21 23 25 8/"
 EXAMPLE_UNIQS = [17, 18, 20, 76, 77, 78, 85, 87, 89]
@@ -154,32 +153,72 @@ class Tables(TestCase):
             MOC.load(path)
 
 
-@needs("numpy", "astropy")
-@unittest.skipUnless(os.path.exists(CDS_MOC) and shutil.which("javac"), "not installed: cds.moc or a JDK")
+def bounds_of(text: str) -> list[int]:
+    """Returns the start and the end of each range of pixels of an ASCII text, without the library."""
+    ranges: list[tuple[int, int]] = []
+    order = 0
+    for word in text.split():
+        prefix, slash, cells = word.rpartition("/")
+        order = int(prefix) if slash else order
+        if cells:
+            first, _, last = cells.partition("-")
+            ranges.append((int(first) << 2 * (29 - order), (int(last or first) + 1) << 2 * (29 - order)))
+    bounds: list[int] = []
+    for start, end in sorted(ranges):
+        if bounds and start <= bounds[-1]:
+            bounds[-1] = max(bounds[-1], end)
+        else:
+            bounds += start, end
+    return bounds
+
+
 class Peer(TestCase):
-    """Files of cds.moc, which implements MOC 1.1."""
+    """Files that another program reads and writes: texts with their MOC orders, and a FITS file of each."""
 
-    def convert(self, *paths: pathlib.Path) -> list[int]:
-        """Converts files with cds.moc, and returns their MOC orders."""
-        command = ["java", "-cp", CDS_MOC, PEER, *map(str, paths)]
+    orders = [8, 0, 29, 14, 13, 4, 9, 17]
+
+    def setUp(self) -> None:
+        self.texts = [EXAMPLE, "0/0-11", "29/0 3458764513820540927", "13/5 14/", "12/7 13/",
+                      *(MOC.from_healpix_cells(random_cells(order, 500), order).to_string(max_order=order) for order in self.orders[5:])]
+        folder = tempfile.TemporaryDirectory()
+        self.addCleanup(folder.cleanup)
+        self.folder = pathlib.Path(folder.name)
+
+    def paths(self, pattern: str) -> list[pathlib.Path]:
+        """Returns the path of a file for each text, by a pattern for its number."""
+        return [self.folder / pattern.format(number) for number in range(len(self.texts))]
+
+    def exchange(self, jar: str, program: str, format: str) -> None:
+        """Lets a program of `tests/package` write its FITS files of all texts, and read ours, which have a format. Compares both."""
+        texts, theirs, ours, back = map(self.paths, ("{}.moc", "theirs{}.fits", "ours{}.fits", "{}.back.moc"))
+        for text, order, text_path, path in zip(self.texts, self.orders, texts, ours):
+            text_path.write_text(text + "\n")
+            MOC.from_string(text).save(path, format, max_order=order)
+        pairs = [*zip(texts, theirs), *zip(ours, back)]
+        command = ["java", "-cp", jar, os.path.join(TOP, "tests", "package", program), *(str(path) for pair in pairs for path in pair)]
         result = subprocess.run(command, check=True, stdout=subprocess.PIPE, stderr=subprocess.DEVNULL, text=True, timeout=60)
-        return [int(line) for line in result.stdout.split()]
+        self.assertEqual([int(line) for line in result.stdout.split()], self.orders * 2)
+        for text, order, path, text_path in zip(self.texts, self.orders, theirs, back):
+            file = parse(path.read_bytes())
+            self.assertEqual((file.moc, file.format, file.order), (MOC.from_string(text), "fits", order))
+            # cds.moc of MOC 1.1 begins a text with a comment, which has the MOC order.
+            cells = "\n".join(line for line in text_path.read_text().splitlines() if not line.startswith("#"))
+            self.assertEqual(MOC.from_string(cells), MOC.from_string(text))
 
-    def test_files_of_both(self) -> None:
-        texts = [EXAMPLE, "0/0-11", "29/0 3458764513820540927", "13/5 14/", "12/7 13/",
-                 *(MOC.from_healpix_cells(random_cells(order, 500), order).to_string(max_order=order) for order in (4, 9, 17))]
-        orders = [8, 0, 29, 14, 13, 4, 9, 17]
-        with tempfile.TemporaryDirectory() as name:
-            folder = pathlib.Path(name)
-            theirs = [(folder / f"{number}.moc", folder / f"theirs{number}.fits") for number in range(len(texts))]
-            ours = [(folder / f"ours{number}.fits", folder / f"{number}.back.moc") for number in range(len(texts))]
-            for (text_path, _), (fits_path, _), text, order in zip(theirs, ours, texts, orders):
-                text_path.write_text(text + "\n")
-                MOC.from_string(text).save(fits_path, max_order=order)
-            self.assertEqual(self.convert(*(path for pair in (*theirs, *ours) for path in pair)), orders * 2)
-            for (_, fits_path), (_, text_path), text, order in zip(theirs, ours, texts, orders):
-                file = parse(fits_path.read_bytes())
-                self.assertEqual((file.moc, file.format, file.order), (MOC.from_string(text), "fits", order))
-                # The first line of a text of cds.moc is a comment with the MOC order.
-                _, _, cells = text_path.read_text().partition("\n")
-                self.assertEqual(MOC.from_string(cells), MOC.from_string(text))
+
+@needs("numpy", "astropy")
+class Peers(Peer):
+    """Files of cds.moc for MOC 1.1, and of the version of it for MOC 2.0 in Aladin."""
+
+    @unittest.skipUnless(os.path.exists(CDS_MOC) and shutil.which("javac"), "not installed: cds.moc or a JDK")
+    def test_tables_of_numbers(self) -> None:
+        self.exchange(CDS_MOC, "CdsMoc.java", "fits")
+
+    @unittest.skipUnless(os.path.exists(ALADIN) and shutil.which("javac"), "not installed: Aladin or a JDK")
+    def test_tables_of_ranges(self) -> None:
+        self.exchange(ALADIN, "RangeMoc.java", "fits-range")
+        for text, *paths in zip(self.texts, self.paths("theirs{}.fits"), self.paths("ours{}.fits")):
+            for path in paths:
+                with fits.open(path) as units:
+                    self.assertEqual(units[1].header["ORDERING"], "RANGE")
+                    self.assertEqual(units[1].data.field(0).tolist(), bounds_of(text))

@@ -27,11 +27,16 @@ try:
 except ImportError:
     pass
 
-# The time after which a signal arrives, and the time that a call may take from then on, in seconds.
-DELAY, MAX_LATENCY = 0.05, 1.0
+# The time after which a signal arrives, and the time that a call may take from then on if processors are idle, in seconds.
+DELAY, MAX_LATENCY = 0.05, 0.2
 # The number of ranges of the sets, and of numbers in arrays.
 RANGES, LENGTH = 600_000, 8_000_000
 TURNS = 10
+
+
+def max_latency() -> float:
+    """Returns the time that a call may take after a signal, in seconds. It is longer if more threads are ready than processors exist."""
+    return MAX_LATENCY * max(1.0, os.getloadavg()[0] / (os.cpu_count() or 1))
 
 
 class Interrupted(Exception):
@@ -66,9 +71,9 @@ class Interrupts(TestCase):
         """Checks that a call ends soon after a signal, at least in one of three tries. Returns the time in seconds."""
         latency = self.interrupt(call)
         for _ in range(2):
-            if latency > MAX_LATENCY:
+            if latency > max_latency():
                 latency = self.interrupt(call)
-        self.assertLess(latency, MAX_LATENCY)
+        self.assertLess(latency, max_latency())
         return latency
 
     def interrupt(self, call: Callable[[], object]) -> float:
@@ -137,7 +142,7 @@ class Interrupts(TestCase):
         self.check(checked | {call.__name__: partial(call, 2**29, cells) for call in calls})
 
     def test_a_call_of_the_library_is_left(self) -> None:
-        """Checks that a signal is answered long before the call of the library ends, which cannot be cut."""
+        """Checks that a signal handler runs long before the call of the library ends, which cannot be cut."""
         moc = MOC.from_healpix_cells(range(0, 8 * RANGES, 2), 13)
         start = time.monotonic()
         text = moc.to_string("json")

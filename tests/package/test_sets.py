@@ -122,7 +122,7 @@ class Examples(TestCase):
         self.assertEqual((caught.exception.place, caught.exception.detail), ((1,), "700 is not a cell of order 2 (0 to 191)"))
         with self.assertRaises(MocError) as caught:
             MOC.full().degrade_to_order(30)
-        self.assertEqual(caught.exception.detail, "orders are 0 to 29")
+        self.assertEqual(str(caught.exception), "NoSuchOrder: the order is not 0 to 29 (order 30)")
 
         calls: list[tuple[Callable[[], object], str]] = [
             (lambda: nest2ring(2, [0, 99]), "99 is not a cell of order 1 (0 to 47)"),
@@ -135,11 +135,11 @@ class Examples(TestCase):
             self.assertEqual(caught.exception.detail, detail)
 
     def test_hints(self) -> None:
-        """Checks that an error names the format that the text looks like, as the program does."""
+        """Checks that an error names the format that the text looks like, as the program does, or else quotes the text."""
         rows: list[tuple[str, Format, str]] = [
             ('{"0":[3]}', "ascii", "this looks like JSON"), (" \n{", "uniq", "this looks like JSON"),
             ("s3/1", "json", "this looks like ASCII"), ("0/1", "uniq", "this looks like ASCII"),
-            ("4\n5", "ascii", "this looks like a NUNIQ list"), ("x", "ascii", ""), ("5/7x", "ascii", ""), ("", "json", "")]
+            ("4\n5", "ascii", "this looks like a NUNIQ list"), ("x", "ascii", "`x`"), ("0/1 5/7x", "ascii", "`5/7x`"), ("", "json", "")]
         for text, format, detail in rows:
             with self.subTest(text=text), self.assertRaises(MocError) as caught:
                 MOC.from_string(text, format)

@@ -6,11 +6,13 @@ import io
 import logging
 import multiprocessing
 import os
+import pickle
 import signal
 import sys
 import threading
 import time
 import weakref
+from array import array
 from typing import Any
 
 from ploverchaise import MOC, MapClient, MocError, SharedMap, nest2ring, ring2nest
@@ -22,6 +24,8 @@ THREADS, TURNS = 8, 1500
 ROUNDS = 1000
 # The maximal growth of the memory of the process while sets are made and freed, because the allocator keeps some memory.
 MAX_GROWTH_KIB = 20_000
+# The longest time in seconds for which a thread may not run if processors are idle.
+MAX_STALL = 0.1
 
 
 def used_memory() -> int:
@@ -220,6 +224,33 @@ class Waiting(TestCase):
         last = time.monotonic()
         thread.join()
         self.assertLess(last, ended[0])
+
+    def test_other_threads_run_meanwhile(self) -> None:
+        """Checks that a thread, such as the event loop of a Dask worker, runs every 0.1 seconds while another one makes and deletes large
+        MOCs. The time is longer if more threads are ready than processors exist."""
+        cells = array("Q", random_cells(29, 400_000))
+        longest, is_ended = 0.0, threading.Event()
+
+        def work() -> None:
+            try:
+                for _ in range(4):
+                    moc = MOC.from_healpix_cells(cells, 29)
+                    union = moc | ~moc
+                    self.assertEqual((MOC.from_string(moc.to_string()) & union, union), (moc, MOC.full()))
+                    self.assertEqual(pickle.loads(pickle.dumps(moc)), moc)
+                    self.assertEqual(sum(moc.contains(cells)), len(cells))
+                    del moc
+            finally:
+                is_ended.set()
+
+        thread = threading.Thread(target=work)
+        thread.start()
+        while not is_ended.is_set():
+            start = time.monotonic()
+            time.sleep(0.001)
+            longest = max(longest, time.monotonic() - start)
+        thread.join()
+        self.assertLess(longest, MAX_STALL * max(1.0, os.getloadavg()[0] / (os.cpu_count() or 1)))
 
     def test_finalizers_that_call(self) -> None:
         """Checks that threads do not block each other, while garbage with finalizers is collected in calls, and logging calls `str`."""

@@ -431,3 +431,65 @@ static bool pause_for_retry(struct wait *wait)
         nanosleep(&(struct timespec){0, wait->tries <= SHORT_TRIES ? SHORT_PAUSE : LONG_PAUSE}, NULL);
     return true;
 }
+
+/* ---- Coverages of two stores */
+
+/* A proved function on two coverages of a store. */
+typedef moc_result proved_call(moc_store *store, uint64_t a, uint64_t b);
+
+/* Copies a coverage of a handle to another one, and puts the id that the proved functions use at `copy`. The stores share its ranges. */
+static moc_result copy_coverage(struct handle *from, uint64_t a, struct handle *to, uint64_t *copy)
+{
+    moc_result result = moc_proved_share(&from->proved.store, proved_id(from, a), &to->proved.store);
+    if (result.code == MOC_NO_SUCH_SET)
+        result.first = a;
+    *copy = result.first;
+    return result;
+}
+
+/* Calls a proved function with copies of coverages of two stores, which may be the same, in a new store. Frees the copies. The locks of the
+   two stores are held while the coverages are copied, and that of the new store until the end. */
+static moc_result call_on_copies(proved_call *call, struct handle *first, uint64_t a, struct handle *second, uint64_t b, struct handle *to)
+{
+    uint64_t copies[2] = {0, 0};
+    if (first == second)
+        enter(first);
+    else
+        enter_both(first, second);
+    enter(to);
+    moc_result result = copy_coverage(first, a, to, &copies[0]);
+    if (result.code == MOC_OK)
+        result = copy_coverage(second, b, to, &copies[1]);
+    leave(first);
+    if (first != second)
+        leave(second);
+    if (result.code == MOC_OK) {
+        result = call(&to->proved.store, copies[0], copies[1]);
+        (void)moc_proved_free(&to->proved.store, copies[0]);
+        (void)moc_proved_free(&to->proved.store, copies[1]);
+    }
+    leave(to);
+    return result;
+}
+
+/* Opens a store with the result of a proved function on coverages of two stores. */
+static moc_result open_result(proved_call *call, struct handle *first, uint64_t a, struct handle *second, uint64_t b, moc_store *out)
+{
+    if (!open_store(out))
+        return id_failure(failure(MOC_MEMORY, 0));
+    moc_result result = id_result(call_on_copies(call, first, a, second, b, out->at), out->at);
+    if (result.code)
+        close_store(out);
+    return result;
+}
+
+/* Returns the result of a proved function on coverages of two stores, which makes no coverage. */
+static moc_result query_copies(proved_call *call, struct handle *first, uint64_t a, struct handle *second, uint64_t b)
+{
+    moc_store copies;
+    if (!open_store(&copies))
+        return failure(MOC_MEMORY, 0);
+    moc_result result = call_on_copies(call, first, a, second, b, copies.at);
+    close_store(&copies);
+    return result;
+}

@@ -249,6 +249,14 @@ MOC_CHECKED moc_result moc_degrade(moc_store *store, uint64_t a, uint32_t order)
    */
 MOC_CHECKED moc_result moc_share(const moc_store *from, uint64_t a, moc_store *to);
 
+/* The union, the intersection, the difference and the symmetric difference of coverages of two stores, which may be the same store, in a
+   new store. Each function opens the store at `out`, which has only the result, or zeroes `out` if it fails, unless the pointer is invalid.
+   The locks of the two stores are held while the ranges are shared, and not during the operation. MOC_NO_SUCH_SET. */
+MOC_CHECKED moc_result moc_open_union(const moc_store *first, uint64_t a, const moc_store *second, uint64_t b, moc_store *out);
+MOC_CHECKED moc_result moc_open_intersection(const moc_store *first, uint64_t a, const moc_store *second, uint64_t b, moc_store *out);
+MOC_CHECKED moc_result moc_open_difference(const moc_store *first, uint64_t a, const moc_store *second, uint64_t b, moc_store *out);
+MOC_CHECKED moc_result moc_open_symmetric(const moc_store *first, uint64_t a, const moc_store *second, uint64_t b, moc_store *out);
+
 /* Frees the coverage with an id, which is not used again. MOC_NO_SUCH_SET. */
 moc_result moc_free(moc_store *store, uint64_t a);
 
@@ -270,6 +278,13 @@ MOC_CHECKED moc_result moc_contains(const moc_store *store, uint64_t a, uint64_t
 MOC_CHECKED moc_result moc_meets(const moc_store *store, uint64_t a, uint64_t b);
 MOC_CHECKED moc_result moc_covers(const moc_store *store, uint64_t a, uint64_t b);
 MOC_CHECKED moc_result moc_same(const moc_store *store, uint64_t a, uint64_t b);
+
+/* The same queries for coverages of two stores, which may be the same store. The locks of the stores are held while the ranges are shared,
+   and not during the query. MOC_MEMORY if an allocation fails. */
+MOC_CHECKED moc_result moc_pair_count_common(const moc_store *first, uint64_t a, const moc_store *second, uint64_t b);
+MOC_CHECKED moc_result moc_pair_meets(const moc_store *first, uint64_t a, const moc_store *second, uint64_t b);
+MOC_CHECKED moc_result moc_pair_covers(const moc_store *first, uint64_t a, const moc_store *second, uint64_t b);
+MOC_CHECKED moc_result moc_pair_same(const moc_store *first, uint64_t a, const moc_store *second, uint64_t b);
 
 /* ---- Coverages as arrays. MOC_NO_SUCH_SET comes before the codes of each function. Linear in what is written. For pixels, O(log n) for
    each pixel and n ranges, and less if they are ascending. */
