@@ -256,7 +256,7 @@ def check_empty_arrays(tally: Tally, folder: str) -> None:
 
 def stub_of(function: Function) -> str:
     """Returns a replacement in C of a proved function for `threads.c`, which may run in several threads."""
-    codes_of = {"proved_map_apply": "__atomic_load_n(&applied, __ATOMIC_SEQ_CST), 0"}
+    codes_of = {"proved_map_apply": "__atomic_load_n(&applied, __ATOMIC_SEQ_CST), length"}
     codes_of["proved_map_join"] = "0, __atomic_fetch_add(&joined, 1, __ATOMIC_SEQ_CST)"
     value = {RESULT: f"return ({RESULT}){{{codes_of.get(function.name, '0, 0')}, 0}};", "bool": "return true;", "void": ""}[function.result]
     return f"{function.result} moc_{function.name}({', '.join(function.arguments)}) {{ {value} }}\n"
