@@ -363,9 +363,12 @@ static moc_result replies_of(struct handle *client, moc_text *text)
     result = new_text(text, result.first);
     if (result.code)
         return result;
-    if (!is_short)
-        return moc_proved_map_answer(&client->proved.client, (uint8_t *)text->bytes, text->length);
-    memcpy(text->bytes, buffer, text->length);
+    if (is_short)
+        memcpy(text->bytes, buffer, text->length);
+    else
+        result = moc_proved_map_answer(&client->proved.client, (uint8_t *)text->bytes, text->length);
+    if (result.code)
+        free_text(text);
     return result;
 }
 
