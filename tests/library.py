@@ -7,6 +7,7 @@
 - `tests/c/allocations.c` makes sets and texts while each allocation in turn fails (`tests/fail_allocation.c`).
 - `tests/c/wrapper.cpp` tests `ploverchaise.hpp`, and `tests/c/fuzz.cpp` makes random calls. Both run with and without the sanitizers.
 - `tests/c/threads.c` tests locks, waiting and forks with the thread sanitizer, and with replacements of the proved functions.
+- Frama-C's plug-in Eva follows all calls of the guards and of `handles.c`, if it is installed (`analysis.py`).
 - The programs of `docs/C.md` print what the page says.
 - The archive has no global names but those of the header.
 - The header compiles as C99 and as C++. Its codes, functions, types and structs agree with those of the crate.
@@ -21,6 +22,7 @@ import subprocess
 import sys
 import tempfile
 
+from analysis import check_with_eva
 from guard_rows import make_rows
 from tally import Tally
 
@@ -329,6 +331,7 @@ def main() -> int:
     """Links the library, and runs all checks."""
     tally = Tally()
     with tempfile.TemporaryDirectory() as folder:
+        check_with_eva(tally, folder)
         status = subprocess.run([os.path.join(TOP, "moc"), "library", folder], stdout=sys.stderr).returncode
         if tally.check(status == 0, "the library is not built"):
             check_header(tally, folder)
