@@ -5,10 +5,13 @@
   function with each of its pointers null, not aligned, and overlapping another pointer; `guard_rows.py` makes these calls from
   `ploverchaise.h`. Both run with the sanitizers for addresses, undefined behaviour and leaks, and without them.
 - `tests/c/allocations.c` makes sets and texts while each allocation in turn fails (`tests/fail_allocation.c`).
-- `tests/c/wrapper.cpp` tests `ploverchaise.hpp`, and `tests/c/fuzz.cpp` makes random calls. Both run with and without the sanitizers.
+- `tests/c/wrapper.cpp` tests `ploverchaise.hpp`, `tests/c/fuzz.cpp` makes random calls, and `tests/c/service.cpp` compares a map that
+  threads change with a vector behind a mutex. They run with and without the sanitizers.
+- `tests/c/stack.c` measures the stack that calls need, and `tests/c/unload.c` unloads the shared library. Some programs run under valgrind.
 - `tests/c/threads.c` tests locks, waiting and forks with the thread sanitizer, and with replacements of the proved functions.
+- Frama-C's plug-in Eva follows all calls of the guards and of `handles.c`, if it is installed (`analysis.py`).
 - The programs of `docs/C.md` print what the page says.
-- The archive has no global names but those of the header.
+- The archive has no global names but those of the header. Its functions set their frame pointers.
 - The header compiles as C99 and as C++. Its codes, functions, types and structs agree with those of the crate.
 - Guards pass an aligned address for an empty array that is not aligned. The test replaces the proved functions for this check.
 
@@ -17,10 +20,12 @@ from __future__ import annotations
 
 import os
 import re
+import shutil
 import subprocess
 import sys
 import tempfile
 
+from analysis import check_with_eva
 from guard_rows import make_rows
 from tally import Tally
 
@@ -56,8 +61,13 @@ UNSUPPORTED = [f"int moc_x({STORE} *store);", f"{RESULT} *moc_x({STORE} *store);
                f"{RESULT} moc_x(const void *at, size_t length);", f"{RESULT} moc_x(const {STORE} *stores, size_t count);",
                f"{RESULT} moc_x(uint8_t const *text, size_t length);", f"{RESULT} moc_x(const uint8_t *const text, size_t length);"]
 TIME_LIMIT = 300
+# The programs of `tests/c` that run under valgrind, each with its arguments, and the command.
+VALGRIND_TESTS = [["allocations"], ["wrapper"], ["fuzz", "3000"]]
+VALGRIND = ["valgrind", "--quiet", "--error-exitcode=99", "--leak-check=full", "--errors-for-leak-kinds=definite,indirect,possible"]
+# The instructions that set the frame pointer.
+FRAME = re.compile(r"\tpush +%rbp\n(?:.*\n)*?.*\tmov +%rsp,%rbp\n")
 # The test programs in C++.
-CXX_TESTS = ["wrapper", "fuzz"]
+CXX_TESTS = ["wrapper", "fuzz", "service"]
 # The minimal number of failing allocations that `allocations.c` has to report.
 MIN_FAILURES = 20
 
@@ -193,16 +203,16 @@ def compile_test(tally: Tally, folder: str, name: str, libraries: str, options: 
     return program if tally.check(result.returncode == 0, f"{name} does not compile\n{result.stderr}") else None
 
 
-def add_results(tally: Tally, name: str, program: str, **environment: str) -> None:
+def add_results(tally: Tally, name: str, program: str, *arguments: str, **environment: str) -> None:
     """Runs a program that prints `N passed, M failed`, and adds its counts."""
-    result = run([program], **environment)
+    result = run([program, *arguments], **environment)
     tally.add_summary(name, result.returncode, result.stdout + result.stderr)
     if result.stderr:
         print(f"{name}:\n{result.stderr}")
 
 
 def check_calls(tally: Tally, folder: str) -> None:
-    """Runs `calls.c`, `guards.c`, `wrapper.cpp` and `fuzz.cpp`, without and with the sanitizers. The guards then have them too."""
+    """Runs `calls.c`, `guards.c` and the programs in C++, without and with the sanitizers. The guards then have them too."""
     checked = os.path.join(folder, "checked")
     if not tally.check(linking.link(checked, SANITIZERS), "the library with sanitizers is not built"):
         return
@@ -212,6 +222,38 @@ def check_calls(tally: Tally, folder: str) -> None:
             program = compile_test(tally, folder, name, libraries, options)
             if program is not None:
                 add_results(tally, os.path.basename(program), program, ASAN_OPTIONS="detect_leaks=1")
+
+
+def check_stack_and_unloading(tally: Tally, folder: str) -> None:
+    """Runs `stack.c`, and `unload.c` on the shared library."""
+    programs: list[list[str]] = [["stack"], ["unload", os.path.join(folder, linking.SHARED)]]
+    for name, *arguments in programs:
+        program = compile_test(tally, folder, name, folder, [])
+        if program is not None:
+            add_results(tally, name, program, *arguments)
+
+
+def check_with_valgrind(tally: Tally, folder: str) -> None:
+    """Runs some programs under valgrind, if it is installed. They must access only valid memory, and free what they allocate."""
+    if shutil.which("valgrind") is None:
+        print("valgrind is not installed: it does not check the library", flush=True)
+        return
+    for name, *arguments in VALGRIND_TESTS:
+        program = compile_test(tally, folder, name, folder, [])
+        if program is not None:
+            result = run([*VALGRIND, program, *arguments])
+            tally.check(result.returncode == 0, f"{name} under valgrind: status {result.returncode}\n{result.stdout}{result.stderr}")
+
+
+def check_frame_pointers(tally: Tally, folder: str) -> None:
+    """Checks that each function of the header sets its frame pointer before it calls another function."""
+    listing = run(["objdump", "-d", "--no-show-raw-insn", os.path.join(folder, linking.STATIC)]).stdout
+    bodies = dict(re.findall(r"^[0-9a-f]+ <(moc_\w+)>:\n((?:.+\n)*)", listing, re.MULTILINE))
+    names = {f"moc_{function.name}" for function in parse_header(read_text(HEADER))}
+    calling = {name: bodies[name].partition("\tcall ") for name in names & {*bodies} if "\tcall " in bodies[name]}
+    tally.check(len(calling) > len(names) // 2, f"only {len(calling)} functions of the archive call another one")
+    without = [name for name, (start, *_) in calling.items() if not FRAME.search(start)]
+    tally.check_equal("the functions without a frame pointer", without, [])
 
 
 def replacement_of(function: Function) -> str:
@@ -257,7 +299,7 @@ def check_empty_arrays(tally: Tally, folder: str) -> None:
 
 def stub_of(function: Function) -> str:
     """Returns a replacement in C of a proved function for `threads.c`, which may run in several threads."""
-    codes_of = {"proved_map_apply": "__atomic_load_n(&applied, __ATOMIC_SEQ_CST), 0"}
+    codes_of = {"proved_map_apply": "__atomic_load_n(&applied, __ATOMIC_SEQ_CST), length"}
     codes_of["proved_map_join"] = "0, __atomic_fetch_add(&joined, 1, __ATOMIC_SEQ_CST)"
     value = {RESULT: f"return ({RESULT}){{{codes_of.get(function.name, '0, 0')}, 0}};", "bool": "return true;", "void": ""}[function.result]
     return f"{function.result} moc_{function.name}({', '.join(function.arguments)}) {{ {value} }}\n"
@@ -330,6 +372,7 @@ def main() -> int:
     """Links the library, and runs all checks."""
     tally = Tally()
     with tempfile.TemporaryDirectory() as folder:
+        check_with_eva(tally, folder)
         status = subprocess.run([os.path.join(TOP, "moc"), "library", folder], stdout=sys.stderr).returncode
         if tally.check(status == 0, "the library is not built"):
             check_header(tally, folder)
@@ -341,6 +384,9 @@ def main() -> int:
             check_page(tally, folder)
             check_archive(tally, folder)
             check_failing_allocations(tally, folder)
+            check_stack_and_unloading(tally, folder)
+            check_frame_pointers(tally, folder)
+            check_with_valgrind(tally, folder)
     return tally.finish()
 
 

@@ -40,6 +40,7 @@ static void require(int line, bool holds)
         if (result.code == MOC_MEMORY) {                           \
             failures++;                                            \
             REQUIRE(result.first == (no_value) && result.second == 0); \
+            REQUIRE(text.bytes == NULL && text.length == 0);       \
             result = call;                                         \
         }                                                          \
         REQUIRE(result.code == MOC_OK && result.first == (number));   \

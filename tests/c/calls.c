@@ -414,6 +414,33 @@ static void lines(moc_client *client)
     CHECK(replies_with(client, "read 0/0-11", "cover 0/2-11\n"));
 }
 
+/* Each command may end with a line feed, and with CR and a line feed, as a line of a script does. The expected replies are those of
+   `moc run` (docs/SCRIPTS.md). */
+static void line_ends(moc_client *client)
+{
+    /* After each turn the map has the base pixels 2 to 11, as before. */
+    static const struct {
+        const char *command, *replies;
+    } ROWS[] = {{"add 0/1", "changed 288230376151711744\n"}, {"remove 0/1", "changed 288230376151711744\n"},
+                {"claim 0/0", "claimed\n"}, {"keep 0/2-11", "changed 288230376151711744\n"},
+                {"count 0/0-2", "total 288230376151711744\n"}, {"read 0/0-2", "cover 0/2\n"}, {"degrade 0", "changed 0\n"},
+                {"near 0 0", "near yes\n"}, {"invert", "changed 3458764513820540928\n"}, {"invert", "changed 3458764513820540928\n"},
+                {"add 0/2 ; invert ; invert", "changed 0 ; changed 3458764513820540928 ; changed 3458764513820540928\n"}};
+    static const char *const ENDS[] = {"", "\n", "\r\n", " \n"};
+    char text_of_line[64];
+    for (size_t end = 0; end < sizeof ENDS / sizeof ENDS[0]; end++)
+        for (size_t i = 0; i < sizeof ROWS / sizeof ROWS[0]; i++) {
+            snprintf(text_of_line, sizeof text_of_line, "%s%s", ROWS[i].command, ENDS[end]);
+            CHECK(replies_with(client, text_of_line, ROWS[i].replies));
+        }
+    CHECK(makes_text(moc_map_execute(client, bytes("near 0 0\n"), 9, &text), "near yes\n"));
+    /* One line feed ends a line. Another one, or one between commands, is an error where the language has no line feed. */
+    CHECK(line(client, "\n").code == MOC_LINE_EMPTY_COMMAND);
+    CHECK(line(client, "invert\n\n").code == MOC_LINE_UNKNOWN_WORD);
+    CHECK(line(client, "degrade 3\n\n").code == MOC_LINE_BAD_NUMBER);
+    CHECK(has_replies(client, "near yes\n"));
+}
+
 /* Commands on cells do not change the answer to the last line. */
 static void cell_commands(moc_client *client)
 {
@@ -509,6 +536,7 @@ static void clients(void)
     RETURNS(moc_map_begin(&first, &store, start, 3), 2);
     FAILS(moc_map_begin(&first, &store, UINT64_MAX, 65), MOC_CLIENT_IN_USE, 0);
     lines(&first);
+    line_ends(&first);
     executed_lines(&first);
     cell_commands(&first);
     coverage_commands(&first);

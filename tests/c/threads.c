@@ -1,6 +1,6 @@
 /* Tests the locks of stores and clients, the clients that join again, waiting and forks, without the proved functions. library.py puts the
    guards and replacements of the proved functions before this file, and runs the program with the thread sanitizer. The replacement of
-   `moc_map_apply` returns the code `applied`, and that of `moc_map_join` returns 0, 1, 2 and so on. */
+   `moc_map_apply` returns the code `applied` and the length of its line, and that of `moc_map_join` returns 0, 1, 2 and so on. */
 #include "checks.h"
 
 #include <signal.h>
@@ -14,6 +14,20 @@ static moc_client client, waiting;
 /* Whether an open handle has the client with a number. */
 static int is_used[CLIENTS];
 static bool is_ended;
+
+/* Returns the length of the line that is executed for a line. */
+static uint64_t executed_length(const char *line)
+{
+    return moc_map_apply(&client, (const uint8_t *)line, strlen(line)).first;
+}
+
+/* One line feed at the end is not part of a line. */
+static void line_ends(void)
+{
+    CHECK(executed_length("") == 0 && executed_length("\n") == 0 && executed_length("\n\n") == 1);
+    CHECK(executed_length("invert") == 6 && executed_length("invert\n") == 6 && executed_length("invert\r\n") == 7);
+    CHECK(executed_length("\ninvert") == 7 && executed_length("invert\n\n") == 7 && executed_length("invert\r") == 7);
+}
 
 static double seconds_since(const struct timespec *start)
 {
@@ -194,6 +208,7 @@ int main(void)
 {
     alarm(120);
     CHECK(moc_store_open(stores) && moc_store_open(stores + 1) && moc_client_open(&client) && moc_client_open(&waiting));
+    line_ends();
     timeouts();
     opposite_shares();
     calls_with_both();

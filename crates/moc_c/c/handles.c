@@ -341,9 +341,11 @@ static void close_client(moc_client *client)
     free_handle(handle);
 }
 
+/* Executes a line. A line feed at its end is not part of it, as in a script. */
 static moc_result apply_line(struct handle *client, const uint8_t *line, size_t length)
 {
-    moc_result result = moc_proved_map_apply(&client->proved.client, line, length);
+    size_t without_feed = length && line[length - 1] == '\n' ? length - 1 : length;
+    moc_result result = moc_proved_map_apply(&client->proved.client, line, without_feed);
     client->has_replies |= result.code == MOC_OK;
     return result;
 }
@@ -361,9 +363,12 @@ static moc_result replies_of(struct handle *client, moc_text *text)
     result = new_text(text, result.first);
     if (result.code)
         return result;
-    if (!is_short)
-        return moc_proved_map_answer(&client->proved.client, (uint8_t *)text->bytes, text->length);
-    memcpy(text->bytes, buffer, text->length);
+    if (is_short)
+        memcpy(text->bytes, buffer, text->length);
+    else
+        result = moc_proved_map_answer(&client->proved.client, (uint8_t *)text->bytes, text->length);
+    if (result.code)
+        free_text(text);
     return result;
 }
 

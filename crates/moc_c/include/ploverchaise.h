@@ -369,8 +369,8 @@ moc_result moc_map_busy_timeout(moc_client *client, uint32_t milliseconds);
 
 /* Executes the commands of a line, separated by `;`, as `moc run` does: all of them in one atomic step, or none. The replies are those that
    `moc run` writes, with a line feed; `first` is their length. MOC_NO_MAP, then MOC_LINE_TOO_MANY_COMMANDS, then another MOC_LINE_.. for
-   the first invalid command, then MOC_BUSY; the map is unchanged then. The line ends without a 0 and without a line feed. After MOC_MEMORY
-   the line may have been executed. */
+   the first invalid command, then MOC_BUSY; the map is unchanged then. The line may end with one line feed, which is not part of it, and
+   does not end with a 0. After MOC_MEMORY the line may have been executed. */
 MOC_CHECKED moc_result moc_map_execute(moc_client *client, const uint8_t *line, size_t length, moc_text *replies);
 /* Executes a line without making its replies. After MOC_MEMORY the map is unchanged. */
 MOC_CHECKED moc_result moc_map_apply(moc_client *client, const uint8_t *line, size_t length);
