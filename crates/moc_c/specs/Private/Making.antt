@@ -1,5 +1,5 @@
 -- Intermediate results of calls that make sets or execute batches.
-use Rattle.std.specs.Prelude.{◌≡◌, ◌⊎◌, ◌∷◌, [], ℕ, List, Result, Ok, Err, String, string_bytes, ⊥}
+use Rattle.std.specs.Prelude.{◌≡◌, ◌⊎◌, ◌∷◌, [], ℕ, List, Result, Ok, Err, String, string_bytes}
 use Rattle.std.specs.declared.alloc.Global.{Global}
 use Rattle.moc_lists.specs.RangeList.{NumberSet}
 use Rattle.moc_ranges.specs.declared.errors.Memory.{Memory}
