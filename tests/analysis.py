@@ -38,6 +38,9 @@ REPLACED = [("#define IS_ALIGNED(pointer) ((uintptr_t)(pointer) % __alignof__(*(
              "count && other_count && a == b")]
 ALLOCATION = re.compile(r"\b(malloc|calloc|free)\(")
 PROTOTYPES = "void *model_malloc(size_t size);\nvoid *model_calloc(size_t count, size_t size);\nvoid model_free(void *block);\n"
+# Eva has no models of atomic functions. It analyses one thread, which needs none.
+ATOMICS = ("#define __atomic_load_n(at, order) (*(at))\n#define __atomic_fetch_add(at, number, order) ((void)(*(at) += (number)))\n"
+           "#define __atomic_fetch_sub(at, number, order) ((void)(*(at) -= (number)))\n")
 # Defects of `handles.c`: what is wrong, the correct code, and the wrong code.
 DEFECTS = [("a lock that is not released", "    pthread_mutex_unlock(&maps_lock);\n    if (!has_client)", "    if (!has_client)"),
            ("two locks in the wrong order", "    pthread_mutex_lock(a->number < b->number ? &a->lock : &b->lock);\n"
@@ -101,7 +104,7 @@ def source(old: str = "", new: str = "") -> str:
         guards = replace_once(guards, old, new)
     for checked, replacement in REPLACED:
         guards = replace_once(guards, checked, replacement)
-    guards = replace_once(ALLOCATION.sub(r"model_\1(", guards), '#include "ploverchaise.h"\n', '#include "ploverchaise.h"\n' + PROTOTYPES)
+    guards = replace_once(ALLOCATION.sub(r"model_\1(", guards), '#include "ploverchaise.h"\n', '#include "ploverchaise.h"\n' + PROTOTYPES + ATOMICS)
     with open(MODELS, encoding="utf-8") as file:
         models = file.read()
     proved = parse_header("".join(f"{line};\n" for line in proved_declarations(functions)))

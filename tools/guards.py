@@ -86,6 +86,8 @@ CALLED_ON_COPIES = {**OPENING, **QUERYING}
 WRITTEN |= {**dict.fromkeys(OPENING, "open_result"), **dict.fromkeys(QUERYING, "query_copies")}
 # The functions whose result has an id.
 RETURNING_ID = ID_FUNCTIONS | {*OPENING}
+# The functions that execute a line of commands.
+LINES = frozenset(["map_execute", "map_apply"])
 # The functions that wait if a part is held.
 VERBS = ("add", "remove", "claim", "count", "contains")
 WAITING = frozenset(["map_execute", "map_apply", "map_coverage",
@@ -301,14 +303,23 @@ def call_lines(function: Function, passed: list[str]) -> list[str]:
         call = f"id_result({call}, {function.stores()[-1]})"
     if function.name in TEXT_FUNCTIONS:
         call = f"store_text({call}, {function.stores()[0]}, text)"
+    if function.name in WAITING:
+        call = f"leaves_out(client_handle, &wait) ? failure(MOC_BUSY, 0) : {call}"
     lines = [f"result = {call};"]
     if len(names) == 1:
         lines = [f"enter({names[0]});", *lines]
     elif names:
         lines = [f"enter_both({', '.join(names)});", *lines]
     if function.name in WAITING:
-        lines.append("note_timeout(&wait, client_handle);")
+        lines.append("note_client(&wait, client_handle);")
     return [*lines, *(f"leave({name});" for name in names)]
+
+
+def tries_before_first(function: Function) -> str:
+    """Returns the expression of the number of failed tries after which a call of a map goes first."""
+    if "size_t count" in function.arguments:
+        return "tries_for(count)"
+    return "TRIES_FOR_ONE" if function.name in LINES else "TRIES_FOR_MANY"
 
 
 def call_of(function: Function, passed: list[str]) -> list[str]:
@@ -317,7 +328,8 @@ def call_of(function: Function, passed: list[str]) -> list[str]:
     lines = call_lines(function, passed)
     if function.name in WAITING:
         body = [f"    {line}" for line in lines]
-        lines = ["struct wait wait = {0};", "do {", *body, "} while (result.code == MOC_BUSY && pause_for_retry(&wait));"]
+        lines = [f"struct wait wait = {{.tries_before_first = {tries_before_first(function)}}};", "do {", *body, "} while (result.code == MOC_BUSY && pause_for_retry(&wait));",
+                 "end_wait(&wait);"]
     if (ids := function.ids()) and function.name not in WRITTEN:
         store = function.stores()[0]
         place = "second" if function.name in ID_FUNCTIONS else "first"

@@ -32,8 +32,8 @@ static int blocks;
 void *model_malloc(size_t size)
 {
     /* Eva knows the size of a block only if all blocks of the same call have this size. */
-    void *block = size == 1 ? malloc(1) : size == 21 ? malloc(21) : size == 32 ? malloc(32) : size == 48 ? malloc(48)
-                  : size == 64 ? malloc(64) : malloc(size);
+    void *block = size == 1 ? malloc(1) : size == 21 ? malloc(21) : size == 40 ? malloc(40) : size == 56 ? malloc(56)
+                  : size == 72 ? malloc(72) : malloc(size);
     blocks += block != NULL;
     return block;
 }
@@ -335,12 +335,22 @@ static void end_step(void)
     busy_left = 2;
 }
 
-/* A pause after any number of tries. */
+/* A pause after any number of tries, and the end of the call. */
 static void any_pause(void)
 {
-    struct wait wait = {any_small_number(), any_small_number(),
-                        {Frama_C_long_interval(0, INT64_MAX / 2), Frama_C_long_interval(0, 999999999)}};
+    static struct map map;
+    struct wait wait = {
+        .tries_before_first = any_small_number(),
+        .tries = any_small_number(),
+        .timeout = any_small_number(),
+        .left_out = any_small_number(),
+        .end = {Frama_C_long_interval(0, INT64_MAX / 2), Frama_C_long_interval(0, 999999999)},
+        .is_left_out = any(),
+        .map = any() ? &map : NULL,
+    };
+    map.first_calls = any_small_number();
     (void)pause_for_retry(&wait);
+    end_wait(&wait);
 }
 
 static void any_fork(void)

@@ -40,9 +40,11 @@ struct unused_client {
     uint64_t number;
 };
 
-/* A map: the number of handles that have its clients, and the other clients. */
+/* A map: the number of handles that have its clients, the other clients, and the number of calls that go first because they have waited
+   for long. */
 struct map {
     size_t handle_count, unused_count;
+    uint32_t first_calls;
     struct unused_client unused[];
 };
 
@@ -255,6 +257,7 @@ static struct map *new_map(uint8_t clients)
     if (!map)
         return NULL;
     map->handle_count = 1;
+    map->first_calls = 0;
     for (map->unused_count = 0; map->unused_count + 1 < clients; map->unused_count++)
         if (!moc_proved_client_open(&map->unused[map->unused_count].client)) {
             free_map(map);
@@ -386,32 +389,72 @@ static moc_result set_timeout(struct handle *client, uint32_t milliseconds)
 
 /* ---- Waiting */
 
-/* The failed tries of a call, its timeout, and when the last try begins. */
+/* After how many failed tries a call goes first. The failed tries so far, its timeout, and when the last try begins. Whether its last try was
+   left out so that another call goes first, and how many were. The map of its client, and the map in which it goes first itself, or NULL. */
 struct wait {
-    uint32_t tries, timeout;
+    uint32_t tries_before_first, tries, timeout, left_out;
     struct timespec end;
+    bool is_left_out;
+    struct map *map, *first_in;
 };
 
-/* Notes the timeout of a client when its call tries first. To set another one does not change a call that waits. */
-static void note_timeout(struct wait *wait, const struct handle *client)
+/* After how many tries a call goes first: a call that may need one part, such as a line of commands, and a call that needs many parts. After
+   a quarter of these tries, it lets other threads run. */
+enum { TRIES_FOR_ONE = 16, TRIES_FOR_MANY = 1 };
+
+/* After SHORT_TRIES a call sleeps longer. The pauses are in nanoseconds. A call leaves out at most MOST_LEFT_OUT tries for others. */
+enum { SHORT_TRIES = 64, SHORT_PAUSE = 20000, LONG_PAUSE = 250000, MOST_LEFT_OUT = 16 };
+
+/* Returns after how many tries a call on cells goes first. */
+static uint32_t tries_for(size_t cells)
 {
-    if (!wait->tries)
+    return cells > 1 ? TRIES_FOR_MANY : TRIES_FOR_ONE;
+}
+
+/* Returns whether a call leaves out a try, because other calls of its map have waited for long. A call without a timeout never does. */
+static bool leaves_out(const struct handle *client, struct wait *wait)
+{
+    wait->is_left_out = client->map && client->timeout && !wait->first_in && wait->left_out < MOST_LEFT_OUT
+        && __atomic_load_n(&client->map->first_calls, __ATOMIC_RELAXED) > 0;
+    return wait->is_left_out;
+}
+
+/* Notes the map of a client, and its timeout when its call tries first. To set another timeout does not change a call that waits. */
+static void note_client(struct wait *wait, const struct handle *client)
+{
+    wait->map = client->map;
+    if (!wait->tries && !wait->left_out)
         wait->timeout = client->timeout;
 }
 
-/* After this many tries a call sleeps, and after this many it sleeps longer. The pauses are in nanoseconds. */
-enum { YIELDING_TRIES = 4, SHORT_TRIES = 64, SHORT_PAUSE = 20000, LONG_PAUSE = 250000 };
+/* Ends the waiting of a call. */
+static void end_wait(const struct wait *wait)
+{
+    if (wait->first_in)
+        __atomic_fetch_sub(&wait->first_in->first_calls, 1, __ATOMIC_RELAXED);
+}
+
+static void sleep_for(long nanoseconds)
+{
+    nanosleep(&(struct timespec){0, nanoseconds}, NULL);
+}
 
 static bool is_before(const struct timespec *a, const struct timespec *b)
 {
     return a->tv_sec < b->tv_sec || (a->tv_sec == b->tv_sec && a->tv_nsec < b->tv_nsec);
 }
 
-/* Pauses after a call that found a part held, and returns true; or returns false if the timeout has passed. At first other threads run;
-   later the thread sleeps. */
+/* Pauses after a try that found a part held or was left out, and returns true; or returns false if the timeout has passed. At first other
+   threads run; later the thread sleeps. A call that has waited for long goes first: others leave out some of their tries, and it does not
+   sleep. */
 static bool pause_for_retry(struct wait *wait)
 {
     struct timespec now;
+    if (wait->is_left_out) {
+        wait->left_out++;
+        sleep_for(SHORT_PAUSE);
+        return true;
+    }
     if (!wait->timeout)
         return false;
     if (wait->timeout != MOC_NO_TIMEOUT) {
@@ -430,10 +473,14 @@ static bool pause_for_retry(struct wait *wait)
     }
     if (wait->tries < UINT32_MAX)
         wait->tries++;
-    if (wait->tries <= YIELDING_TRIES)
+    if (wait->tries == wait->tries_before_first && wait->map) {
+        wait->first_in = wait->map;
+        __atomic_fetch_add(&wait->map->first_calls, 1, __ATOMIC_RELAXED);
+    }
+    if (wait->tries <= wait->tries_before_first / 4)
         sched_yield();
     else
-        nanosleep(&(struct timespec){0, wait->tries <= SHORT_TRIES ? SHORT_PAUSE : LONG_PAUSE}, NULL);
+        sleep_for(wait->tries <= SHORT_TRIES ? SHORT_PAUSE : LONG_PAUSE);
     return true;
 }
 
