@@ -50,6 +50,7 @@ DEFECTS = [("a lock that is not released", "    pthread_mutex_unlock(&maps_lock)
             "        free_map(map);\n    free_handle(handle);\n    handle->map = NULL;\n"),
            ("a text that is left after a failed call", "    if (result.code)\n        free_text(text);\n    return result;",
             "    return result;"),
+           ("a call that goes first forever", "    if (wait->first_in)\n        __atomic", "    if (!wait->map)\n        __atomic"),
            ("a client that is not closed", "    moc_proved_client_close(closed);\n", "    (void)closed;\n")]
 
 
@@ -75,7 +76,7 @@ def model_of(function: Function) -> str:
 
 def any_argument(argument: str) -> str:
     """Returns an expression in C for an argument with any value."""
-    for part, expression in ((STORE, "any_store()"), (CLIENT, "any_client()"), (TEXT, "any_text()"), ("*", "any_array()"),
+    for part, expression in (("moc_store *out", "any_new_store()"), (STORE, "any_store()"), (CLIENT, "any_client()"), (TEXT, "any_text()"), ("*", "any_array()"),
                              ("size_t", "any_length()"), ("uint32_t clients", "any_client_count()"), ("uint32_t", "any_small_number()")):
         if part in argument:
             return expression
@@ -90,6 +91,8 @@ def any_call(functions: list[Function]) -> str:
         call = f"moc_{function.name}({', '.join(map(any_argument, function.arguments))})"
         has_text = any(TEXT in argument for argument in function.arguments)
         statement = f"check_text({call})" if has_text else f"(void){call}" if function.result == RESULT else call
+        if "moc_store *out" in function.arguments and function.result == RESULT:
+            statement += "; moc_store_close(&new_store)"
         cases.append(f"    case {number}: {statement}; break;\n")
     return ("static void any_call(void)\n{\n    switch (Frama_C_interval(0, %d)) {\n%s    default: any_fork();\n    }\n}\n"
             % (len(called), "".join(cases)))
@@ -104,7 +107,8 @@ def source(old: str = "", new: str = "") -> str:
         guards = replace_once(guards, old, new)
     for checked, replacement in REPLACED:
         guards = replace_once(guards, checked, replacement)
-    guards = replace_once(ALLOCATION.sub(r"model_\1(", guards), '#include "ploverchaise.h"\n', '#include "ploverchaise.h"\n' + PROTOTYPES + ATOMICS)
+    include = '#include "ploverchaise.h"\n'
+    guards = replace_once(ALLOCATION.sub(r"model_\1(", guards), include, include + PROTOTYPES + ATOMICS)
     with open(MODELS, encoding="utf-8") as file:
         models = file.read()
     proved = parse_header("".join(f"{line};\n" for line in proved_declarations(functions)))

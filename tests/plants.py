@@ -189,7 +189,7 @@ DEFECTS = [
            "    pthread_mutex_lock(a->number < b->number ? &b->lock : &a->lock);",
            "    pthread_mutex_lock(&a->lock);\n    pthread_mutex_lock(&b->lock);", "library"),
     Defect("timeout_is_read_again_while_a_call_waits", "moc_c", "c/handles.c",
-           "    if (!wait->tries)\n        wait->timeout", "    wait->timeout", "library"),
+           "    if (!wait->tries && !wait->left_out)\n        wait->timeout", "    wait->timeout", "library"),
     Defect("clients_do_not_wait", "moc_c", "c/handles.c", "    if (!wait->timeout)\n", "    if (wait->timeout)\n", "library"),
     Defect("ids_have_no_store", "moc_c", "c/handles.c",
            "return ((store->number - 1) % STORE_COUNT + 1) << STORE_SHIFT;",

@@ -328,8 +328,8 @@ def call_of(function: Function, passed: list[str]) -> list[str]:
     lines = call_lines(function, passed)
     if function.name in WAITING:
         body = [f"    {line}" for line in lines]
-        lines = [f"struct wait wait = {{.tries_before_first = {tries_before_first(function)}}};", "do {", *body, "} while (result.code == MOC_BUSY && pause_for_retry(&wait));",
-                 "end_wait(&wait);"]
+        lines = [f"struct wait wait = {{.tries_before_first = {tries_before_first(function)}}};",
+                 "do {", *body, "} while (result.code == MOC_BUSY && pause_for_retry(&wait));", "end_wait(&wait);"]
     if (ids := function.ids()) and function.name not in WRITTEN:
         store = function.stores()[0]
         place = "second" if function.name in ID_FUNCTIONS else "first"

@@ -265,10 +265,16 @@ moc_result moc_proved_map_join(moc_client *client, moc_client *other)
 /* ---- Calls with any arguments. A pointer is null, or is aligned, and overlaps no other argument. An array has as many elements as its
    length states. */
 
-static moc_store stores[2], no_store;
+static moc_store stores[2], no_store, new_store;
 static moc_client clients[3], no_client;
 static moc_text texts[1];
 static uint64_t elements[32];
+
+/* Where a call opens a store. */
+static moc_store *any_new_store(void)
+{
+    return any() ? &new_store : NULL;
+}
 
 static moc_store *any_store(void)
 {
@@ -335,7 +341,7 @@ static void end_step(void)
     busy_left = 2;
 }
 
-/* A pause after any number of tries, and the end of the call. */
+/* A pause after any number of tries, and the end of the call, after which as many calls go first as before. */
 static void any_pause(void)
 {
     static struct map map;
@@ -348,9 +354,10 @@ static void any_pause(void)
         .is_left_out = any(),
         .map = any() ? &map : NULL,
     };
-    map.first_calls = any_small_number();
+    map.first_calls = 5;
     (void)pause_for_retry(&wait);
     end_wait(&wait);
+    require(map.first_calls == 5);
 }
 
 static void any_fork(void)
@@ -427,6 +434,7 @@ void check_clients(void)
 /* One call of each kind, in which planted defects are found. */
 void check_once(void)
 {
+    any_pause();
     if (open_all()) {
         (void)moc_map_begin(clients, stores, 0, 2);
         (void)moc_map_join(clients, clients + 1);
