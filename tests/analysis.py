@@ -76,8 +76,9 @@ def model_of(function: Function) -> str:
 
 def any_argument(argument: str) -> str:
     """Returns an expression in C for an argument with any value."""
-    for part, expression in (("moc_store *out", "any_new_store()"), (STORE, "any_store()"), (CLIENT, "any_client()"), (TEXT, "any_text()"), ("*", "any_array()"),
-                             ("size_t", "any_length()"), ("uint32_t clients", "any_client_count()"), ("uint32_t", "any_small_number()")):
+    for part, expression in (("moc_store *out", "any_new_store()"), (STORE, "any_store()"), (CLIENT, "any_client()"),
+                             (TEXT, "any_text()"), ("*", "any_array()"), ("size_t", "any_length()"),
+                             ("uint32_t clients", "any_client_count()"), ("uint32_t", "any_small_number()")):
         if part in argument:
             return expression
     return "any_number()"

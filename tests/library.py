@@ -340,7 +340,8 @@ def check_archive(tally: Tally, folder: str) -> None:
     exported = re.findall(r"^[0-9a-f]+ [A-Z] (\w+)$", names, re.MULTILINE)
     tally.check_equal("the global names of the archive", sorted(exported), sorted(f"moc_{function.name}" for function in parse_header(
         read_text(HEADER))))
-    pairs = {f"MOC_{code.name}" for code in codes.read_codes() if len(code.numbers) > 1}
+    # No call that makes a coverage executes a line.
+    pairs = {f"MOC_{code.name}" for code in codes.read_codes() if len(code.numbers) > 1 and not code.name.startswith("LINE_")}
     wrapper = re.search(r"inline moc_result checked_id\(.*?\n\}", read_text(HEADER + "pp"), re.DOTALL)
     tally.check(wrapper is not None and set(re.findall(r"MOC_\w+", wrapper[0])) == pairs | {"MOC_OK"},
                 "ploverchaise.hpp has other codes with two numbers than codes.tsv")

@@ -10,10 +10,12 @@ from ploverchaise import MOC, MapClient, MocError, SharedMap, _library
 from .common import BASE, TestCase
 
 THREADS, TURNS = 6, 400
+# Lines, with their errors, the numbers of the invalid commands, and the bytes of the errors.
 ERRORS = [
-    ("grow 0/0", "UnknownWord"), ("", "EmptyCommand"), ("invert;", "EmptyCommand"), (";" * 16, "TooManyCommands"),
-    ("invert 3", "WrongCount"), ("degrade x", "BadNumber"), ("add @30 0/0", "OrderTooLarge"), ("near 0 12", "CellTooLarge"),
-    ("add 0/x", "BadByte"), ("add 7", "NoOrder"), ("add 5/7-3", "Backwards"), ("add 5/7-", "Unfinished"), ("add 0/é", "BadByte"),
+    ("grow 0/0", "UnknownWord", 0, 0), ("", "EmptyCommand", 0, 0), ("invert;", "EmptyCommand", 1, 7),
+    (";" * 16, "TooManyCommands", 16, 16), ("invert 3", "WrongCount", 0, 0), ("degrade x", "BadNumber", 0, 0),
+    ("add @30 0/0", "OrderTooLarge", 0, 0), ("near 0 12", "CellTooLarge", 0, 0), ("add 0/x", "BadByte", 0, 6), ("add 7", "NoOrder", 0, 4),
+    ("add 5/7-3", "Backwards", 0, 6), ("add 5/7-", "Unfinished", 0, 8), ("add 0/é", "BadByte", 0, 6),
 ]
 
 
@@ -40,10 +42,12 @@ class OneThread(TestCase):
     def test_errors_change_nothing(self) -> None:
         shared = SharedMap(MOC.from_string("0/4"))
         answer = shared.apply("count 0/4")
-        for line, name in ERRORS:
+        for line, name, command, byte in ERRORS:
             with self.subTest(line=line):
-                self.assertFault(name, (), shared.apply, line)
-                self.assertFault(name, (), shared.apply, f"invert ; {line}" if line.strip("; ") else line)
+                self.assertFault(name, (command, byte), shared.apply, line)
+                if line.strip("; "):
+                    first = "invert ; "
+                    self.assertFault(name, (command + 1, byte + len(first)), shared.apply, first + line)
         self.assertEqual(shared._client.answer(), answer)
         self.assertEqual(str(shared.moc()), "0/4")
         invalid: list[Any] = [5, None, ["invert"]]
