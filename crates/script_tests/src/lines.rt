@@ -170,7 +170,7 @@ fn whole_inputs(rt: HostRuntime) {
     let all = read_all(rt.alloc(), &mut OverReader::new(text.as_slice())).expect(&rt, "lines");
     has_text(&rt, &all, "add 0/0\n\nread 0/0");
     assert_eq!(rt; line_after_last(&all), 4);
-    for (text, line, behind) in [("a\nb\n", "a", "b\n"), ("\n", "", ""), ("a", "a", "")] {
+    for (text, line, following) in [("a\nb\n", "a", "b\n"), ("\n", "", ""), ("a", "a", "")] {
         let (seen, rest) = split_line(text.as_bytes());
         has_text(&rt, seen, line);
         has_text(&rt, rest, following);
