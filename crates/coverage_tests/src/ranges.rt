@@ -983,12 +983,28 @@ fn remove_across(rt: &impl Abort, alloc: Global, set: &mut Coverage, count: u64,
     are_triples_except(rt, set, count, 0, 0, &[]);
 }
 
+/// Removes the first and the last pixel of the range with this index, and inserts them.
+fn shorten(rt: &impl Abort, alloc: Global, set: &mut Coverage, count: u64, index: u64)
+    requires { (count ≤ 4000) × (index ≤ 3999) }
+{
+    let at = 8 * index;
+    assert_eq!(rt; set.remove_range(alloc, at, at + 1), Ok(1));
+    are_triples_except(rt, set, count, index, index + 1, &[(at + 1, at + 3)]);
+    assert_eq!(rt; set.remove_range(alloc, at + 2, at + 3), Ok(1));
+    are_triples_except(rt, set, count, index, index + 1, &[(at + 1, at + 2)]);
+    assert_eq!(rt; set.insert_range(alloc, at, at + 1), Ok(1));
+    assert_eq!(rt; set.insert_range(alloc, at + 2, at + 3), Ok(1));
+    are_triples_except(rt, set, count, 0, 0, &[]);
+    assert_eq!(rt; set.count(), 3 * count);
+}
+
 /// Makes each of these edits at the range with this index, and undoes it.
 fn edit_at(rt: &impl Abort, alloc: Global, set: &mut Coverage, count: u64, index: u64)
     requires { (count ≤ 4000) × (index ≤ 3998) }
 {
     insert_between(rt, alloc, set, count, index);
     cut_into_two(rt, alloc, set, count, index);
+    shorten(rt, alloc, set, count, index);
     remove_one(rt, alloc, set, count, index);
     join_with_next(rt, alloc, set, count, index);
     remove_across(rt, alloc, set, count, index);

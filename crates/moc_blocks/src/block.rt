@@ -68,7 +68,7 @@ fn insert_into(
     Ok(())
 }
 
-/// Changes ranges of a list.
+/// Applies a splice to a list. A full list grows by `GROWTH`.
 fn splice_list(ranges: &mut Vec<(u64, u64)>, splice: Splice) -> Result<(), AllocError>
     requires { FitsSplice splice (length ranges.old.items) }
     ensures put { OnOk result (ranges.new.items ≡ after_splice splice ranges.old.items) }

@@ -1,4 +1,4 @@
--- Where a line is invalid.
+-- The place of the error in an invalid line.
 use Rattle.std.specs.Prelude.{ℕ, suc, ◌+◌, ◌-◌, Bool, ◌==◌, nat_eq, min, List, [], ◌∷◌, codes, length, if◌then◌else◌}
 use Rattle.std.specs.List.{prefix_len, starts_with}
 use Rattle.std.specs.Option.{unwrap_or}
@@ -28,7 +28,8 @@ error_in_piece (Coverage error) piece =
     length piece - length text + min (unwrap_or (error_byte error) 0) (length text)
 error_in_piece error piece = prefix_len is_line_blank piece
 
--- the place of an error, in the first piece that it is about; the first of the pieces has a number and an offset
+-- the place of an error among the last pieces of a line; the number and the offset are those of the first of these
+-- pieces
 abbrev pub place_among : LineError → ℕ → ℕ → List (List ℕ) → LinePlace
 place_among error number offset [] = record { command = number; byte = offset }
 place_among error number offset (piece ∷ pieces) =

@@ -1,4 +1,4 @@
-//! Where a line is invalid.
+//! Finds the place of the error in an invalid line.
 ghost use Rattle.std.specs.Prelude.{◌≡◌, ◌≤◌, length, IfOk};
 ghost use Rattle.moc_lines.specs.Places.{coverage_text, error_in_piece, error_place, is_about};
 
@@ -14,12 +14,12 @@ use std::alloc::Global;
 pub struct LinePlace {
     /// The number of the invalid command, from 0.
     pub command: usize,
-    /// The offset of a byte, from 0: of the error in a coverage, or else of the first byte of the command.
+    /// The offset in the line, from 0: of the error in a coverage, or otherwise of the first byte of the command.
     pub byte: usize,
 }
 
-/// Returns whether an error of a line is about the piece with a number: too many commands about the 17th, any other
-/// error about each invalid piece.
+/// Returns whether an error of a line is about the piece with this number. `TooManyCommands` is about the 17th piece,
+/// any other error about each invalid piece. Fails with `Memory` if an allocation fails.
 fn is_about(alloc: Global, error: LineError, number: usize, piece: &[u8]) -> Result<bool, Memory>
     ensures { IfOk result (λ is. is ≡ is_about error number piece.now) }
 {
@@ -60,13 +60,14 @@ fn error_in_piece(error: LineError, piece: &[u8]) -> usize
     piece.len() - text.len() + offset
 }
 
-/// Returns where the error of an invalid line is: in the first invalid command, or in the 17th if there are too many.
+/// Returns the place of an error that `read_batch` returned for this line. If no piece has the error, the place is
+/// after the last command.
 ///
 /// # Errors
 /// Fails with `Memory` if an allocation fails.
 ///
 /// # Complexity
-/// That of parsing the line again.
+/// The cost of parsing the line again.
 pub fn place_of_error(alloc: Global, line: &[u8], error: LineError) -> Result<LinePlace, Memory>
     ensures { IfOk result (λ place. place ≡ error_place error line.now) }
 {

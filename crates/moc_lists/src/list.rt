@@ -176,11 +176,12 @@ impl RangeList {
     }
 
     /// Inserts a range if this changes only one block, or two adjacent blocks of a node, and returns the number of new
-    /// pixels. Up to two ranges are changed in place if no other list shares their block and the blocks of its node.
-    /// Otherwise the block is rebuilt. It is replaced in its node if no other list shares the blocks of the node and it
-    /// stays one block; otherwise it is put into a new node that shares the other blocks. Two blocks are rebuilt if the
-    /// fill rule requires it. Returns `None` if the range touches more blocks, if the fill rule would still be broken,
-    /// or if a list without blocks would have more than 128 ranges; the list is then unchanged.
+    /// pixels. Up to two ranges are changed in place if no other list shares their block or its node, the range touches
+    /// no other block, and the fill rule still holds. Otherwise the block is rebuilt. It is replaced in its node if no
+    /// other list shares the blocks of the node and it stays one block; otherwise it is put into a new node that shares
+    /// the other blocks. Two blocks are rebuilt if the fill rule requires it. Returns `None` if the range touches more
+    /// blocks, if the fill rule would still be broken, or if a list without blocks would have more than 128 ranges; the
+    /// list is then unchanged.
     ///
     /// # Errors
     ///
@@ -203,10 +204,10 @@ impl RangeList {
     }
 
     /// Removes the pixels of a range if this changes only one block, or two adjacent blocks of a node, and returns the
-    /// number of removed pixels. Blocks are changed in place or rebuilt as by `insert`; two blocks are rebuilt also if
-    /// one would be empty.
-    /// Returns `None` if the range touches more blocks, if the fill rule would still be broken, or if a list without
-    /// blocks would have more than 128 ranges; the list is then unchanged.
+    /// number of removed pixels. One range is changed in place under the conditions of `insert`. Otherwise blocks are
+    /// rebuilt as by `insert`; two blocks are rebuilt also if one would be empty. Returns `None` if the range touches
+    /// more blocks, if the fill rule would still be broken, or if a list without blocks would have more than 128
+    /// ranges; the list is then unchanged.
     ///
     /// # Errors
     ///

@@ -202,9 +202,9 @@ impl Nodes {
         None
     }
 
-    /// Inserts or removes a range if this changes up to two ranges of one block in place, and returns whether it
-    /// succeeded. Returns `false` if the range touches more of them or another block, if the block or the blocks of its
-    /// node are shared, or if the fill rule would be broken; the nodes are then unchanged.
+    /// Changes one block in place to insert or remove a range, and returns whether it did. Returns `false` if the range
+    /// touches another block or more ranges than a splice can change, if the block or its node is shared, or if the
+    /// fill rule would be broken; the nodes are then unchanged.
     fn edit_in_place(&mut self, edit: EditKind, from: u64, to: u64) -> Result<bool, AllocError>
         requires stored { IsStored [] self.old }
         requires filled { from < to }
@@ -302,8 +302,9 @@ impl Nodes {
         Ok(())
     }
 
-    /// Inserts or removes a range as `edit` does, but rebuilds the blocks that change. One block is replaced in its
-    /// node if the node is not shared and it stays one block. Otherwise the node is rebuilt.
+    /// Inserts or removes a range by rebuilding one block, or two adjacent blocks of a node, and returns whether it
+    /// succeeded. One rebuilt block is replaced in its node if the node is not shared and the block is not split.
+    /// Otherwise the node is rebuilt. If the result is `false`, the nodes are unchanged.
     fn rebuild(
         &mut self,
         alloc: Global,
@@ -346,8 +347,9 @@ impl Nodes {
     }
 
     /// Inserts or removes a range if this changes only one block, or two adjacent blocks of a node, and returns whether
-    /// it succeeded. Up to two ranges of a block are changed in place. Otherwise the blocks are rebuilt. Returns
-    /// `false` if the range touches more blocks, or if the fill rule would be broken; the nodes are then unchanged.
+    /// it succeeded. The block is changed in place if possible (`edit_in_place`). Otherwise blocks are rebuilt
+    /// (`rebuild`). Returns `false` if the range touches more blocks, or if the fill rule would be broken; the nodes
+    /// are then unchanged.
     fn edit(
         &mut self,
         alloc: Global,

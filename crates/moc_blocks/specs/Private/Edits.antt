@@ -132,7 +132,7 @@ pub record IsBlockEdit (edit : EditKind) (from to : ℕ) (nodes : List (List (Li
   pub place : block ≡ length left
   pub edited_block : IsEditedBlock edit from to (concat before) (concat after) old left run right ranges []
 
--- the positions of a splice are in a list of a length
+-- a list of the given length has the positions that a splice changes
 abbrev pub FitsSplice : Splice → ℕ → Type 0
 FitsSplice (SpliceInsert place range) n = place ≤ n
 FitsSplice (SpliceReplace place range) n = place < n
@@ -164,7 +164,7 @@ old_ranges (SpliceRemove place) ranges = take 1 (drop place ranges)
 old_ranges (SpliceSplit place first second) ranges = take 1 (drop place ranges)
 old_ranges (SpliceJoin place range) ranges = take 2 (drop place ranges)
 
--- the ranges that a splice puts in their place
+-- the new ranges of a splice
 abbrev pub new_ranges : Splice → List (ℕ × ℕ)
 new_ranges (SpliceInsert place range) = range ∷ []
 new_ranges (SpliceReplace place range) = range ∷ []
@@ -177,7 +177,8 @@ pub record IsSplice (edit : EditKind) (from to : ℕ) (ranges : List (ℕ × ℕ
   pub fits : FitsSplice splice (length ranges)
   pub edited : AreEditedRanges edit from to ranges (after_splice splice ranges)
 
--- a block of a length obeys the fill rule between blocks of two other lengths, of which 0 stands for no block
+-- a block of one length obeys the fill rule between blocks of two other lengths; the length 0 means that there is no
+-- block
 pub record KeepsFillRule (before length after : ℕ) : Type 0 where
   pub some : 0 < length
   pub fits : length ≤ max_block_ranges

@@ -139,8 +139,9 @@ fn insertion(ranges: &[(u64, u64)], about: usize, from: u64, to: u64) -> Option<
     }
 }
 
-/// Returns how the removal of a range changes ranges, or `None` if it changes two of them, or none. The range is
-/// expected near the position `about`.
+/// Returns how the removal of a range changes ranges. Returns `None` if it changes more than one of them, or if all of
+/// them end at or before `from`. A range that is not met is replaced by itself. The range is expected near the position
+/// `about`.
 fn removal(ranges: &[(u64, u64)], about: usize, from: u64, to: u64) -> Option<Splice>
     requires normal { IsNormal ranges.now }
     requires filled { from < to }
@@ -200,8 +201,8 @@ fn keeps_fill_rule(before: usize, length: usize, after: usize) -> bool
         && (after == 0 || after > MAX_BLOCK_RANGES - length)
 }
 
-/// Returns how an edit with a range changes one block in place. Returns `None` if the range touches another block, if
-/// more than two ranges change, or if the fill rule would be broken.
+/// Returns how an edit with a range changes one block in place. Returns `None` if the range touches a later block, if
+/// an insertion touches more than two ranges, if a removal changes more than one, or if the fill rule would be broken.
 ///
 /// # Complexity
 ///

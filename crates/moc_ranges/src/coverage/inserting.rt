@@ -20,7 +20,7 @@ impl Coverage {
     /// # Complexity
     ///
     /// Usually O(log n), also if blocks are shared. Up to two ranges of a block are changed in place if no other set
-    /// shares the block, the range touches no other block, and the fill rule stays true. Otherwise the block is
+    /// shares the block, the range touches no other block, and the fill rule still holds. Otherwise the block is
     /// rebuilt. The pointers to the other blocks of its node are copied if another set shares the node, if the block is
     /// split, or if two blocks are rebuilt. One step for each later node is added if the number of blocks changes. The
     /// cost is the cost of a union if the range touches three blocks or blocks of two nodes, or if two blocks cannot

@@ -20,7 +20,7 @@ impl Coverage {
     /// # Complexity
     ///
     /// Usually O(log n), also if blocks are shared. One range of a block is changed in place if no other set shares the
-    /// block, the range touches no other block, and the fill rule stays true. Otherwise the block is rebuilt. A
+    /// block, the range touches no other block, and the fill rule still holds. Otherwise the block is rebuilt. A
     /// neighbour in its node is rebuilt too if the range reaches it, if the block would be empty, or if two adjacent
     /// blocks would fit into one. The pointers to the other blocks of the node are copied if another set shares the
     /// node, if the block is split, or if two blocks are rebuilt. One step for each later node is added if the number
