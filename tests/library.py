@@ -21,6 +21,7 @@ from __future__ import annotations
 import os
 import re
 import shutil
+import signal
 import subprocess
 import sys
 import tempfile
@@ -73,9 +74,12 @@ MIN_FAILURES = 20
 
 
 def run(command: list[str], **environment: str) -> subprocess.CompletedProcess[str]:
-    """Runs a command with additional environment variables."""
-    return subprocess.run(command, stdin=subprocess.DEVNULL, stdout=subprocess.PIPE, stderr=subprocess.PIPE, text=True, timeout=TIME_LIMIT,
-                          env=dict(os.environ, **environment))
+    """Runs a command with additional environment variables. A command that takes longer than the time limit ends with status -9."""
+    try:
+        return subprocess.run(command, stdin=subprocess.DEVNULL, stdout=subprocess.PIPE, stderr=subprocess.PIPE, text=True,
+                              timeout=TIME_LIMIT, env=dict(os.environ, **environment))
+    except subprocess.TimeoutExpired:
+        return subprocess.CompletedProcess(command, -signal.SIGKILL, "", f"{command[0]} takes longer than {TIME_LIMIT} seconds\n")
 
 
 def read_text(*path: str) -> str:
@@ -299,8 +303,9 @@ def check_empty_arrays(tally: Tally, folder: str) -> None:
 
 def stub_of(function: Function) -> str:
     """Returns a replacement in C of a proved function for `threads.c`, which may run in several threads."""
-    codes_of = {"proved_map_apply": "__atomic_load_n(&applied, __ATOMIC_SEQ_CST), length"}
-    codes_of["proved_map_join"] = "0, __atomic_fetch_add(&joined, 1, __ATOMIC_SEQ_CST)"
+    codes_of = {"proved_map_apply": "(__atomic_fetch_add(&tries, 1, __ATOMIC_SEQ_CST), __atomic_load_n(&applied, __ATOMIC_SEQ_CST)), "
+                                    "length",
+                "proved_map_join": "0, __atomic_fetch_add(&joined, 1, __ATOMIC_SEQ_CST)"}
     value = {RESULT: f"return ({RESULT}){{{codes_of.get(function.name, '0, 0')}, 0}};", "bool": "return true;", "void": ""}[function.result]
     return f"{function.result} moc_{function.name}({', '.join(function.arguments)}) {{ {value} }}\n"
 
@@ -310,7 +315,7 @@ def check_locks(tally: Tally, folder: str) -> None:
     functions = parse_header(read_text(HEADER))
     replaced = parse_header("".join(f"{line};\n" for line in proved_declarations(functions)))
     program = os.path.join(folder, "threads")
-    write_text(program + ".c", "".join([guards_source(functions), "static uint32_t applied;\nstatic uint64_t joined;\n",
+    write_text(program + ".c", "".join([guards_source(functions), "static uint32_t applied, tries;\nstatic uint64_t joined;\n",
                                         *map(stub_of, replaced), read_text(TOP, "tests", "c", "threads.c")]))
     result = run([CC, "-std=c11", "-g", "-O1", "-fsanitize=thread", f"-I{folder}", f"-I{os.path.join(TOP, 'tests', 'c')}", program + ".c",
                   "-pthread", "-o", program])

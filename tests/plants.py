@@ -173,7 +173,7 @@ DEFECTS = [
            "            raise errors[min(errors)]", "            raise errors[max(errors)]", "package"),
     # the part of the library for C that is not proved
     Defect("forked_child_keeps_the_locks", "moc_c", "c/handles.c",
-           "pthread_atfork(before_fork, after_fork, after_fork)", "pthread_atfork(before_fork, after_fork, NULL)", "library"),
+           "pthread_atfork(before_fork, after_fork, after_fork_in_child)", "pthread_atfork(before_fork, after_fork, NULL)", "library"),
     Defect("calls_take_no_lock", "moc_c", "c/handles.c",
            "static void enter(struct handle *handle)\n{\n    pthread_mutex_lock(&handle->lock);",
            "static void enter(struct handle *handle)\n{\n    (void)pthread_mutex_trylock(&handle->lock);", "library"),

@@ -110,6 +110,27 @@ int pthread_atfork(void (*before)(void), void (*in_parent)(void), void (*in_chil
 
 /* ---- Waiting. No lock is taken meanwhile. */
 
+/* A map of which some calls go first, apart from that of `any_pause`. */
+enum { FIRST_CALLS = 5 };
+static struct map waited_for = {.first_calls = FIRST_CALLS};
+
+/* Whether the thread may be cancelled. */
+static int cancel_state = PTHREAD_CANCEL_ENABLE;
+
+int pthread_setcancelstate(int state, int *previous)
+{
+    require(state == PTHREAD_CANCEL_ENABLE || state == PTHREAD_CANCEL_DISABLE);
+    *previous = cancel_state;
+    cancel_state = state;
+    return 0;
+}
+
+/* A thread that is cancelled leaves no lock taken, and no call that goes first. */
+void pthread_testcancel(void)
+{
+    require(cancel_state == PTHREAD_CANCEL_ENABLE && locked_handles == 0 && waited_for.first_calls == FIRST_CALLS);
+}
+
 int clock_gettime(clockid_t clock, struct timespec *now)
 {
     (void)clock;
@@ -118,9 +139,11 @@ int clock_gettime(clockid_t clock, struct timespec *now)
     return 0;
 }
 
+/* A thread that is cancelled while it sleeps would not end its wait. */
 int nanosleep(const struct timespec *time, struct timespec *rest)
 {
     require(0 <= time->tv_nsec && time->tv_nsec <= 999999999 && rest == NULL && locked_handles == 0);
+    require(cancel_state == PTHREAD_CANCEL_DISABLE);
     return 0;
 }
 
@@ -344,7 +367,6 @@ static void end_step(void)
 /* A pause after any number of tries, and the end of the call, after which as many calls go first as before. */
 static void any_pause(void)
 {
-    static struct map map;
     struct wait wait = {
         .tries_before_first = any_small_number(),
         .tries = any_small_number(),
@@ -352,12 +374,11 @@ static void any_pause(void)
         .left_out = any_small_number(),
         .end = {Frama_C_long_interval(0, INT64_MAX / 2), Frama_C_long_interval(0, 999999999)},
         .is_left_out = any(),
-        .map = any() ? &map : NULL,
+        .map = any() ? &waited_for : NULL,
     };
-    map.first_calls = 5;
     (void)pause_for_retry(&wait);
     end_wait(&wait);
-    require(map.first_calls == 5);
+    require(waited_for.first_calls == FIRST_CALLS && cancel_state == PTHREAD_CANCEL_ENABLE);
 }
 
 static void any_fork(void)

@@ -117,7 +117,7 @@ void read(Client client, unsigned reader)
     do {
         std::uint64_t pixels = client.count(ORDER, field(generator() % (PARTS / 2), generator() % FIELDS_PER_PART));
         torn += pixels != 0 && pixels != PIXELS_PER_FIELD;
-        if (++reads % 64 == 0) {
+        if (reads++ % 64 == 0) {
             torn += client.coverage(store).count() % PIXELS_PER_FIELD != 0;
             ++copies;
         }
@@ -142,7 +142,7 @@ int main()
         thread.join();
     CHECK(wrong == 0);
     CHECK(torn == 0);
-    CHECK(claims > CALLS / 10 && reads >= READERS);
+    CHECK(claims > CALLS / 10 && reads >= READERS && copies > 0);
     std::vector<std::uint64_t> cells = model.cells();
     CHECK(!cells.empty() && first.coverage(store) == store.cells(ORDER, cells));
     CHECK(first.count(0, {0, 1, 2, 3, 4, 5, 6, 7, 8, 9, 10, 11}) == cells.size() * (PIXELS_PER_FIELD / 2));

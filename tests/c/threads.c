@@ -1,6 +1,7 @@
 /* Tests the locks of stores and clients, the clients that join again, waiting and forks, without the proved functions. library.py puts the
    guards and replacements of the proved functions before this file, and runs the program with the thread sanitizer. The replacement of
-   `moc_map_apply` returns the code `applied` and the length of its line, and that of `moc_map_join` returns 0, 1, 2 and so on. */
+   `moc_map_apply` counts its calls in `tries`, and returns the code `applied` and the length of its line. That of `moc_map_join` returns 0,
+   1, 2 and so on. */
 #include "checks.h"
 
 #include <signal.h>
@@ -70,6 +71,109 @@ static void timeouts(void)
     nanosleep(&(struct timespec){0, 100000000}, NULL);
     __atomic_store_n(&applied, MOC_OK, __ATOMIC_SEQ_CST);
     CHECK(pthread_join(thread, NULL) == 0 && result.code == MOC_OK);
+}
+
+/* Returns how many calls go first in the map of a client. */
+static uint32_t first_calls(const moc_client *of)
+{
+    const struct handle *handle = of->at;
+    return __atomic_load_n(&handle->map->first_calls, __ATOMIC_SEQ_CST);
+}
+
+static void set_first_calls(uint32_t count)
+{
+    struct handle *handle = client.at;
+    __atomic_store_n(&handle->map->first_calls, count, __ATOMIC_SEQ_CST);
+}
+
+/* Returns how many tries a call with this timeout leaves out before it tries. */
+static uint32_t left_out_tries(uint32_t timeout)
+{
+    struct wait wait = {.tries_before_first = 1};
+    uint32_t count = 0;
+    CHECK(is(moc_map_busy_timeout(&client, timeout), MOC_OK, 0, 0));
+    while (count < 1000 && leaves_out(client.at, &wait)) {
+        note_client(&wait, client.at);
+        CHECK(pause_for_retry(&wait));
+        count++;
+    }
+    end_wait(&wait);
+    return count;
+}
+
+/* While another call of the map goes first, a call with a timeout leaves out 16 tries, with 20 microseconds for each, and then tries. */
+static void tries_left_out(void)
+{
+    struct timespec start;
+    set_first_calls(1);
+    CHECK(left_out_tries(0) == 0 && left_out_tries(1) == 16 && left_out_tries(MOC_NO_TIMEOUT) == 16);
+    clock_gettime(CLOCK_MONOTONIC, &start);
+    __atomic_store_n(&tries, 0, __ATOMIC_SEQ_CST);
+    CHECK(moc_map_apply(&client, NULL, 0).code == MOC_OK);
+    CHECK(tries == 1 && seconds_since(&start) >= 16 * 20e-6 && first_calls(&client) == 1);
+    set_first_calls(0);
+    CHECK(left_out_tries(MOC_NO_TIMEOUT) == 0);
+}
+
+/* A line goes first after 16 failed tries, until it ends. */
+static void failed_tries(void)
+{
+    struct wait wait = {.tries_before_first = TRIES_FOR_ONE};
+    for (int i = 1; i <= 20; i++) {
+        CHECK(!leaves_out(client.at, &wait));
+        note_client(&wait, client.at);
+        CHECK(pause_for_retry(&wait) && first_calls(&client) == (i >= 16));
+    }
+    end_wait(&wait);
+    CHECK(first_calls(&client) == 0 && tries_for(0) == 16 && tries_for(1) == 16 && tries_for(2) == 1);
+}
+
+/* A thread that is cancelled while its call goes first leaves no call that goes first. */
+static void cancelled_calls(void)
+{
+    pthread_t thread;
+    moc_result result;
+    void *answer = NULL;
+    CHECK(is(moc_map_busy_timeout(&waiting, MOC_NO_TIMEOUT), MOC_OK, 0, 0));
+    __atomic_store_n(&applied, MOC_BUSY, __ATOMIC_SEQ_CST);
+    CHECK(pthread_create(&thread, NULL, apply_once, &result) == 0);
+    while (first_calls(&waiting) == 0)
+        sched_yield();
+    CHECK(pthread_cancel(thread) == 0 && pthread_join(thread, &answer) == 0 && answer == PTHREAD_CANCELED);
+    CHECK(first_calls(&waiting) == 0);
+    __atomic_store_n(&applied, MOC_OK, __ATOMIC_SEQ_CST);
+    CHECK(moc_map_apply(&waiting, NULL, 0).code == MOC_OK);
+}
+
+/* In a forked child no call goes first, because the other threads are not there. In the parent nothing changes. */
+static void first_calls_after_fork(void)
+{
+    int status = -1;
+    set_first_calls(1);
+    pid_t child = fork();
+    if (child == 0) {
+        alarm(20);
+        _exit(first_calls(&client) == 0 && moc_map_apply(&client, NULL, 0).code == MOC_OK ? 0 : 1);
+    }
+    CHECK(child > 0 && waitpid(child, &status, 0) == child && status == 0);
+    CHECK(first_calls(&client) == 1);
+    set_first_calls(0);
+}
+
+/* Calls that go first, on a map of two clients. */
+static void going_first(void)
+{
+    CHECK(is(moc_map_begin(&client, stores, 0, 2), MOC_OK, 0, 0));
+    CHECK(moc_map_join(&client, &waiting).code == MOC_OK);
+    tries_left_out();
+    failed_tries();
+    for (int i = 0; i < 20; i++)
+        cancelled_calls();
+    first_calls_after_fork();
+    moc_client_close(&client);
+    moc_client_close(&waiting);
+    __atomic_store_n(&joined, 0, __ATOMIC_SEQ_CST);
+    CHECK(moc_client_open(&client) && moc_client_open(&waiting));
 }
 
 static void *share_always(void *to)
@@ -210,6 +314,7 @@ int main(void)
     CHECK(moc_store_open(stores) && moc_store_open(stores + 1) && moc_client_open(&client) && moc_client_open(&waiting));
     line_ends();
     timeouts();
+    going_first();
     opposite_shares();
     calls_with_both();
     CHECK(is(moc_map_begin(&client, stores, 0, CLIENTS), MOC_OK, 0, 0));

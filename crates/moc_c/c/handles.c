@@ -78,13 +78,22 @@ static void after_fork(void)
     pthread_mutex_unlock(&handles_lock);
 }
 
+/* The calls of other threads do not continue in the child, so that none of them goes first there. */
+static void after_fork_in_child(void)
+{
+    for (struct handle *handle = first_handle; handle; handle = handle->next)
+        if (handle->map)
+            __atomic_store_n(&handle->map->first_calls, 0, __ATOMIC_RELAXED);
+    after_fork();
+}
+
 /* Returns whether forks take the locks, which the first call of this function arranges. Returns false if an allocation fails. */
 static bool is_safe_to_fork(void)
 {
     static bool is_arranged;
     pthread_mutex_lock(&handles_lock);
     if (!is_arranged)
-        is_arranged = pthread_atfork(before_fork, after_fork, after_fork) == 0;
+        is_arranged = pthread_atfork(before_fork, after_fork, after_fork_in_child) == 0;
     bool is_safe = is_arranged;
     pthread_mutex_unlock(&handles_lock);
     return is_safe;
@@ -389,17 +398,28 @@ static moc_result set_timeout(struct handle *client, uint32_t milliseconds)
 
 /* ---- Waiting */
 
-/* After how many failed tries a call goes first. The failed tries so far, its timeout, and when the last try begins. Whether its last try was
-   left out so that another call goes first, and how many were. The map of its client, and the map in which it goes first itself, or NULL. */
+/* The state of a call that may wait for parts of a map. */
 struct wait {
-    uint32_t tries_before_first, tries, timeout, left_out;
+    /* The number of failed tries after which the call goes first. */
+    uint32_t tries_before_first;
+    /* The number of failed tries so far, without those that were left out. */
+    uint32_t tries;
+    /* The timeout in milliseconds. */
+    uint32_t timeout;
+    /* The number of tries that were left out because other calls went first. */
+    uint32_t left_out;
+    /* The time at which the timeout has passed. It is set after the first failed try, unless the call waits without a limit. */
     struct timespec end;
+    /* Whether the last try was left out. */
     bool is_left_out;
-    struct map *map, *first_in;
+    /* The map of the client, or NULL. */
+    struct map *map;
+    /* The map in which the call goes first, or NULL if it does not. */
+    struct map *first_in;
 };
 
-/* After how many tries a call goes first: a call that may need one part, such as a line of commands, and a call that needs many parts. After
-   a quarter of these tries, it lets other threads run. */
+/* After how many tries a call goes first: a call that may need one part, such as a line, and a call that needs many parts. After
+   each try of the first quarter of them, it lets other threads run and does not sleep. */
 enum { TRIES_FOR_ONE = 16, TRIES_FOR_MANY = 1 };
 
 /* After SHORT_TRIES a call sleeps longer. The pauses are in nanoseconds. A call leaves out at most MOST_LEFT_OUT tries for others. */
@@ -411,7 +431,7 @@ static uint32_t tries_for(size_t cells)
     return cells > 1 ? TRIES_FOR_MANY : TRIES_FOR_ONE;
 }
 
-/* Returns whether a call leaves out a try, because other calls of its map have waited for long. A call without a timeout never does. */
+/* Returns whether a call leaves out a try because other calls of its map go first. A call without a timeout never does. */
 static bool leaves_out(const struct handle *client, struct wait *wait)
 {
     wait->is_left_out = client->map && client->timeout && !wait->first_in && wait->left_out < MOST_LEFT_OUT
@@ -427,6 +447,13 @@ static void note_client(struct wait *wait, const struct handle *client)
         wait->timeout = client->timeout;
 }
 
+/* Counts a call that goes first. */
+static void count_first(const struct wait *wait)
+{
+    if (wait->first_in)
+        __atomic_fetch_add(&wait->first_in->first_calls, 1, __ATOMIC_RELAXED);
+}
+
 /* Ends the waiting of a call. */
 static void end_wait(const struct wait *wait)
 {
@@ -434,9 +461,17 @@ static void end_wait(const struct wait *wait)
         __atomic_fetch_sub(&wait->first_in->first_calls, 1, __ATOMIC_RELAXED);
 }
 
-static void sleep_for(long nanoseconds)
+/* Sleeps. The thread can be cancelled at the end only. A call that goes first is not counted at that moment, because a cancelled thread
+   does not return to its call. */
+static void sleep_for(const struct wait *wait, long nanoseconds)
 {
+    int state;
+    pthread_setcancelstate(PTHREAD_CANCEL_DISABLE, &state);
     nanosleep(&(struct timespec){0, nanoseconds}, NULL);
+    end_wait(wait);
+    pthread_setcancelstate(state, &state);
+    pthread_testcancel();
+    count_first(wait);
 }
 
 static bool is_before(const struct timespec *a, const struct timespec *b)
@@ -445,14 +480,13 @@ static bool is_before(const struct timespec *a, const struct timespec *b)
 }
 
 /* Pauses after a try that found a part held or was left out, and returns true; or returns false if the timeout has passed. At first other
-   threads run; later the thread sleeps. A call that has waited for long goes first: others leave out some of their tries, and it does not
-   sleep. */
+   threads run; later the thread sleeps. A call that goes first sleeps like any other, but other calls leave out some of their tries. */
 static bool pause_for_retry(struct wait *wait)
 {
     struct timespec now;
     if (wait->is_left_out) {
         wait->left_out++;
-        sleep_for(SHORT_PAUSE);
+        sleep_for(wait, SHORT_PAUSE);
         return true;
     }
     if (!wait->timeout)
@@ -475,12 +509,12 @@ static bool pause_for_retry(struct wait *wait)
         wait->tries++;
     if (wait->tries == wait->tries_before_first && wait->map) {
         wait->first_in = wait->map;
-        __atomic_fetch_add(&wait->map->first_calls, 1, __ATOMIC_RELAXED);
+        count_first(wait);
     }
     if (wait->tries <= wait->tries_before_first / 4)
         sched_yield();
     else
-        sleep_for(wait->tries <= SHORT_TRIES ? SHORT_PAUSE : LONG_PAUSE);
+        sleep_for(wait, wait->tries <= SHORT_TRIES ? SHORT_PAUSE : LONG_PAUSE);
     return true;
 }
 

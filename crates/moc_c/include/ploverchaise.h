@@ -18,10 +18,10 @@
 
    All other arguments are allowed. An invalid id, order, cell or length gets its code. An order or a number of clients above 255 is
    reported as 254. A number that is not a pixel is in no coverage. An invalid pointer is reported before any other error; nothing is
-   then read, and nothing but a text is written. A null pointer gets MOC_NULL, and so does a pointer to a store or client that is zeroed,
-   as after a failed open or a close. Otherwise a pointer that is not aligned for its type gets MOC_MISALIGNED. Otherwise what is not
-   `const` gets MOC_OVERLAP if it overlaps another argument, and so does a store or a client that is a copy of another argument. An array
-   of length 0 may be at any pointer, and overlaps nothing. */
+   then read, and nothing is written but a text or the store that a call would open, which is zeroed. A null pointer gets MOC_NULL, and so
+   does a pointer to a store or client that is zeroed, as after a failed open or a close. Otherwise a pointer that is not aligned for its
+   type gets MOC_MISALIGNED. Otherwise what is not `const` gets MOC_OVERLAP if it overlaps another argument, and so does a store or a client
+   that is a copy of another argument. An array of length 0 may be at any pointer, and overlaps nothing. */
 #ifndef PLOVERCHAISE_H
 #define PLOVERCHAISE_H
 
@@ -170,6 +170,8 @@ enum {
     MOC_LINE_BACKWARDS = 59,
     /* a word of a coverage is incomplete */
     MOC_LINE_UNFINISHED = 60,
+
+    /* Errors of schedules. No call returns them, and they have no numbers */
     /* a client number of a schedule is above 4294967295 */
     MOC_LINE_CLIENT_TOO_LARGE = 61,
     /* a part number of a schedule is above 11 */
@@ -260,8 +262,9 @@ MOC_CHECKED moc_result moc_open_symmetric(const moc_store *first, uint64_t a, co
 /* Frees the coverage with an id, which is not used again. MOC_NO_SUCH_SET. */
 moc_result moc_free(moc_store *store, uint64_t a);
 
-/* ---- Queries. Each function returns its value as `first`, where yes is 1 and no is 0, and allocates nothing. MOC_NO_SUCH_SET for the
-   first id without a coverage. To look up a pixel takes O(log n) for n ranges; any other query takes at most one pass over the ranges. */
+/* ---- Queries. Each function returns its value as `first`, where yes is 1 and no is 0, and allocates nothing, except for `moc_pair_..`.
+   MOC_NO_SUCH_SET for the first id without a coverage. To look up a pixel takes O(log n) for n ranges; any other query takes at most one
+   pass over the ranges. */
 
 /* The number of pixels of order 29 of a coverage, and of those that two coverages have in common. */
 MOC_CHECKED moc_result moc_count(const moc_store *store, uint64_t a);
@@ -279,8 +282,8 @@ MOC_CHECKED moc_result moc_meets(const moc_store *store, uint64_t a, uint64_t b)
 MOC_CHECKED moc_result moc_covers(const moc_store *store, uint64_t a, uint64_t b);
 MOC_CHECKED moc_result moc_same(const moc_store *store, uint64_t a, uint64_t b);
 
-/* The same queries for coverages of two stores, which may be the same store. The locks of the stores are held while the ranges are shared,
-   and not during the query. MOC_MEMORY if an allocation fails. */
+/* The four queries of two coverages, for coverages of two stores, which may be one store. They allocate a store. The locks of the two
+   stores are held while the ranges are shared, and not during the query. MOC_MEMORY if an allocation fails. */
 MOC_CHECKED moc_result moc_pair_count_common(const moc_store *first, uint64_t a, const moc_store *second, uint64_t b);
 MOC_CHECKED moc_result moc_pair_meets(const moc_store *first, uint64_t a, const moc_store *second, uint64_t b);
 MOC_CHECKED moc_result moc_pair_covers(const moc_store *first, uint64_t a, const moc_store *second, uint64_t b);
@@ -364,7 +367,8 @@ MOC_CHECKED moc_result moc_map_begin(moc_client *client, const moc_store *store,
    then MOC_NO_MAP, then MOC_NO_CLIENT if all clients of the map are open. */
 MOC_CHECKED moc_result moc_map_join(moc_client *client, moc_client *other);
 /* Sets for how many milliseconds later calls of a client wait for parts. 0: they do not wait. MOC_NO_TIMEOUT: they wait until the parts are
-   free. */
+   free. If another call of the map goes first because it has failed to get its parts, a call with a timeout leaves out up to sixteen tries,
+   also before its first try. It sleeps for at least 20 microseconds instead of each, in addition to the timeout. */
 moc_result moc_map_busy_timeout(moc_client *client, uint32_t milliseconds);
 
 /* Executes the commands of a line, separated by `;`, as `moc run` does: all of them in one atomic step, or none. The replies are those that
