@@ -34,11 +34,6 @@ RANGES, LENGTH = 600_000, 8_000_000
 TURNS = 10
 
 
-def max_latency() -> float:
-    """Returns the time that a call may take after a signal, in seconds. It is longer if more threads are ready than processors exist."""
-    return MAX_LATENCY * max(1.0, os.getloadavg()[0] / (os.cpu_count() or 1))
-
-
 class Interrupted(Exception):
     """What the signal handler of the tests raises."""
 
@@ -68,13 +63,8 @@ class Interrupts(TestCase):
     """Ctrl-C during long calls. Each call is repeated until the signal arrives."""
 
     def assertInterrupted(self, call: Callable[[], object]) -> float:
-        """Checks that a call ends soon after a signal, at least in one of three tries. Returns the time in seconds."""
-        latency = self.interrupt(call)
-        for _ in range(2):
-            if latency > max_latency():
-                latency = self.interrupt(call)
-        self.assertLess(latency, max_latency())
-        return latency
+        """Checks that a call ends soon after a signal. Returns the time in seconds."""
+        return self.assertSoon(lambda: self.interrupt(call), MAX_LATENCY)
 
     def interrupt(self, call: Callable[[], object]) -> float:
         """Repeats a call until a signal arrives. Returns the time in seconds from the signal to the exception."""
