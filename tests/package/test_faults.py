@@ -8,6 +8,7 @@ from collections.abc import Callable, Iterator, Sequence
 from typing import Any
 
 from ploverchaise import MOC, MocError, get_all_neighbours, neighbours, nest2ring, nest2uniq, pix2xyf, ring2nest, uniq2nest
+from ploverchaise.moc import Format
 
 from .common import PIXELS, TestCase
 
@@ -158,6 +159,19 @@ class Errors(TestCase):
             with self.subTest(end=end), self.assertRaises((TypeError, ValueError)) as caught:
                 call()
             self.assertTrue(str(caught.exception).endswith(end), caught.exception)
+
+    def test_quotations_of_long_texts(self) -> None:
+        """Checks that the error of a text of 256 KiB has a quotation, and that of a longer text has none."""
+        rows: tuple[tuple[Format, str, str, str], ...] = (("ascii", "29/0", " 5/7x", "`5/7x`"), ("json", '{"1":[0', ",48]}", "`48`"),
+                                                          ("uniq", "4", "\n3", "`3`"))
+        for text_format, start, end, quotation in rows:
+            for length, detail in ((2**18, quotation), (2**18 + 1, "")):
+                text = start + " " * (length - len(start) - len(end)) + end
+                if text_format == "uniq":
+                    text = "\n" * (length - len(start) - len(end)) + start + end
+                with self.subTest(format=text_format, length=length), self.assertRaises(MocError) as caught:
+                    MOC.from_string(text, text_format)
+                self.assertEqual((len(text), caught.exception.detail), (length, detail))
 
     def test_stated_order_is_too_coarse(self) -> None:
         moc = MOC.from_string("1/1-2 4 2/12-14 21 23 25 8/")

@@ -242,6 +242,16 @@ class Waiting(TestCase):
 
         self.assertSoon(lambda: self.longest_stall(work), MAX_STALL)
 
+    def test_other_threads_run_during_an_error(self) -> None:
+        """Checks that a thread runs every 0.1 seconds while another one parses long texts with an error."""
+        text = '{"29":[' + "[]," * 1_300_000 + "0]}"
+
+        def work() -> None:
+            for _ in range(4):
+                self.assertFault("NotWhole", (0, 0), MOC.from_string, text, "json")
+
+        self.assertSoon(lambda: self.longest_stall(work), MAX_STALL)
+
     def longest_stall(self, work: Callable[[], None]) -> float:
         """Returns the longest time in seconds for which this thread does not run while another one works."""
         longest, is_ended, ended_well = 0.0, threading.Event(), []
