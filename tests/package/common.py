@@ -6,10 +6,11 @@ import os
 import random
 import threading
 import unittest
-from collections.abc import Callable, Iterable
+from collections.abc import Callable, Iterable, Iterator
+from contextlib import contextmanager
 from typing import Any, TypeVar
 
-from ploverchaise import MOC, MocError
+from ploverchaise import MOC, MocError, SharedMap
 
 TOP = os.path.dirname(os.path.dirname(os.path.dirname(os.path.abspath(__file__))))
 PIXELS = 12 * 4**29
@@ -46,6 +47,25 @@ def sorted_ranges(numbers: Iterable[int]) -> list[tuple[int, int]]:
         else:
             ranges.append((number, number + 1))
     return ranges
+
+
+@contextmanager
+def held_map() -> Iterator[SharedMap]:
+    """Makes a map whose parts a client of another thread holds almost all the time, in lines of some tenths of a second."""
+    shared = SharedMap(MOC.from_healpix_cells(range(0, 2_000_000, 2), 11))
+    holder, is_ended = shared.client(), threading.Event()
+
+    def hold() -> None:
+        while not is_ended.is_set():
+            holder.apply("invert" + " ; invert" * 15)
+
+    thread = threading.Thread(target=hold)
+    thread.start()
+    try:
+        yield shared
+    finally:
+        is_ended.set()
+        thread.join()
 
 
 class TestCase(unittest.TestCase):

@@ -17,7 +17,7 @@ from typing import Any
 from ploverchaise import MOC, get_all_neighbours, neighbours, nest2ring, nest2uniq, pix2xyf, ring2nest, uniq2nest
 from ploverchaise.moc import Format
 
-from .common import NUMBERS, TestCase
+from .common import NUMBERS, TestCase, held_map
 from .test_sharing import MAX_GROWTH_KIB, used_memory
 
 numpy: Any = None
@@ -140,6 +140,12 @@ class Interrupts(TestCase):
         duration = time.monotonic() - start
         latencies = [self.assertInterrupted(lambda: MOC.from_string(text, "json")) for _ in range(5)]
         self.assertLess(sorted(latencies)[2], duration / 4)
+
+    def test_a_call_that_waits(self) -> None:
+        """Checks that signal handlers run while a call waits for a part of a map."""
+        with held_map() as shared:
+            client = shared.client()
+            self.check({"apply": lambda: client.apply("count 0/0"), "moc": client.moc})
 
     def test_nothing_is_leaked(self) -> None:
         moc, start = MOC.from_healpix_cells(range(0, 2 * RANGES, 2), 11), 0
