@@ -141,7 +141,7 @@ DEFECTS = [
            "map_tests steps::a_world_is_debugged_by_its_operations"),
     # the Python package
     Defect("timeout_never_ends", "", "python/ploverchaise/shared.py",
-           "if error.code != BUSY or (ends is not None and time.monotonic() >= ends):", "if error.code != BUSY:", "package"),
+           "if error.code != BUSY or time.monotonic() >= ends:", "if error.code != BUSY:", "package"),
     Defect("map_drops_the_timeout", "", "python/ploverchaise/shared.py",
            "        return self._client.apply(line, timeout)", "        return self._client.apply(line)", "package"),
     Defect("cells_of_several_orders_are_not_degraded", "", "python/ploverchaise/moc.py",
@@ -152,8 +152,8 @@ DEFECTS = [
            '_close_store = declare_function(library, "store_close", None, STORE)\n'
            'setattr(StoreHandle, "__del__", lambda store: _close_store(store))', "package"),
     Defect("generators_are_sorted", "", "python/ploverchaise/_arrays.py",
-           "tuple[int, ...](), iter(numbers)",
-           "tuple[int, ...](), iter(numbers if isinstance(numbers, (list, tuple, range, array)) else sorted(numbers))",
+           'array("Q"), iter(numbers)',
+           'array("Q"), iter(numbers if isinstance(numbers, (list, tuple, range, array)) else sorted(numbers))',
            "package"),
     Defect("long_calls_ignore_signals", "", "python/ploverchaise/_library.py",
            "    if threading.current_thread() is not threading.main_thread():\n", "    if True:\n", "package"),

@@ -21,8 +21,9 @@ if TYPE_CHECKING:
 PIECE_LENGTH = 2**18
 """The maximal number of rows that are handled without a step of Python code in between."""
 INVALID_NUMBER = 2**64 - 1
-"""The value that replaces an int outside 0 to 2^64 - 1. It is not a pixel, not a cell number and not a NUNIQ number. The library writes it
+"""The value that replaces an int outside 0 to 2^64 - 2. It is not a pixel, not a cell number and not a NUNIQ number. The library writes it
 for a missing neighbour."""
+_INVALID_BYTES = b"\xff" * 8
 
 # The dtypes of NumPy for the type codes of `array` that outputs use.
 _DTYPES = {"Q": "uint64", "B": "uint8", "I": "uint32"}
@@ -173,17 +174,17 @@ class Output(ABC):
 
 
 def _to_uint64(number: SupportsIndex) -> int:
-    """Returns a number if 64 bits without a sign can hold it, and INVALID_NUMBER otherwise. Raises TypeError if it is not an integer."""
+    """Returns a number if it is 0 to 2^64 - 2, and INVALID_NUMBER otherwise. Raises TypeError if it is not an integer."""
     number = operator.index(number)
-    return number if 0 <= number <= INVALID_NUMBER else INVALID_NUMBER
+    return number if 0 <= number < INVALID_NUMBER else INVALID_NUMBER
 
 
 def _first_outside(numbers: list[SupportsIndex], start: int = 0) -> tuple[int, ...]:
-    """Returns the position and the value of the first number outside 0 to 2^64 - 1, if there is one.
+    """Returns the position and the value of the first number outside 0 to 2^64 - 2, if there is one.
 
     `start` is the position of the first number. Raises TypeError if a number before it is not an integer."""
     values = ((start + position, operator.index(number)) for position, number in enumerate(numbers))
-    return next((pair for pair in values if not 0 <= pair[1] <= INVALID_NUMBER), ())
+    return next((pair for pair in values if not 0 <= pair[1] < INVALID_NUMBER), ())
 
 
 def _flatten_pairs(pairs: Iterable[Any]) -> Iterator[SupportsIndex]:
@@ -192,7 +193,8 @@ def _flatten_pairs(pairs: Iterable[Any]) -> Iterator[SupportsIndex]:
         try:
             start, end = pair
         except (TypeError, ValueError) as error:
-            raise type(error)(f"item {position} is not a pair (from, to): {pair!r}") from None
+            kind = TypeError if isinstance(error, TypeError) else ValueError
+            raise kind(f"item {position} is not a pair (from, to): {pair!r}") from None
         yield start
         yield end
 
@@ -209,7 +211,7 @@ class PlainInput(Input):
     is_scalar : bool
         Whether the argument was a single int. Results are then ints.
     outside : tuple of int
-        The position and the value of the first int outside 0 to 2^64 - 1, if there is one.
+        The position and the value of the first int outside 0 to 2^64 - 2, if there is one.
     """
 
     def __init__(self, numbers: array[int], is_scalar: bool = False, width: int = 1, outside: tuple[int, ...] = ()) -> None:
@@ -220,14 +222,18 @@ class PlainInput(Input):
         """Returns an int or the ints of an iterable. Raises TypeError if a number is not an integer."""
         if not hasattr(numbers, "__iter__"):
             return cls(array("Q", [_to_uint64(numbers)]), True, outside=_first_outside([numbers]))
-        elements, outside, iterator = array("Q"), tuple[int, ...](), iter(numbers)
+        elements, iterator = array("Q"), iter(numbers)
+        outside: tuple[int, ...] = ()
         while piece := list(islice(iterator, PIECE_LENGTH)):
-            part: Any = piece
+            unchecked: Any = piece
             try:
-                elements += array("Q", part)
+                part = array("Q", unchecked)
             except OverflowError:
-                outside = outside or _first_outside(piece, len(elements))
-                elements += array("Q", map(_to_uint64, piece))
+                part = array("Q", map(_to_uint64, piece))
+            # A search of bytes takes a fifth of the time of a search of numbers.
+            if not outside and _INVALID_BYTES in part.tobytes():
+                outside = _first_outside(piece, len(elements))
+            elements += part
         return cls(elements, width=width, outside=outside)
 
     def __len__(self) -> int:
@@ -252,15 +258,15 @@ class PlainInput(Input):
         return [position for position, element in enumerate(self.numbers) if element == number]
 
     def take(self, positions: list[int]) -> PlainInput:
-        outside = tuple[int, ...]()
+        outside: tuple[int, ...] = ()
         if self.outside and self.outside[0] in positions:
             outside = positions.index(self.outside[0]), self.outside[1]
         return PlainInput(array("Q", [self.numbers[position] for position in positions]), outside=outside)
 
     def text_of_row(self, row: int) -> str:
-        """Returns the text of the elements of a row. Only for the first int outside 0 to 2^64 - 1, the value is known."""
+        """Returns the text of the elements of a row. Only for the first int outside 0 to 2^64 - 2, the value is known."""
         texts = {position: str(self.numbers[position]) for position in range(row * self.width, (row + 1) * self.width)}
-        texts |= {position: "a number outside 0 to 2^64 - 1" for position in texts if self.numbers[position] == INVALID_NUMBER}
+        texts |= {position: "a number that is not 0 to 2^64 - 2" for position in texts if self.numbers[position] == INVALID_NUMBER}
         if self.outside and self.outside[0] in texts:
             texts[self.outside[0]] = str(self.outside[1])
         return ", ".join(texts.values())

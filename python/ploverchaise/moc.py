@@ -36,6 +36,9 @@ _PARSERS = {"ascii": "read_ascii", "json": "read_json", "uniq": "read_uniq"}
 _FORMAT_NAMES = {"ascii": "ASCII", "json": "JSON", "uniq": "a NUNIQ list"}
 # A call with MOCs of more ranges, or with a longer text, may take long.
 _MAX_SHORT_RANGES, _MAX_SHORT_TEXT = 500_000, 2**22
+# An error quotes a part only of a text that is not longer. To find the part in JSON, Python parses the text again, and no other thread of
+# Python runs meanwhile.
+_MAX_QUOTED_TEXT = 2**18
 # At most this number of pixels is looked up without a copy of the MOC.
 _MAX_SHORT_LENGTH = 1000
 # At most this number of ascending pixels is looked up at once. The library walks through the ranges with them, from the first one.
@@ -174,8 +177,8 @@ class MOC:
         Raises
         ------
         MocError
-            For the first error of the text. Its `detail` quotes the part that is invalid, or names another format if the text looks like
-            it. The errors are, by format:
+            For the first error of the text. Its `detail` quotes the invalid part of a text of at most 256 KiB, or names another format if
+            the text looks like it. The errors are, by format:
 
             - ASCII, with the position of a byte: `BadByte`, `NoOrder`, `OrderTooLarge`, `CellTooLarge`, `Backwards`, `Unfinished`;
             - JSON, without a position: `NotJson`, `NotObject`; with the position of a name: `BadOrder`, `NotArray`; with those of a name
@@ -1461,13 +1464,13 @@ def _call(function: str, store: StoreHandle, *arguments: Any, is_long: bool) -> 
 
 
 def _text_error(error: MocError, text: bytes, format: str) -> MocError:
-    """Returns the error of a text, with the format that the text looks like, or with a quotation if the text is not long."""
+    """Returns the error of a text, with the format that the text looks like, or with a quotation if the text has at most 256 KiB."""
     from ._diagnostics import likely_format, quotation_of
 
     likely = likely_format(text)
     if likely is not None and likely != format:
         return error._with_detail(f"this looks like {_FORMAT_NAMES[likely]}")
-    return error._with_detail(quotation_of(text, format, error)) if len(text) <= _MAX_SHORT_TEXT else error
+    return error._with_detail(quotation_of(text, format, error)) if len(text) <= _MAX_QUOTED_TEXT else error
 
 
 def _json_member(order: object, cells: Iterable[SupportsIndex]) -> str:

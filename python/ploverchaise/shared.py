@@ -14,8 +14,10 @@ from .moc import MOC, _check_moc
 
 Value = TypeVar("Value")
 
-# The first and the longest pause between two tries of a client that needs a part that another client holds, in seconds.
-_MIN_PAUSE, _MAX_PAUSE = 10e-6, 1e-3
+# For how many milliseconds a try waits in the library for a part that another client holds. Signal handlers run between two tries.
+_TRY_MILLISECONDS = 20
+# The pause between two tries, in seconds.
+_PAUSE = 20e-6
 
 
 class MapClient:
@@ -49,12 +51,19 @@ class MapClient:
         client = cls.__new__(cls)
         client._handle = open_client()
         client.number = attach(client._handle)
+        client._set_timeout(_TRY_MILLISECONDS)
         return client
+
+    def _set_timeout(self, milliseconds: int) -> None:
+        """Sets for how long later calls of the library with the client wait for parts."""
+        call_with_client("map_busy_timeout", self._handle, milliseconds)
 
     def apply(self, line: str | bytes, timeout: float | None = None) -> str:
         """Executes a line of commands as one atomic step, and returns the replies.
 
-        If another client holds a base pixel that the commands touch, the call sleeps and tries again until the timeout has passed.
+        If another client holds a base pixel that the commands touch, the call waits until the timeout has passed. Other threads run
+        meanwhile. A call that has waited usually goes before calls that begin later. If several threads use the client with different
+        timeouts, a call may wait up to 20 milliseconds longer.
 
         Parameters
         ----------
@@ -86,7 +95,7 @@ class MapClient:
         'total 288230376151711744 ; near yes'
         """
         commands = line.encode() if isinstance(line, str) else bytes(memoryview(line))
-        return _retry_while_busy(lambda: text_of(call_with_client, "map_execute", self._handle, commands), timeout).removesuffix("\n")
+        return self._wait(lambda: text_of(call_with_client, "map_execute", self._handle, commands), timeout).removesuffix("\n")
 
     def answer(self) -> str:
         """Returns the replies to the last line that this client executed, or an empty str before the first line.
@@ -125,8 +134,32 @@ class MapClient:
         0/0 1/4
         """
         store = open_store()
-        coverage_id = _retry_while_busy(lambda: call_with_client("map_coverage", self._handle, store), timeout).first
+        coverage_id = self._wait(lambda: call_with_client("map_coverage", self._handle, store), timeout).first
         return MOC._in_store(store, coverage_id, call_with_store("range_count", store, coverage_id).first)
+
+    def _wait(self, call: Callable[[], Value], timeout: float | None) -> Value:
+        """Returns the value of a call with the client. Repeats the call if it raises MocError `Busy` and the timeout has not passed."""
+        if timeout is not None and math.isnan(timeout):
+            raise ValueError("the timeout is not a number")
+        ends = math.inf if timeout is None else time.monotonic() + timeout
+        while True:
+            left = 1000 * max(0.0, ends - time.monotonic())
+            try:
+                return call() if left >= _TRY_MILLISECONDS else self._try_for(math.ceil(left), call)
+            except MocError as error:
+                if error.code != BUSY or time.monotonic() >= ends:
+                    raise
+            time.sleep(_PAUSE)
+            # Another thread that uses the client may have set a shorter time.
+            self._set_timeout(_TRY_MILLISECONDS)
+
+    def _try_for(self, milliseconds: int, call: Callable[[], Value]) -> Value:
+        """Returns the value of a call with the client that waits for a shorter time than other calls."""
+        try:
+            self._set_timeout(milliseconds)
+            return call()
+        finally:
+            self._set_timeout(_TRY_MILLISECONDS)
 
 
 class SharedMap:
@@ -208,18 +241,3 @@ class SharedMap:
         0/0-3
         """
         return self._client.moc(timeout)
-
-
-def _retry_while_busy(call: Callable[[], Value], timeout: float | None) -> Value:
-    """Returns the value of a call. Repeats the call after a pause if it raises MocError `Busy` and the timeout has not passed."""
-    if timeout is not None and math.isnan(timeout):
-        raise ValueError("the timeout is not a number")
-    pause, ends = _MIN_PAUSE, None if timeout is None else time.monotonic() + timeout
-    while True:
-        try:
-            return call()
-        except MocError as error:
-            if error.code != BUSY or (ends is not None and time.monotonic() >= ends):
-                raise
-        time.sleep(pause)
-        pause = min(2 * pause, _MAX_PAUSE)

@@ -6,14 +6,17 @@ import os
 import random
 import threading
 import unittest
-from collections.abc import Callable, Iterable
+from collections.abc import Callable, Iterable, Iterator
+from contextlib import contextmanager
 from typing import Any, TypeVar
 
-from ploverchaise import MOC, MocError
+from ploverchaise import MOC, MocError, SharedMap
 
 TOP = os.path.dirname(os.path.dirname(os.path.dirname(os.path.abspath(__file__))))
 PIXELS = 12 * 4**29
 BASE = 4**29
+# How often a duration may be measured until it is below its limit.
+TRIES = 3
 NUMBERS = random.Random(2005)
 
 Value = TypeVar("Value")
@@ -23,6 +26,11 @@ def needs(*modules: str) -> Callable[[type[unittest.TestCase]], type[unittest.Te
     """Returns a decorator that skips the tests of a class if a module is not installed."""
     missing = [module for module in modules if importlib.util.find_spec(module) is None]
     return unittest.skipIf(bool(missing), f"not installed: {', '.join(missing)}")
+
+
+def load_factor() -> float:
+    """Returns the number of threads that are ready for each processor, or 1 if this number is below 1."""
+    return max(1.0, os.getloadavg()[0] / (os.cpu_count() or 1))
 
 
 def random_cells(order: int, count: int) -> list[int]:
@@ -39,6 +47,25 @@ def sorted_ranges(numbers: Iterable[int]) -> list[tuple[int, int]]:
         else:
             ranges.append((number, number + 1))
     return ranges
+
+
+@contextmanager
+def held_map() -> Iterator[SharedMap]:
+    """Makes a map whose parts a client of another thread holds almost all the time, in lines of some tenths of a second."""
+    shared = SharedMap(MOC.from_healpix_cells(range(0, 2_000_000, 2), 11))
+    holder, is_ended = shared.client(), threading.Event()
+
+    def hold() -> None:
+        while not is_ended.is_set():
+            holder.apply("invert" + " ; invert" * 15)
+
+    thread = threading.Thread(target=hold)
+    thread.start()
+    try:
+        yield shared
+    finally:
+        is_ended.set()
+        thread.join()
 
 
 class TestCase(unittest.TestCase):
@@ -67,6 +94,18 @@ class TestCase(unittest.TestCase):
             thread.join()
         if failures:
             raise failures[0]
+
+    def assertSoon(self, measure: Callable[[], float], limit: float) -> float:
+        """Checks that a measured duration in seconds is below a limit, at least in one of three tries, and returns the duration. The limit
+        is multiplied by the load factor before or after the try, whichever is larger."""
+        for _ in range(TRIES):
+            before = load_factor()
+            duration = measure()
+            scaled = limit * max(before, load_factor())
+            if duration < scaled:
+                break
+        self.assertLess(duration, scaled)
+        return duration
 
     def assertRanges(self, moc: MOC, ranges: list[tuple[int, int]]) -> None:
         """Checks that a coverage has exactly these ranges of pixels."""

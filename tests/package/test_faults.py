@@ -4,10 +4,11 @@ from __future__ import annotations
 import pickle
 import subprocess
 import sys
-from collections.abc import Callable, Sequence
+from collections.abc import Callable, Iterator, Sequence
 from typing import Any
 
 from ploverchaise import MOC, MocError, get_all_neighbours, neighbours, nest2ring, nest2uniq, pix2xyf, ring2nest, uniq2nest
+from ploverchaise.moc import Format
 
 from .common import PIXELS, TestCase
 
@@ -41,6 +42,23 @@ except MemoryError as error:
 """
 
 
+class FailedRead(ValueError):
+    """An error that needs two values."""
+
+    def __init__(self, reason: str, position: int) -> None:
+        super().__init__(f"{reason} at {position}")
+
+
+class Unreadable:
+    """A value whose iterator raises an error that needs two values."""
+
+    def __iter__(self) -> Iterator[int]:
+        raise FailedRead("no number", 3)
+
+    def __repr__(self) -> str:
+        return "Unreadable()"
+
+
 class Errors(TestCase):
     """Errors and their positions."""
 
@@ -60,6 +78,10 @@ class Errors(TestCase):
         for ranges in invalid:
             with self.assertRaises((TypeError, ValueError)):
                 MOC.from_ranges(ranges)
+        unreadable: Any = Unreadable()
+        with self.assertRaises(ValueError) as caught:
+            MOC.from_ranges([(0, 1), unreadable])
+        self.assertEqual((type(caught.exception), str(caught.exception)), (ValueError, "item 1 is not a pair (from, to): Unreadable()"))
 
     def test_cells(self) -> None:
         self.assertFault("NoSuchCell", (2,), MOC.from_healpix_cells, [0, 47, 48, 49], 1)
@@ -88,6 +110,11 @@ class Errors(TestCase):
             for order in (-1, 30, 255, 256, 2**64):
                 self.assertFault("NoSuchOrder", (order,), call, order)
         self.assertFault("NoSuchOrder", (30,), MOC.from_healpix_cells, [0, 0], [0, 30])
+        # The package replaces an int that 64 bits cannot hold by 2^64 - 1.
+        for orders in ([0, 2**64 - 1], [2**64 - 1, -1], [2**64 - 1, 2**64], [0] * 2**18 + [2**64 - 1, -1]):
+            self.assertFault("NoSuchOrder", (2**64 - 1,), MOC.from_healpix_cells, [0] * len(orders), orders)
+        self.assertFault("NoSuchOrder", (-1,), MOC.from_healpix_cells, [0, 0], [-1, 2**64 - 1])
+        self.assertFault("NoSuchOrder", (2**64,), MOC.from_healpix_cells, [0, 0], [2**64, 2**64 - 1])
 
     def test_the_first_error_is_reported(self) -> None:
         for cells, orders, name, place in (([0, 48, 12], [0, 1, 0], "NoSuchCell", 1), ([12, 48, 0], [0, 1, 0], "NoSuchCell", 0),
@@ -108,6 +135,9 @@ class Errors(TestCase):
             ("(place 1): -7 is not a cell of order 1 (0 to 47)", lambda: MOC.from_healpix_cells([5, -7, -8], 1)),
             ("(place 0): -1 is not a cell of order 2 (0 to 191)", lambda: nest2ring(4, -1)),
             (f"(place 2): {2**64} is not a cell of order 0 (0 to 11)", lambda: MOC.from_healpix_cells([1, 2, 2**64], [1, 1, 0])),
+            (f"(place 1): {2**64 - 1} is not a cell of order 1 (0 to 47)", lambda: MOC.from_healpix_cells([5, 2**64 - 1, -1], 1)),
+            (f"(place 0): {2**64 - 1} is not a cell of order 2 (0 to 191)", lambda: nest2ring(4, 2**64 - 1)),
+            ("(place 0): (-3, a number that is not 0 to 2^64 - 2)", lambda: MOC.from_ranges([(-3, 2**64 - 1)])),
             ("(place 1): 3 is not a NUNIQ number (4 to 2^62 - 1)", lambda: MOC.from_uniq([4, 3])),
             ("(place 0): (9, 8)", lambda: MOC.from_ranges([(9, 8)])),
             (f"above 12 * 4^29 (place 0): (0, {PIXELS + 1})", lambda: MOC.from_ranges([(0, PIXELS + 1)])),
@@ -129,6 +159,19 @@ class Errors(TestCase):
             with self.subTest(end=end), self.assertRaises((TypeError, ValueError)) as caught:
                 call()
             self.assertTrue(str(caught.exception).endswith(end), caught.exception)
+
+    def test_quotations_of_long_texts(self) -> None:
+        """Checks that the error of a text of 256 KiB has a quotation, and that of a longer text has none."""
+        rows: tuple[tuple[Format, str, str, str], ...] = (("ascii", "29/0", " 5/7x", "`5/7x`"), ("json", '{"1":[0', ",48]}", "`48`"),
+                                                          ("uniq", "4", "\n3", "`3`"))
+        for text_format, start, end, quotation in rows:
+            for length, detail in ((2**18, quotation), (2**18 + 1, "")):
+                text = start + " " * (length - len(start) - len(end)) + end
+                if text_format == "uniq":
+                    text = "\n" * (length - len(start) - len(end)) + start + end
+                with self.subTest(format=text_format, length=length), self.assertRaises(MocError) as caught:
+                    MOC.from_string(text, text_format)
+                self.assertEqual((len(text), caught.exception.detail), (length, detail))
 
     def test_stated_order_is_too_coarse(self) -> None:
         moc = MOC.from_string("1/1-2 4 2/12-14 21 23 25 8/")

@@ -17,7 +17,7 @@ from typing import Any
 from ploverchaise import MOC, get_all_neighbours, neighbours, nest2ring, nest2uniq, pix2xyf, ring2nest, uniq2nest
 from ploverchaise.moc import Format
 
-from .common import NUMBERS, TestCase
+from .common import NUMBERS, TestCase, held_map
 from .test_sharing import MAX_GROWTH_KIB, used_memory
 
 numpy: Any = None
@@ -32,11 +32,6 @@ DELAY, MAX_LATENCY = 0.05, 0.2
 # The number of ranges of the sets, and of numbers in arrays.
 RANGES, LENGTH = 600_000, 8_000_000
 TURNS = 10
-
-
-def max_latency() -> float:
-    """Returns the time that a call may take after a signal, in seconds. It is longer if more threads are ready than processors exist."""
-    return MAX_LATENCY * max(1.0, os.getloadavg()[0] / (os.cpu_count() or 1))
 
 
 class Interrupted(Exception):
@@ -68,13 +63,8 @@ class Interrupts(TestCase):
     """Ctrl-C during long calls. Each call is repeated until the signal arrives."""
 
     def assertInterrupted(self, call: Callable[[], object]) -> float:
-        """Checks that a call ends soon after a signal, at least in one of three tries. Returns the time in seconds."""
-        latency = self.interrupt(call)
-        for _ in range(2):
-            if latency > max_latency():
-                latency = self.interrupt(call)
-        self.assertLess(latency, max_latency())
-        return latency
+        """Checks that a call ends soon after a signal. Returns the time in seconds."""
+        return self.assertSoon(lambda: self.interrupt(call), MAX_LATENCY)
 
     def interrupt(self, call: Callable[[], object]) -> float:
         """Repeats a call until a signal arrives. Returns the time in seconds from the signal to the exception."""
@@ -150,6 +140,12 @@ class Interrupts(TestCase):
         duration = time.monotonic() - start
         latencies = [self.assertInterrupted(lambda: MOC.from_string(text, "json")) for _ in range(5)]
         self.assertLess(sorted(latencies)[2], duration / 4)
+
+    def test_a_call_that_waits(self) -> None:
+        """Checks that signal handlers run while a call waits for a part of a map."""
+        with held_map() as shared:
+            client = shared.client()
+            self.check({"apply": lambda: client.apply("count 0/0"), "moc": client.moc})
 
     def test_nothing_is_leaked(self) -> None:
         moc, start = MOC.from_healpix_cells(range(0, 2 * RANGES, 2), 11), 0

@@ -1,13 +1,17 @@
 """Shared maps, which threads change at the same time."""
 from __future__ import annotations
 
+import math
 import signal
+import time
+from collections.abc import Callable
+from functools import partial
 from typing import Any
 from unittest import mock
 
 from ploverchaise import MOC, MapClient, MocError, SharedMap, _library
 
-from .common import BASE, TestCase
+from .common import BASE, TestCase, held_map
 
 THREADS, TURNS = 6, 400
 # Lines, with their errors, the numbers of the invalid commands, and the bytes of the errors.
@@ -140,19 +144,51 @@ class Threads(TestCase):
         self.assertEqual(client.moc().count(), THREADS * TURNS * 4**20)
 
     def test_a_timeout_ends(self) -> None:
-        """Checks that a call that needs a held part tries once without a timeout, and repeatedly until its timeout has passed."""
+        """Checks that a call that needs a held part waits until its timeout, in a few tries, and that a timeout of 0 means one try."""
+        with held_map() as shared:
+            client = shared.client()
+            calls: list[tuple[MapClient, Callable[[float], object]]] = [
+                (client, lambda timeout: client.apply("count 0/0", timeout)), (client, client.moc),
+                (shared._client, lambda timeout: shared.apply("count 0/0", timeout)), (shared._client, shared.moc)]
+            for user, call in calls:
+                duration, tries, settings = self.busy_call(user, partial(call, 0))
+                self.assertEqual((tries, settings), (1, [0, 20]))
+                duration, tries, settings = self.busy_call(user, partial(call, 0.05))
+                self.assertGreaterEqual(duration, 0.05)
+                self.assertLessEqual(tries, 4)
+                self.assertEqual((max(settings), settings[-1]), (20, 20))
+
+    def busy_call(self, client: MapClient, call: Callable[[], object]) -> tuple[float, int, list[int]]:
+        """Repeats a call with a client until it fails with `Busy`. Returns the duration of the last call in seconds, the number of its
+        tries, and the timeouts of the library in milliseconds that it sets."""
+        end = time.monotonic() + 30
+        while time.monotonic() < end:
+            with mock.patch("ploverchaise.shared.call_with_client", wraps=_library.call_with_client) as library:
+                start = time.monotonic()
+                try:
+                    call()
+                except MocError as error:
+                    duration = time.monotonic() - start
+                    self.assertEqual(error.name, "Busy")
+                    calls = [arguments for arguments, _ in library.call_args_list if arguments[1] is client._handle]
+                    settings = [arguments[2] for arguments in calls if arguments[0] == "map_busy_timeout"]
+                    return duration, len(calls) - len(settings), settings
+        self.fail("no call has found a part held")
+
+    def test_calls_wait(self) -> None:
+        """Checks that calls with a long or no timeout end, although another client holds the parts almost all the time."""
+        with held_map() as shared:
+            client = shared.client()
+            replies = {client.apply("count 0/4", timeout) for timeout in (None, 30, None, 30)}
+            counts = [shared.moc().count(), client.moc(30).count()]
+        # An even number of inversions changes nothing.
+        self.assertEqual((replies, counts), ({"total 0"}, [1_000_000 * 4**18] * 2))
+
+    def test_timeouts_that_are_no_numbers(self) -> None:
         shared = SharedMap()
-        client = shared.client()
-        calls: list[tuple[Any, tuple[str, ...]]] = [(client.apply, ("invert",)), (shared.apply, ("invert",)), (client.moc, ()),
-                                                    (shared.moc, ())]
-        for call, arguments in calls:
-            # The list ends after about five seconds. Then the call ends with another error.
-            busy = [MocError(74, 3, 5)] * 5000
-            with mock.patch("ploverchaise.shared.call_with_client", side_effect=busy) as tries:
-                self.assertFault("Busy", (3, 5), call, *arguments, timeout=0)
-                self.assertEqual(tries.call_count, 1)
-                self.assertFault("Busy", (3, 5), call, *arguments, timeout=0.02)
-                self.assertGreater(tries.call_count, 2)
+        self.assertRaises(ValueError, shared.apply, "count 0/0", math.nan)
+        for timeout in (-math.inf, -1, 0, math.inf):
+            self.assertEqual(shared.apply("count 0/0", timeout), "total 0")
 
     def test_clients_are_made_and_deleted_by_many_threads(self) -> None:
         shared = SharedMap(clients=THREADS)

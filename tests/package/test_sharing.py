@@ -13,6 +13,7 @@ import threading
 import time
 import weakref
 from array import array
+from collections.abc import Callable
 from typing import Any
 
 from ploverchaise import MOC, MapClient, MocError, SharedMap, nest2ring, ring2nest
@@ -229,28 +230,48 @@ class Waiting(TestCase):
         """Checks that a thread, such as the event loop of a Dask worker, runs every 0.1 seconds while another one makes and deletes large
         MOCs. The time is longer if more threads are ready than processors exist."""
         cells = array("Q", random_cells(29, 400_000))
-        longest, is_ended = 0.0, threading.Event()
 
         def work() -> None:
+            for _ in range(4):
+                moc = MOC.from_healpix_cells(cells, 29)
+                union = moc | ~moc
+                self.assertEqual((MOC.from_string(moc.to_string()) & union, union), (moc, MOC.full()))
+                self.assertEqual(pickle.loads(pickle.dumps(moc)), moc)
+                self.assertEqual(sum(moc.contains(cells)), len(cells))
+                del moc
+
+        self.assertSoon(lambda: self.longest_stall(work), MAX_STALL)
+
+    def test_other_threads_run_during_an_error(self) -> None:
+        """Checks that a thread runs every 0.1 seconds while another one parses long texts with an error."""
+        text = '{"29":[' + "[]," * 1_300_000 + "0]}"
+
+        def work() -> None:
+            for _ in range(4):
+                self.assertFault("NotWhole", (0, 0), MOC.from_string, text, "json")
+
+        self.assertSoon(lambda: self.longest_stall(work), MAX_STALL)
+
+    def longest_stall(self, work: Callable[[], None]) -> float:
+        """Returns the longest time in seconds for which this thread does not run while another one works."""
+        longest, is_ended, ended_well = 0.0, threading.Event(), []
+
+        def run() -> None:
             try:
-                for _ in range(4):
-                    moc = MOC.from_healpix_cells(cells, 29)
-                    union = moc | ~moc
-                    self.assertEqual((MOC.from_string(moc.to_string()) & union, union), (moc, MOC.full()))
-                    self.assertEqual(pickle.loads(pickle.dumps(moc)), moc)
-                    self.assertEqual(sum(moc.contains(cells)), len(cells))
-                    del moc
+                work()
+                ended_well.append(True)
             finally:
                 is_ended.set()
 
-        thread = threading.Thread(target=work)
+        thread = threading.Thread(target=run)
         thread.start()
         while not is_ended.is_set():
             start = time.monotonic()
             time.sleep(0.001)
             longest = max(longest, time.monotonic() - start)
         thread.join()
-        self.assertLess(longest, MAX_STALL * max(1.0, os.getloadavg()[0] / (os.cpu_count() or 1)))
+        self.assertEqual(ended_well, [True])
+        return longest
 
     def test_finalizers_that_call(self) -> None:
         """Checks that threads do not block each other, while garbage with finalizers is collected in calls, and logging calls `str`."""
