@@ -148,14 +148,22 @@ class Interrupts(TestCase):
             self.check({"apply": lambda: client.apply("count 0/0"), "moc": client.moc})
 
     def test_nothing_is_leaked(self) -> None:
-        moc, start = MOC.from_healpix_cells(range(0, 2 * RANGES, 2), 11), 0
+        moc = MOC.from_healpix_cells(range(0, 2 * RANGES, 2), 11)
         text = moc.to_string()
-        for turn in range(2 * TURNS):
-            if turn == TURNS:
-                start = used_memory()
+        self.interrupt_calls(moc, text)
+        growth: list[int] = []
+        # A leak shows in every round. In some rounds the C library keeps memory for threads that ended.
+        while len(growth) < 3 and min(growth, default=MAX_GROWTH_KIB) >= MAX_GROWTH_KIB:
+            start = used_memory()
+            self.interrupt_calls(moc, text)
+            growth.append(used_memory() - start)
+        self.assertLess(min(growth), MAX_GROWTH_KIB)
+
+    def interrupt_calls(self, moc: MOC, text: str) -> None:
+        """Interrupts long calls, and waits until they have ended."""
+        for _ in range(TURNS):
             self.assertInterrupted(lambda: (moc | ~moc, MOC.from_string(text), moc.to_string()))
         self.wait_for_other_threads()
-        self.assertLess(used_memory() - start, MAX_GROWTH_KIB)
 
     def wait_for_other_threads(self) -> None:
         """Waits until the calls that were interrupted have ended."""
