@@ -135,7 +135,7 @@ fn places_of_errors(rt: HostRuntime) {
         ("count 0/0;near 0 12;hop", 1, 10),
         ("add 0/x", 0, 6),
         ("invert ; add 5/7-3", 1, 15),
-        ("read @2 1/4 5/", 0, 14),
+        ("read @2 1/4 5/7-", 0, 16),
         ("read @30 1/4", 0, 0),
         (";;;;;;;;;;;;;;;; hop", 16, 17),
     ] {
