@@ -26,7 +26,7 @@ STATES = 5000
 COMMAND = ["frama-c", "-c11", "-machdep", "gcc_x86_64", f"-cpp-extra-args=-I{os.path.dirname(HEADER)}", "-eva", "-eva-slevel", str(STATES),
            "-eva-split-return", "full", "-eva-alloc-builtin", "by_stack", "-eva-no-results", "-eva-msg-key=-initial-state,-final-states"]
 TIME_LIMIT = 600
-# What Eva prints for each finding, and at its end. A failure shows so many bytes of the end of its output.
+# What Eva prints for each finding, and at its end. The number of bytes at the end of its output that a failure shows.
 FINDING, FINISHED, OUTPUT_END = "[eva:alarm]", "[eva] done for function", 1500
 # The proved functions that `eva.c` has a model of.
 WITH_MODEL = frozenset(["store_open", "store_close", "client_open", "client_close", "text", "map_answer", "map_begin", "map_join"])
