@@ -91,7 +91,6 @@ BODIES = [
     Body("moc_conversion", "conversion", "check_input", INPUT_OUT_OF_MEMORY, "moc_cli"),
     Body("moc_conversion", "combination", "combine_input", INPUT_OUT_OF_MEMORY, "moc_cli"),
     Body("moc_cli", "action", "from_matches", "None", "moc_cli"),
-    Body("moc_lines", "language", "read_commands", "Err(LineError::Memory)", "script_tests"),
     Body("moc_lines", "places", "place_of_error", OUT_OF_MEMORY, "script_tests"),
     Body("moc_lines", "reading", "read_all", "Err(RunError::Memory { line: 0 })", "script_tests"),
     Body("moc_lines", "runner", "answer_all_lines", OUT_OF_MEMORY_AT_LINE, "script_tests"),

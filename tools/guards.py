@@ -33,6 +33,9 @@ HANDLES = os.path.join(folder_of("moc_c"), "c", "handles.c")
 RESULT, STORE, CLIENT, TEXT = "moc_result", "moc_store", "moc_client", "moc_text"
 # The name of the proved function of `moc_NAME`, without NAME.
 PROVED = "moc_proved_"
+# The last line of a guard. It returns the fields one by one: a copy of the whole result would wait until the stores of its fields, which
+# are smaller, have reached the cache.
+RETURNED = f"return ({RESULT}){{result.code, result.first, result.second}};"
 # The attribute of a proved function that takes pointers. It lets a sanitizer check the arguments that a guard passes.
 NO_NULL = " __attribute__((nonnull))"
 
@@ -335,7 +338,7 @@ def call_of(function: Function, passed: list[str]) -> list[str]:
         place = "second" if function.name in ID_FUNCTIONS else "first"
         wanted = ids[0] if len(ids) == 1 else f"result.{place} == proved_id({store}, {ids[0]}) ? {ids[0]} : {ids[1]}"
         lines += ["if (result.code == MOC_NO_SUCH_SET)", f"    result.{place} = {wanted};"]
-    return [*handles, f"{RESULT} result;", *lines, "return result;"]
+    return [*handles, f"{RESULT} result;", *lines, RETURNED]
 
 
 def guard_body(function: Function) -> list[str]:

@@ -16,7 +16,7 @@ pub use cursor::{
     next_range, node_below, start_of_next,
 };
 pub use edits::rebuild::{BlockEdit, Edit, EditKind, NodeEdit, edit_nodes};
-pub use edits::splice::{BlockSplice, find_splice};
+pub use edits::splice::{BlockSplice, Splice, find_splice};
 pub use edits::{insert_small, remove_small};
 pub use lengths::{blocks_in_last, ranges_in_first, ranges_in_last};
 pub use node::{

@@ -94,6 +94,18 @@ impl Run for Node {
     }
 }
 
+/// Returns the step if the end is at most the limit, and otherwise 0. Avoids a branch, because a processor cannot
+/// predict it.
+#[inline]
+fn step_past(step: usize, end: u64, limit: u64) -> usize
+    ensures ended { end ≤ limit → result ≡ step }
+    ensures later { limit < end → result ≡ 0 }
+{
+    let difference = u128::from(end).wrapping_sub(u128::from(limit) + 1);
+    let mask = (difference >> 64) as usize;
+    step & mask
+}
+
 /// Returns the number of runs that end at or before the limit. Requires that all runs before `low` do, and that none
 /// from `low + size` on does. O(log size).
 #[inline]
@@ -108,9 +120,7 @@ fn count_ended_from<T: Run>(runs: &[T], limit: u64, low: usize, size: usize) -> 
     let mut size = size;
     while size > 1 {
         let half = size / 2;
-        if runs[low + half].end() <= limit {
-            low += half;
-        }
+        low += step_past(half, runs[low + half].end(), limit);
         size -= half;
     }
     if size > 0 && runs[low].end() <= limit {

@@ -4,7 +4,7 @@ ghost use Rattle.std.specs.FinSet as set;
 ghost use Rattle.moc_c.specs.Answers.{set_at};
 ghost use Rattle.moc_c.specs.Commands.{CallsWithCells, CallsWithSet, command_on, ExecutesCommand, number_of_reply};
 ghost use Rattle.moc_c.specs.Commands.{value_of_reply};
-ghost use Rattle.moc_c.specs.Private.CellCommands.{ActsOnCells, ExecutesOnCell};
+ghost use Rattle.moc_c.specs.Private.CellCommands.{ActsOnCells, ExecutesOnCell, IsCellCommand};
 ghost use Rattle.moc_c.specs.Sharing.{IsAfter, member_of_handle};
 ghost use Rattle.moc_c.specs.declared.commands.Verb.TheVariants.{Add, Claim, Contains, Count, Remove};
 
@@ -85,6 +85,21 @@ fn number_of_reply(reply: &Reply) -> u64
     }
 }
 
+/// Returns the command on one cell, if there is one index, it is that of a cell, and the value of the command does not
+/// depend on the size of the cell.
+fn cell_command(verb: Verb, order: u8, cells: &[u64]) -> Option<CellCommand>
+    ensures { IfSome result (IsCellCommand verb order cells.now) }
+{
+    let [index] = cells else {
+        return None;
+    };
+    let action = verb.cell_action()?;
+    let Ok(cell) = only_cell(Order::new(order)?, *index) else {
+        return None;
+    };
+    Some(CellCommand { action, cell })
+}
+
 impl Member {
     /// Executes a command on a set, and returns the value of its reply.
     fn execute(&mut self, verb: Verb, set: Coverage) -> CallResult
@@ -115,20 +130,32 @@ impl ClientState {
     fn answer_cells(&mut self, alloc: Global, verb: Verb, order: u8, cells: &[u64]) -> CallResult
         ensures { CallsWithCells verb self.old self.new order cells.now result }
     {
+        if let Some(command) = cell_command(verb, order, cells) {
+            if let Some(member) = &mut self.member {
+                return member.execute_on_cell(&command);
+            }
+        }
+        self.answer_set_of_cells(alloc, verb, order, cells)
+    }
+
+    /// As `answer_cells`, but makes the set of the cells. The function is separate, because each call initializes the
+    /// stack of a whole function: a command on one cell needs less of it.
+    #[inline(never)]
+    fn answer_set_of_cells(
+        &mut self,
+        alloc: Global,
+        verb: Verb,
+        order: u8,
+        cells: &[u64],
+    ) -> CallResult
+        ensures { CallsWithCells verb self.old self.new order cells.now result }
+    {
         let Some(member) = &mut self.member else {
             return CallResult::of(CallError::NoMap);
         };
         let Some(order) = Order::new(order) else {
             return CallResult::of(CallError::NoSuchOrder { order });
         };
-        if let [index] = cells {
-            if let Some(action) = verb.cell_action() {
-                return match only_cell(order, *index) {
-                    Ok(cell) => member.execute_on_cell(&CellCommand { action, cell }),
-                    Err(error) => CallResult::of(error),
-                };
-            }
-        }
         match set_of_cells(alloc, order, cells) {
             Ok(set) => member.execute(verb, set),
             Err(error) => CallResult::of(error),

@@ -23,10 +23,8 @@ use Rattle.moc_parts.specs.declared.command.Command.TheVariants.{Add, Remove, Ke
 use Rattle.moc_parts.specs.declared.command.Command.TheVariants.{Near}
 use Rattle.moc_text.specs.Names.{name_of_text, fault_report}
 use Rattle.moc_text.specs.Reading.{reading_of}
-use Rattle.moc_parts.specs.Batches.{replies_on, set_after_all}
+use Rattle.moc_parts.specs.Batches.{max_commands, replies_on, set_after_all}
 use Rattle.moc_text.specs.Lines.{pieces_of}
-use Rattle.moc_lines.specs.declared.language.Commands.{Commands}
-use Rattle.moc_lines.specs.declared.language.Commands.TheVariants.{One, Several}
 
 -- The words of a line
 
@@ -210,11 +208,6 @@ command_of piece = command_by operand_of piece
 
 -- A line as a batch of commands
 
--- the commands of a parsed line: one, or several
-abbrev pub commands_in : Commands → List Command
-commands_in (One command) = command ∷ []
-commands_in (Several commands) = commands
-
 -- the answer to a parsed line on a set
 abbrev pub answer_to : NumberSet → Result (List Command) LineError → List ℕ
 answer_to a (Ok commands) = replies_text (replies_on a commands) ++ 10 ∷ []
@@ -252,7 +245,7 @@ module _ (denotes : List ℕ → Result Command LineError) where
 
   -- the commands of a line that is not blank: 1 to 16, or an error
   abbrev pub batch_of : List ℕ → Result (List Command) LineError
-  batch_of line = if nat_lt 16 (length (pieces_of line)) then Err TooManyCommands else commands_of (pieces_of line)
+  batch_of line = if nat_lt max_commands (length (pieces_of line)) then Err TooManyCommands else commands_of (pieces_of line)
 
 module _ (denotes : List ℕ → Result (List Command) LineError) where
   -- the answer to a line, with its line feed; the answer to a blank line is empty

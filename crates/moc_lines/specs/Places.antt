@@ -1,8 +1,9 @@
 -- The place of the error in an invalid line.
-use Rattle.std.specs.Prelude.{ℕ, suc, ◌+◌, ◌-◌, Bool, ◌==◌, nat_eq, min, List, [], ◌∷◌, codes, length, if◌then◌else◌}
-use Rattle.std.specs.List.{prefix_len, starts_with}
+use Rattle.std.specs.Prelude.{ℕ, ◌+◌, ◌-◌, nat_eq, min, List, [], codes, length, if◌then◌else◌, get_or, take}
+use Rattle.std.specs.List.{position_or_len, prefix_len, starts_with, sum_by}
 use Rattle.std.specs.Option.{unwrap_or}
 use Rattle.std.specs.Result.{is_err}
+use Rattle.moc_parts.specs.Batches.{max_commands}
 use Rattle.moc_text.specs.Lines.{pieces_of}
 use Rattle.moc_text.specs.Places.{error_byte}
 use Rattle.moc_lines.specs.declared.error.LineError.{LineError}
@@ -10,32 +11,31 @@ use Rattle.moc_lines.specs.declared.error.LineError.TheVariants.{Coverage, TooMa
 use Rattle.moc_lines.specs.declared.places.LinePlace.{LinePlace}
 use Rattle.moc_lines.specs.Language.{after_word, command_of, is_line_blank, piece_command, word_of}
 
--- whether an error of a line is about the piece with a number: too many commands about the 17th, any other error about
--- each invalid piece
-abbrev pub is_about : LineError → ℕ → List ℕ → Bool
-is_about TooManyCommands number piece = number == 16
-is_about error number piece = is_err (piece_command command_of piece)
+-- the number of the invalid command among the pieces of a line, from 0: the 17th command if there are too many, or else
+-- the first that is invalid
+abbrev pub invalid_command : LineError → List (List ℕ) → ℕ
+invalid_command TooManyCommands pieces = min max_commands (length pieces)
+invalid_command error pieces = position_or_len (λ piece. is_err (piece_command command_of piece)) pieces
 
 -- the text after the word of a command, and after an order that begins with `@`
 abbrev pub coverage_text : List ℕ → List ℕ
 coverage_text piece =
     let text = after_word piece in if starts_with nat_eq (word_of text) (codes "@") then after_word text else text
 
--- the offset of an error in the piece that it is about: that of the error in a coverage, or of the command's first byte
-abbrev pub error_in_piece : LineError → List ℕ → ℕ
-error_in_piece (Coverage error) piece =
+-- the offset of an error in its command: that of the error in a coverage, or of the command's first byte
+abbrev pub offset_in_piece : LineError → List ℕ → ℕ
+offset_in_piece (Coverage error) piece =
     let text = coverage_text piece in
     length piece - length text + min (unwrap_or (error_byte error) 0) (length text)
-error_in_piece error piece = prefix_len is_line_blank piece
+offset_in_piece error piece = prefix_len is_line_blank piece
 
--- the place of an error among the last pieces of a line; the number and the offset are those of the first of these
--- pieces
-abbrev pub place_among : LineError → ℕ → ℕ → List (List ℕ) → LinePlace
-place_among error number offset [] = record { command = number; byte = offset }
-place_among error number offset (piece ∷ pieces) =
-    if is_about error number piece then record { command = number; byte = offset + error_in_piece error piece }
-    else place_among error (suc number) (offset + length piece + 1) pieces
-
--- the place of the error of a line
+-- the place of the error of a line: the number of its command, and its offset after the commands and semicolons before
 abbrev pub error_place : LineError → List ℕ → LinePlace
-error_place error line = place_among error 0 0 (pieces_of line)
+error_place error line =
+    let pieces = pieces_of line in
+    let number = invalid_command error pieces in
+    record {
+      command = number;
+      byte = sum_by (λ piece. length piece + 1) (take number pieces)
+          + offset_in_piece error (get_or pieces number []);
+    }

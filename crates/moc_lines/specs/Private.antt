@@ -6,3 +6,4 @@ pub mod Input
 pub mod Finding
 pub mod TextErrors
 pub mod Verbs
+pub mod Placing

@@ -1,6 +1,7 @@
 //! Finds the place of the error in an invalid line.
 ghost use Rattle.std.specs.Prelude.{◌≡◌, ◌≤◌, length, IfOk};
-ghost use Rattle.moc_lines.specs.Places.{coverage_text, error_in_piece, error_place, is_about};
+ghost use Rattle.moc_lines.specs.Places.{coverage_text, error_place, offset_in_piece};
+ghost use Rattle.moc_lines.specs.Private.Placing.{is_error_of_piece};
 
 use crate::batch::{first_semicolon, read_piece};
 use crate::error::LineError;
@@ -18,10 +19,15 @@ pub struct LinePlace {
     pub byte: usize,
 }
 
-/// Returns whether an error of a line is about the piece with this number. `TooManyCommands` is about the 17th piece,
-/// any other error about each invalid piece. Fails with `Memory` if an allocation fails.
-fn is_about(alloc: Global, error: LineError, number: usize, piece: &[u8]) -> Result<bool, Memory>
-    ensures { IfOk result (λ is. is ≡ is_about error number piece.now) }
+/// Returns whether an error of a line is that of the piece with this number. `TooManyCommands` is that of the 17th
+/// piece, any other error that of each invalid piece. Fails with `Memory` if an allocation fails.
+fn is_error_of_piece(
+    alloc: Global,
+    error: LineError,
+    number: usize,
+    piece: &[u8],
+) -> Result<bool, Memory>
+    ensures { IfOk result (λ is. is ≡ is_error_of_piece error number piece.now) }
 {
     if error == LineError::TooManyCommands {
         return Ok(number == MAX_COMMANDS);
@@ -48,8 +54,8 @@ fn coverage_text(piece: &[u8]) -> &[u8]
 }
 
 /// Returns the offset of an error in the piece that it is about.
-fn error_in_piece(error: LineError, piece: &[u8]) -> usize
-    ensures offset { result ≡ error_in_piece error piece.now }
+fn offset_in_piece(error: LineError, piece: &[u8]) -> usize
+    ensures offset { result ≡ offset_in_piece error piece.now }
     ensures within { result ≤ length piece.now }
 {
     let LineError::Coverage(error) = error else {
@@ -78,8 +84,8 @@ pub fn place_of_error(alloc: Global, line: &[u8], error: LineError) -> Result<Li
     let mut rest = line;
     loop {
         let (piece, following) = rest.split_at(first_semicolon(rest));
-        if is_about(alloc, error, place.command, piece)? {
-            place.byte += error_in_piece(error, piece);
+        if is_error_of_piece(alloc, error, place.command, piece)? {
+            place.byte += offset_in_piece(error, piece);
             return Ok(place);
         }
         place.command += 1;

@@ -24,6 +24,10 @@ footprint_of_all cs b = list_any (λ c. footprint c b) cs
 abbrev pub batches : Object (List Command) (List Reply)
 batches = record { footprint = footprint_of_all; answer = λ a cs. (set_after_all a cs, replies_on a cs) }
 
+-- the maximal number of commands of a batch
+abbrev pub max_commands : ℕ
+max_commands = 16
+
 -- every command is valid: its set is within the sky, its order or cell is valid
 abbrev pub AreCommands : List Command → Type 0
 AreCommands cs = AllByRecursion IsCommand cs

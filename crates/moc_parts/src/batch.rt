@@ -38,6 +38,7 @@ impl Model for Batch {
     ghost use Rattle.std.specs.Prelude.{List, ◌<◌, ◌≤◌, length};
     ghost use Rattle.std.specs.Coded.{codes};
     ghost use Rattle.moc_ranges.specs.contracts.coverage.Coverage as coverage;
+    ghost use Rattle.moc_parts.specs.Batches.{max_commands};
     ghost use Rattle.moc_parts.specs.declared.command.Command.{Command};
 
     ghost Value = { List Command };
@@ -46,7 +47,7 @@ impl Model for Batch {
 
     ghost view = { λ b. b.commands.items };
 
-    ghost invariant = { λ b. (0 < length b.commands.items) × (length b.commands.items ≤ 16) };
+    ghost invariant = { λ b. (0 < length b.commands.items) × (length b.commands.items ≤ max_commands) };
 }
 
 /// Batches are equal if they have equal commands in the same order.

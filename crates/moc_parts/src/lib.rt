@@ -22,7 +22,7 @@ pub use batch::{Batch, BatchError, MAX_COMMANDS};
 pub use command::{Command, Operand};
 pub use map::Map;
 pub use part::{Part, PartSet};
-pub use part_command::{CellAction, CellCommand, PlainCommand};
+pub use part_command::{CellAction, CellCommand, PartCommand};
 pub use prepared::{Prepared, prepare, prepare_changes, reply_of};
 pub use reply::{Replies, Reply};
 pub use theorems::{

@@ -17,7 +17,7 @@ use moc_sphere::Cell;
 use std::alloc::Global;
 
 /// What a shared map needs of a command on a single part: a `CellCommand`, or a `Command` for which `IsPlain` holds.
-pub trait PlainCommand {
+pub trait PartCommand {
     /// The command that contracts refer to.
     ghost command: { Self → CommandValue };
 
@@ -53,7 +53,7 @@ pub trait PlainCommand {
         ensures { IfOk result (λ r. r ≡ reply_on pixels.now (command self.now)) };
 }
 
-impl PlainCommand for Command {
+impl PartCommand for Command {
     ghost command = { λ c. c };
 
     fn is_update(&self) -> bool {
@@ -111,7 +111,7 @@ impl CellCommand {
     }
 }
 
-impl PlainCommand for CellCommand {
+impl PartCommand for CellCommand {
     ghost use Rattle.moc_parts.specs.CellCommands.{command_on_cell};
 
     ghost command = { command_on_cell };

@@ -3,10 +3,9 @@
 use crate::between::has_text;
 use moc_devices::{OverReader, OverWriter};
 use moc_lines::{
-    Commands, LINE_LIMIT, LineError, LinePlace, RunError, answer_all_lines, answer_text,
-    is_blank_text, is_word, line_after_last, only_field, parse_decimal, place_of_error, push_count,
-    push_cover, push_error, push_reply_line, read_all, read_batch, read_commands, split_line,
-    split_word, two_fields,
+    LINE_LIMIT, LineError, LinePlace, RunError, answer_all_lines, answer_text, is_blank_text,
+    is_word, line_after_last, only_field, parse_decimal, place_of_error, push_count, push_cover,
+    push_error, push_reply_line, read_all, read_batch, split_line, split_word, two_fields,
 };
 use moc_parts::{Map, Reply};
 use moc_ranges::Coverage;
@@ -103,14 +102,6 @@ fn batches(rt: HostRuntime) {
         ("read 0/1-7", "cover 0/1\n"),
     ] {
         has_text(&rt, &answer(&rt, rt.alloc(), line), expected_text);
-    }
-    for (line, several) in [("invert", false), ("invert;invert", true)] {
-        let commands = read_commands(rt.alloc(), line.as_bytes()).expect(&rt, "commands");
-        assert_eq!(rt;
-            matches!(&commands, Commands::Several(_)),
-            several,
-            "{line}"
-        );
     }
     for (line, error) in [
         ("", LineError::EmptyCommand),

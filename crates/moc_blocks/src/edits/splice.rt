@@ -101,7 +101,7 @@ pub struct BlockSplice {
 
 /// Estimates how many of a block's ranges begin below a number, as if they were evenly spaced.
 #[inline]
-fn place_about(block: &Block, number: u64) -> usize {
+fn estimated_place(block: &Block, number: u64) -> usize {
     let passed = nearest_u64_to_f64(number.saturating_sub(block.from()));
     let width = nearest_u64_to_f64(block.to().saturating_sub(block.from()));
     let count = nearest_u64_to_f64(block.ranges().len() as u64);
@@ -109,7 +109,7 @@ fn place_about(block: &Block, number: u64) -> usize {
 }
 
 /// Returns whether no range begins before the limit.
-fn begins_from(ranges: &[(u64, u64)], limit: u64) -> bool
+fn begins_at_or_after(ranges: &[(u64, u64)], limit: u64) -> bool
     requires { limit ≤ pixel_count }
     ensures { OnTrue result (limit ≤ next_of ranges.now) }
 {
@@ -152,7 +152,7 @@ fn removal(ranges: &[(u64, u64)], about: usize, from: u64, to: u64) -> Option<Sp
     let [range, rest @ ..] = &ranges[place..] else {
         return None;
     };
-    if !begins_from(rest, to) {
+    if !begins_at_or_after(rest, to) {
         return None;
     }
     let before = (range.0, from);
@@ -183,7 +183,7 @@ fn splice_of(block: &Block, edit: EditKind, from: u64, to: u64) -> Option<Splice
     requires within { to ≤ pixel_count }
     ensures { IfSome result (IsSplice edit from to block.now) }
 {
-    let about = place_about(block, from);
+    let about = estimated_place(block, from);
     match edit {
         EditKind::Insert => insertion(block.ranges(), about, from, to),
         EditKind::Remove => removal(block.ranges(), about, from, to),

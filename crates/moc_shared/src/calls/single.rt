@@ -10,7 +10,7 @@ ghost use Rattle.moc_shared.specs.Private.Slots.{BatchTakesEffect};
 use crate::table::locks::{LockTable, Pointer, SeatToken};
 use crate::table::slots::share;
 use crate::table::steps::{end_single, give_part};
-use moc_parts::{Command, Part, PlainCommand, Reply, batches_are_local};
+use moc_parts::{Command, Part, PartCommand, Reply, batches_are_local};
 use moc_ranges::Memory;
 use std::alloc::Global;
 use std::marker::Brand;
@@ -29,7 +29,7 @@ pub(crate) fn single_part(command: &Command) -> Option<Part>
 }
 
 /// Executes a command on the set of a pointer. The list is changed in place if the pointer is its only owner.
-fn execute_on<C: PlainCommand>(
+fn execute_on<C: PartCommand>(
     alloc: Global,
     command: &C,
     pointer: &mut Pointer,
@@ -49,8 +49,10 @@ fn execute_on<C: PlainCommand>(
 }
 
 /// Executes a command on a copy of the list, and replaces the pointer, unless the list is unchanged. Makes no copy if
-/// the list already has all pixels of an `Add`.
-fn execute_on_copy<C: PlainCommand>(
+/// the list already has all pixels of an `Add`. The function is separate, because each call initializes the stack of a
+/// whole function.
+#[inline(never)]
+fn execute_on_copy<C: PartCommand>(
     alloc: Global,
     command: &C,
     pointer: &mut Pointer,
@@ -73,7 +75,7 @@ fn execute_on_copy<C: PlainCommand>(
 
 /// Executes a command on its held part, and gives the part back. Either the command takes effect, or the map is
 /// unchanged.
-pub(crate) fn execute_single<C: PlainCommand>(
+pub(crate) fn execute_single<C: PartCommand>(
     table: &LockTable,
     alloc: Global,
     seat: &mut SeatToken,

@@ -13,7 +13,7 @@ use crate::client::Client;
 use crate::errors::{Busy, TryError};
 use crate::map::SharedMap;
 use crate::table::steps::take_slot;
-use moc_parts::{Batch, CellCommand, Command, Part, PlainCommand, Replies, Reply};
+use moc_parts::{Batch, CellCommand, Command, Part, PartCommand, Replies, Reply};
 use moc_ranges::Memory;
 use std::sync::Wait;
 
@@ -108,7 +108,7 @@ impl SharedMap {
     }
 
     /// Executes a command on its single part, or fails if another client holds it.
-    fn try_in_part<C: PlainCommand>(
+    fn try_in_part<C: PartCommand>(
         &self,
         client: &mut Client,
         command: &C,

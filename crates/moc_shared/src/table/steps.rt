@@ -16,7 +16,7 @@ ghost use Rattle.moc_shared.specs.Batches.{batch_answer};
 use crate::table::layout::index;
 use crate::table::locks::{End, EndingCall, Give, LockTable, Pointer, SeatToken, Take};
 use crate::table::slots::Slots;
-use moc_parts::{Batch, Part, PlainCommand, Reply};
+use moc_parts::{Batch, Part, PartCommand, Reply};
 
 /// Tries to set the client's mark in the lock word of a part. Returns 0 if the part was free and is now held, and the
 /// mark of its holder otherwise.
@@ -116,7 +116,7 @@ pub(crate) fn end_call<C: EndingCall>(
 /// effect.
 ///
 /// The command and its reply are parameters only because the contract refers to them.
-pub(crate) fn end_single<C: EndingCall, P: PlainCommand>(
+pub(crate) fn end_single<C: EndingCall, P: PartCommand>(
     table: &LockTable,
     seat: &mut SeatToken,
     part: Part,

@@ -1,6 +1,7 @@
 -- The place of the error of the line is that among the pieces of the rest.
 use Rattle.std.proofs.Common.{◌≡◌, ◌+◌, ◌≤◌, length}
-use Rattle.moc_lines.specs.Places.{error_place, place_among}
+use Rattle.moc_lines.specs.Places.{error_place}
+use Rattle.moc_lines.specs.Private.Placing.{place_among}
 use Rattle.moc_text.specs.Lines.{pieces_of}
 use Rattle.moc_lines.proofs.places.place_of_error.Given as goal
 

@@ -17,10 +17,10 @@ end_single-requires-clause-held g c = ap (λ (l : List PartNote). parts_of_notes
 
 pub end_single-requires-clause-answered : goal.end_single-requires-clause-answered
 end_single-requires-clause-answered g c =
-    let local = local_batch ((g.C.PlainCommand.command c.args.command.now) ∷ []) c.batches_are_local.ensures (omega arith) (c.requires.single.valid, tt) in
-    subst (λ (l : List PartNote). HasEffect part batch_answer IsInSky ((g.C.PlainCommand.command c.args.command.now) ∷ []) (c.in-Ok.reply ∷ []) l
+    let local = local_batch ((g.C.PartCommand.command c.args.command.now) ∷ []) c.batches_are_local.ensures (omega arith) (c.requires.single.valid, tt) in
+    subst (λ (l : List PartNote). HasEffect part batch_answer IsInSky ((g.C.PartCommand.command c.args.command.now) ∷ []) (c.in-Ok.reply ∷ []) l
     (note c.args.part (Some (arc_value c.execute_on.new.pointer)) ∷ [])) (sym c.requires.held.held)
-    (answers_alone (g.C.PlainCommand.command c.args.command.now) c.args.part c.requires.single.met (arc_value c.args.pointer)
+    (answers_alone (g.C.PartCommand.command c.args.command.now) c.args.part c.requires.single.met (arc_value c.args.pointer)
     (arc_value c.execute_on.new.pointer) c.in-Ok.reply local c.in-Ok.ensures.set c.in-Ok.ensures.reply)
 
 pub give_part-requires-clause-held : goal.give_part-requires-clause-held

@@ -19,12 +19,12 @@ returns-in-Ok-execute_single g c =
     record {
       map = idle_after c.args.self.now c.args.client.now record { number = c.args.client.now.number; seat = c.execute_single.new.seat } c.requires.map
           (client_unchanged_with_parts old mid new (note part content ∷ []) held
-          (client_unchanged_after_call (call_by mid.mine.number ((g.C.PlainCommand.command c.args.command.now) ∷ []) (c.in-Ok-execute_single.reply ∷ [])) mid new
+          (client_unchanged_after_call (call_by mid.mine.number ((g.C.PartCommand.command c.args.command.now) ∷ []) (c.in-Ok-execute_single.reply ∷ [])) mid new
           c.in-Ok-execute_single.ensures.ok))
           refl (c.execute_single.ensures.same.0 ∙ c.take_slot.ensures.same.0 ∙ c.requires.map.table)
           c.execute_single.ensures.idle;
       number = refl;
-      ok = tried_takes_effect (g.C.PlainCommand.command c.args.command.now) part c.requires.single.met c.args.self.now c.in-Ok-execute_single.reply
+      ok = tried_takes_effect (g.C.PartCommand.command c.args.command.now) part c.requires.single.met c.args.self.now c.in-Ok-execute_single.reply
           c.args.client.now.number old mid new content c.requires.map.start c.requires.map.clients c.requires.map.number held
           c.in-Ok-execute_single.ensures.ok;
       err = tt;
@@ -45,7 +45,7 @@ returns-in-Err-execute_single g c =
           c.execute_single.ensures.idle;
       number = refl;
       ok = tt;
-      err = inl (tried_has_no_effect (g.C.PlainCommand.command c.args.command.now) part c.requires.single.met old mid new content held
+      err = inl (tried_has_no_effect (g.C.PartCommand.command c.args.command.now) part c.requires.single.met old mid new content held
           c.in-Err-execute_single.ensures.err);
     }
 
@@ -55,17 +55,17 @@ returns-in-Err g c =
     let old = c.args.client.now.seat.me.0 in
     let new = c.take_slot.new.seat.me.0 in
     let t = c.in-Err.ensures in
-    let missed = missed_alone (g.C.PlainCommand.command c.args.command.now) part c.requires.single.met old new c.in-Err.holder t.in_range c.requires.map.no_part
+    let missed = missed_alone (g.C.PartCommand.command c.args.command.now) part c.requires.single.met old new c.in-Err.holder t.in_range c.requires.map.no_part
     t.err.0 t.err.1 t.err.2 in
     record {
       map = client_unchanged_if_refused c.args.self.now c.args.client.now record { number = c.args.client.now.number; seat = c.take_slot.new.seat }
-          part c.in-Err.holder ((g.C.PlainCommand.command c.args.command.now) ∷ []) c.requires.map refl (c.take_slot.ensures.same.0 ∙ c.requires.map.table)
+          part c.in-Err.holder ((g.C.PartCommand.command c.args.command.now) ∷ []) c.requires.map refl (c.take_slot.ensures.same.0 ∙ c.requires.map.table)
           (no_entries_of_no_keys c.take_slot.new.seat.me.1 (c.take_slot.ensures.carried
           ∙ (λ i. map table_index (parts_of_notes (t.err.0 i).holds))
           ∙ ap (λ (l : List PartNote). map table_index (parts_of_notes l)) c.requires.map.no_part))
           missed;
       number = refl;
       ok = tt;
-      err = refuses_from c.args.self.now ((g.C.PlainCommand.command c.args.command.now) ∷ []) record { part = part; holder = c.in-Err.holder } old new
+      err = refuses_from c.args.self.now ((g.C.PartCommand.command c.args.command.now) ∷ []) record { part = part; holder = c.in-Err.holder } old new
           c.requires.map.clients missed;
     }

@@ -23,7 +23,7 @@ store-requires g c = let v = c.args.seat.now.me.0 in (
   search rules,
   omega (arith, c.index-index.ensures.place, c.index-index.ensures.in_range, c.requires.place.1),
   ends_call_as 12 content part batch_answer IsInSky _ _ _ _ _ v _ _ (Some c.args.new) _
-      (call_by v.mine.number (g.P.PlainCommand.command c.args.command.now ∷ []) (c.args.reply.now ∷ [])) g.C.EndingCall.call
+      (call_by v.mine.number (g.P.PartCommand.command c.args.command.now ∷ []) (c.args.reply.now ∷ [])) g.C.EndingCall.call
       [] g.C.EndingCall.notes c.index-index.ensures.place c.requires.call.0 c.requires.call.1
       c.exchange.ensures.3 c.requires.client refl c.requires.held (λ h. nothing_in_empty_list c.args.part h) c.requires.answered,
 )
@@ -32,7 +32,7 @@ pub returns : goal.returns
 returns g c = let v = c.args.seat.now.me.0 in
     let t = ended_is 12 content part batch_answer IsInSky set.empty 0 c.args.table.now.table_id.slots c.index-index.result _
     c.store.new.seat.me v (Some c.args.new) _
-    (call_by v.mine.number (g.P.PlainCommand.command c.args.command.now ∷ []) (c.args.reply.now ∷ [])) g.C.EndingCall.call
+    (call_by v.mine.number (g.P.PartCommand.command c.args.command.now ∷ []) (c.args.reply.now ∷ [])) g.C.EndingCall.call
     [] g.C.EndingCall.notes c.requires.call.0 c.requires.call.1 c.exchange.ensures.3
     (rest_parts c.args.seat.now.me.1 (table_index c.args.part) _ (c.requires.carried ∙ ap (λ (l : List ℕ). map table_index l) c.requires.held)) c.store.ensures.2 in
     record {

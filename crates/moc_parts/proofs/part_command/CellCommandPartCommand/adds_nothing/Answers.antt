@@ -7,7 +7,7 @@ use Rattle.moc_parts.specs.Commands.{reply_on, set_after}
 use Rattle.moc_parts.specs.declared.part_command.CellAction.{CellAction}
 use Rattle.moc_parts.specs.declared.reply.Reply.TheVariants.{Changed}
 use Rattle.moc_parts.proofs.CellCommands.{from_true, union_with_subset, none_new}
-use Rattle.moc_parts.proofs.part_command.CellCommandPlainCommand.adds_nothing.Goals as goal
+use Rattle.moc_parts.proofs.part_command.CellCommandPartCommand.adds_nothing.Goals as goal
 
 pub returns-in-Add-clause-set : goal.returns-in-Add-clause-set
 returns-in-Add-clause-set c = from_true c.contains_cell.result (λ has.

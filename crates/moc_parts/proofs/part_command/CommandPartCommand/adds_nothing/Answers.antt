@@ -5,7 +5,7 @@ use Rattle.moc_parts.specs.Commands.{operand_set, reply_on, set_after, IsPlain}
 use Rattle.moc_parts.specs.declared.command.Command.{Command}
 use Rattle.moc_parts.specs.declared.reply.Reply.TheVariants.{Changed}
 use Rattle.moc_parts.proofs.CellCommands.{from_true, union_with_subset, none_new}
-use Rattle.moc_parts.proofs.part_command.CommandPlainCommand.adds_nothing.Goals as goal
+use Rattle.moc_parts.proofs.part_command.CommandPartCommand.adds_nothing.Goals as goal
 
 pub returns-in-Add-clause-set : goal.returns-in-Add-clause-set
 returns-in-Add-clause-set c = from_true c.covers.result (λ all.
