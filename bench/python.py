@@ -1,18 +1,20 @@
 #!/usr/bin/env python3
 """Times functions of the Python package, and in turn those of Python's sets, healpy, astropy-healpix and numpy if they are installed.
 
-usage: bench/python.py [REPEATS]
+usage: bench/python.py [REPEATS [GROUP..]]
 
-Needs numpy, the library in the folder of the package (`./moc library`), and the input of `generate.py` in bench/data, which `run.sh` makes.
-A line has the task and, for each package, the minimal time in seconds and the time of Ploverchaise divided by it. The results are compared
+Needs numpy and the library in the folder of the package (`./moc library`). The groups are `small` calls, unions of `many` sets, `numbers`
+of cells, and large `sets`, which need the input of `generate.py` in bench/data, which `run.sh` makes. By default all of them are timed. A
+line has the task and, for each package, the minimal time in seconds and the time of Ploverchaise divided by it. The results are compared
 before they are timed."""
 from __future__ import annotations
 
 import os
 import sys
 import time
-from collections.abc import Callable, Iterator
+from collections.abc import Callable, Iterable, Iterator
 from functools import partial
+from itertools import chain
 from typing import Any
 
 import numpy as numpy_module
@@ -20,7 +22,7 @@ import numpy as numpy_module
 TOP = os.path.dirname(os.path.dirname(os.path.abspath(__file__)))
 sys.path.insert(0, os.path.join(TOP, "python"))
 import ploverchaise  # noqa: E402
-from ploverchaise import MOC  # noqa: E402
+from ploverchaise import MOC, SharedMap  # noqa: E402
 
 # The packages have different types in different versions, and none is checked.
 numpy: Any = numpy_module
@@ -110,13 +112,29 @@ def set_tasks() -> Iterator[tuple[str, Task]]:
 
 def small_tasks() -> Iterator[tuple[str, Task]]:
     """Returns the tasks with small calls, each made `SMALL_CALLS` times, and the same calls of Python's sets of cells."""
-    a, b = MOC.from_string("3/1-30"), MOC.from_string("4/7-90")
-    cells, other = set(range(4, 124)), set(range(7, 91))
+    a, b, c = MOC.from_string("3/1-30"), MOC.from_string("4/7-90"), MOC.from_string("3/1-30")
+    cells, other, same = set(range(4, 124)), set(range(7, 91)), set(range(4, 124))
     calls: dict[str, tuple[Callable[[], Any], Callable[[], Any]]] = {
-        "contains(5)": (lambda: a.contains(5), lambda: 5 in cells), "union of two small sets": (lambda: a | b, lambda: cells | other),
-        "a small set equals another": (lambda: a == b, lambda: cells == other)}
+        "contains(5)": (lambda: a.contains(5), lambda: 5 in cells), "5 in a": (lambda: 5 in a, lambda: 5 in cells),
+        "a | b": (lambda: a | b, lambda: cells | other), "a == c, which are equal": (lambda: a == c, lambda: cells == same),
+        "a <= b": (lambda: a <= b, lambda: cells <= other), "a.isdisjoint(b)": (lambda: a.isdisjoint(b), lambda: cells.isdisjoint(other)),
+        "count": (a.count, lambda: len(cells)), "a set of 10 cells": (lambda: MOC.from_healpix_cells(ten, 9), lambda: set(ten))}
+    ten = list(range(0, 1000, 100))
     for name, (ours, theirs) in calls.items():
         yield f"{SMALL_CALLS} times {name}", {"ploverchaise": partial(repeat, ours), "set": partial(repeat, theirs)}
+    client = SharedMap(a).client()
+    for line in ("count 3/5", "near 3 5"):
+        yield f"{SMALL_CALLS} times {line} of a client", {"ploverchaise": partial(repeat, partial(client.apply, line))}
+
+
+def many_tasks() -> Iterator[tuple[str, Task]]:
+    """Returns the tasks with many sets."""
+    numbers = numpy.random.default_rng(8)
+    for title, order in (("1000 sets of 1000 cells", 13), ("1000 sets of 1000 cells, many of them in several sets", 8)):
+        mocs = [MOC.from_healpix_cells(numbers.integers(0, 12 * 4**order, 1000), order) for _ in range(1000)]
+        yield f"union_all of {title}", {"ploverchaise": partial(MOC.union_all, mocs)}
+    sets = [set(numbers.integers(0, 12 * 4**13, 1000).tolist()) for _ in range(1000)]
+    yield "union of 1000 sets of 1000 numbers", {"set": lambda: set().union(*sets)}
 
 
 def repeat(call: Callable[[], Any]) -> None:
@@ -143,16 +161,21 @@ def minimal_times(task: Task) -> dict[str, float]:
     return times
 
 
+GROUPS: dict[str, Callable[[], Iterable[tuple[str, Task]]]] = {
+    "small": small_tasks, "many": many_tasks, "numbers": lambda: chain(number_tasks(13), number_tasks(29)), "sets": set_tasks}
+
+
 def main() -> None:
-    """Compares and times all tasks."""
-    for title, task in (*small_tasks(), *number_tasks(13), *number_tasks(29), *set_tasks()):
-        result = task["ploverchaise"]()
-        for name, function in task.items():
-            if name != "ploverchaise" and not is_equal(result, function()):
+    """Compares and times the tasks of the groups."""
+    for title, task in chain.from_iterable(GROUPS[name]() for name in sys.argv[2:] or GROUPS):
+        results = {name: function() for name, function in task.items()}
+        first = next(iter(results))
+        for name, result in results.items():
+            if name != first and not is_equal(results[first], result):
                 raise SystemExit(f"{title}: the result of {name} differs")
         times = minimal_times(task)
-        own = times["ploverchaise"]
-        print(f"{title:40}" + "".join(f"  {name} {seconds:.3f} ({own / seconds:.2f})" for name, seconds in times.items()), flush=True)
+        texts = [f"{name} {seconds:.3g} ({times[first] / seconds:.2f})" for name, seconds in times.items()]
+        print(f"{title:40}  {'  '.join(texts)}", flush=True)
 
 
 if __name__ == "__main__":

@@ -12,6 +12,7 @@
 - The records of docs/DECISIONS.md have the numbers from 1, each once, and parts with fixed names.
 - Each line of the program in README.md is in the crate `example_library`, which CI proves and runs.
 - The output that README.md shows for its first command is the output that CI compares with the program's.
+- The tables of docs/GATE.md with the times of CI have the form that `tools/times.py` writes. Their numbers are not checked.
 - Each file that repeats the version of the project has the version of `ploverchaise.h`.
 
 usage: tests/texts.py
@@ -38,6 +39,7 @@ import diagrams  # noqa: E402
 import pictures  # noqa: E402
 import signatures  # noqa: E402
 import sky_pictures  # noqa: E402
+import times  # noqa: E402
 import version  # noqa: E402
 
 # The maximal number of columns of a line of a page, and of a cell of a table.
@@ -294,6 +296,26 @@ def check_first_output() -> Iterator[Check]:
     yield "README.md: the output of the first example is that of moc_cli/stdout", f"\n\n{shown}\n" in read_file("README.md")
 
 
+def check_times() -> Iterator[Check]:
+    """Checks the form of the tables of times, that of the times of two logs, and that a wrong form would be found."""
+    page = read_file(times.PAGE)
+    wrong = times.failures(page)
+    yield f"{times.PAGE}: the tables of times have the form of tools/times.py; wrong: {wrong}", not wrong
+    report = "moc: 7 functions checked, 9% of the time"
+    logs = [f"{report}, 0:10: moc_text, moc_ranges (reading its libraries)\n{report}, 2:00: moc_text\ntime: python 70.04 60.5 0.25\n"
+            "time: moc_text 3000\ntime: tests-of-map_tests 61\ntime: whole 5400 12m0.500s 1m0.000s\n",
+            "time: python 600.2 1m2.3s 0m0.000s\ntime: moc_text 3600\n"]
+    made = times.page_with(page, times.cells_of(logs))
+    for row in ("| `.ci/run`, whole | 90 min | 13 min |", "| `tests/python.py` | 70 s to 10 min | 61 to 62 s |", "| `tests/pages.py` | | |",
+                "| `moc_text` | 50 to 60 min | | 2.0 min |", "| `moc_ranges` | | | 10 s |", "| `map_tests` | | 61 s | |"):
+        yield f"tools/times.py writes {row!r}", f"\n{row}\n" in made
+    yield "the tables that tools/times.py writes have the right form", not times.failures(made)
+    yield "tools/times.py keeps the times of the page without logs", made == times.page_with(made)
+    for old, new in (("| 90 min |", "| about 90 min |"), ("| `rt ci` |", "| rt ci |"), ("Elapsed time |", "Time |"),
+                     ("<!-- end of times -->", "")):
+        yield f"{new!r} in place of {old!r} is found as a wrong form", len(times.failures(made.replace(old, new))) == 1
+
+
 def check_versions() -> Iterator[Check]:
     """Checks that each file that repeats the version has it once, and that it is the version of `ploverchaise.h`."""
     expected = version.read_version()
@@ -323,7 +345,7 @@ def main() -> int:
                              *check_pictures(), *check_numberings(), *check_crate_table(),
                              *check_line_lengths(), *check_cell_lengths(), *check_links(), *check_names_of_pages(),
                              *check_paths_of_pages(), *check_decisions(),
-                             *check_shown_program(), *check_first_output(), *check_versions()):
+                             *check_shown_program(), *check_first_output(), *check_times(), *check_versions()):
         tally.check(holds, f"does not hold: {statement}")
     return tally.finish()
 

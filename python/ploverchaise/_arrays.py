@@ -224,16 +224,21 @@ class PlainInput(Input):
             return cls(array("Q", [_to_uint64(numbers)]), True, outside=_first_outside([numbers]))
         elements, iterator = array("Q"), iter(numbers)
         outside: tuple[int, ...] = ()
-        while piece := list(islice(iterator, PIECE_LENGTH)):
-            unchecked: Any = piece
+        is_last = False
+        while not is_last:
+            piece: Any = list(islice(iterator, PIECE_LENGTH))
+            is_last = len(piece) < PIECE_LENGTH
             try:
-                part = array("Q", unchecked)
+                part = array("Q", piece)
             except OverflowError:
                 part = array("Q", map(_to_uint64, piece))
             # A search of bytes takes a fifth of the time of a search of numbers.
             if not outside and _INVALID_BYTES in part.tobytes():
                 outside = _first_outside(piece, len(elements))
-            elements += part
+            if elements:
+                elements += part
+            else:
+                elements = part
         return cls(elements, width=width, outside=outside)
 
     def __len__(self) -> int:

@@ -10,6 +10,9 @@ from .errors import MocError
 # The maximal number of bytes of a text that a quotation has.
 MAX_QUOTED = 40
 _SEPARATORS = (b" ", b",", b"\t", b"\r", b"\n")
+# A line of several numbers, which neither ASCII nor a NUNIQ list permits.
+_SEVERAL_NUMBERS = re.compile(rb"[ ,\t\r]*[0-9]+(?:[ ,\t\r]+[0-9]+)+[ ,\t\r]*")
+_EXPECTED_NUMBERS = "a NUNIQ list has one number on a line, and an ASCII text has an order such as 3/ before the cells"
 
 
 def likely_format(text: bytes) -> str | None:
@@ -18,6 +21,17 @@ def likely_format(text: bytes) -> str | None:
     if first is None or first[1] not in b"{0123456789s,":
         return None
     return "json" if first[1] == b"{" else "ascii" if b"/" in text else "uniq"
+
+
+def expectation_of(text: bytes, format: str, error: MocError) -> str:
+    """Returns what the formats expect if an error is about a line of several numbers without an order, or else an empty text."""
+    if format == "ascii" and error.name == "NoOrder":
+        line = _line_around(text, error.place[0])
+    elif format == "uniq" and error.name == "BadByte":
+        line = _line(text, error.place[0])
+    else:
+        return ""
+    return _EXPECTED_NUMBERS if _SEVERAL_NUMBERS.fullmatch(line) else ""
 
 
 def quote(part: bytes) -> str:
@@ -52,6 +66,12 @@ def _position_and_quotation(data: bytes, format: str, error: MocError) -> tuple[
 def _line(data: bytes, number: int) -> bytes:
     """Returns the line with a number, counted from 1."""
     return data.split(b"\n", number)[number - 1]
+
+
+def _line_around(data: bytes, place: int) -> bytes:
+    """Returns the line with the byte at a position."""
+    end = data.find(b"\n", place)
+    return data[data.rfind(b"\n", 0, place) + 1:end if end >= 0 else len(data)]
 
 
 def _word(data: bytes, place: int) -> bytes:

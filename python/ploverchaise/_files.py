@@ -76,7 +76,8 @@ class TextError(Exception):
 def recognize_format(data: bytes) -> str:
     """Returns the format of the content of a file that is not compressed.
 
-    A FITS file begins with the key SIMPLE. A text that looks like no format is ASCII."""
+    A FITS file begins with the key SIMPLE. A text has the format that it looks like by the rules of the program `moc`. If it looks like
+    none, it is read as ASCII."""
     return "fits" if data.startswith(_FITS_MAGIC) else likely_format(data) or "ascii"
 
 

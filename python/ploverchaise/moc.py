@@ -178,7 +178,8 @@ class MOC:
         ------
         MocError
             For the first error of the text. Its `detail` quotes the invalid part of a text of at most 256 KiB, or names another format if
-            the text looks like it. The errors are, by format:
+            the text looks like it. If a line has several numbers without an order, it states what the formats expect. The errors are, by
+            format:
 
             - ASCII, with the position of a byte: `BadByte`, `NoOrder`, `OrderTooLarge`, `CellTooLarge`, `Backwards`, `Unfinished`;
             - JSON, without a position: `NotJson`, `NotObject`; with the position of a name: `BadOrder`, `NotArray`; with those of a name
@@ -1401,20 +1402,24 @@ class MOC:
                 f"deepest order {self.max_order}>")
 
     def __reduce_ex__(self, protocol: SupportsIndex) -> tuple[object, ...]:
-        """Returns what pickle needs to make a copy: the class, and the bounds of the ranges, as a buffer from protocol 5 on."""
-        bounds = self._bounds()
+        """Returns what pickle needs to make a copy: the class, and the ranges or the NUNIQ numbers, whichever are fewer bytes.
+
+        They are a buffer from protocol 5 on."""
+        has_few_cells = sum(self.cell_count_by_order()) < 2 * self.range_count()
+        numbers = self._uniqs() if has_few_cells else self._bounds()
+        data: bytes | PickleBuffer = numbers.tobytes()
         if operator.index(protocol) >= 5:
             from pickle import PickleBuffer
 
-            return _unpickle, (type(self), PickleBuffer(bounds))
-        return _unpickle, (type(self), bounds.tobytes())
+            data = PickleBuffer(numbers)
+        return _unpickle, (type(self), "from_uniqs" if has_few_cells else "from_ranges", data)
 
 
-def _unpickle(kind: type[AnyMOC], data: bytes | bytearray | PickleBuffer) -> AnyMOC:
-    """Returns the MOC with these bounds of ranges, which are the bytes of `MOC._bounds`."""
-    bounds = array("Q")
-    bounds.frombytes(memoryview(data).cast("B"))
-    return kind._from_input("from_ranges", None, PlainInput(bounds, width=2))
+def _unpickle(kind: type[AnyMOC], function: str, data: bytes | bytearray | PickleBuffer) -> AnyMOC:
+    """Returns the MOC that a function of the library makes of the bytes of `MOC._uniqs` or of `MOC._bounds`."""
+    numbers = array("Q")
+    numbers.frombytes(memoryview(data).cast("B"))
+    return kind._from_input(function, None, PlainInput(numbers, width=1 if function == "from_uniqs" else 2))
 
 
 def _unite(mocs: Iterable[AnyMOC]) -> AnyMOC:
@@ -1464,13 +1469,17 @@ def _call(function: str, store: StoreHandle, *arguments: Any, is_long: bool) -> 
 
 
 def _text_error(error: MocError, text: bytes, format: str) -> MocError:
-    """Returns the error of a text, with the format that the text looks like, or with a quotation if the text has at most 256 KiB."""
-    from ._diagnostics import likely_format, quotation_of
+    """Returns the error of a text with what the formats expect, with the format that the text looks like, or with a quotation.
 
-    likely = likely_format(text)
-    if likely is not None and likely != format:
+    Only the error of a text of at most 256 KiB has a quotation or an expectation."""
+    from ._diagnostics import expectation_of, likely_format, quotation_of
+
+    is_short, likely = len(text) <= _MAX_QUOTED_TEXT, likely_format(text)
+    expectation = expectation_of(text, format, error) if is_short else ""
+    if not expectation and likely is not None and likely != format:
         return error._with_detail(f"this looks like {_FORMAT_NAMES[likely]}")
-    return error._with_detail(quotation_of(text, format, error)) if len(text) <= _MAX_QUOTED_TEXT else error
+    quotation = quotation_of(text, format, error) if is_short else ""
+    return error._with_detail(": ".join(part for part in (quotation, expectation) if part))
 
 
 def _json_member(order: object, cells: Iterable[SupportsIndex]) -> str:

@@ -143,7 +143,7 @@ class MapClient:
             raise ValueError("the timeout is not a number")
         ends = math.inf if timeout is None else time.monotonic() + timeout
         while True:
-            left = 1000 * max(0.0, ends - time.monotonic())
+            left = math.inf if timeout is None else 1000 * max(0.0, ends - time.monotonic())
             try:
                 return call() if left >= _TRY_MILLISECONDS else self._try_for(math.ceil(left), call)
             except MocError as error:

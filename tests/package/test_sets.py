@@ -77,6 +77,10 @@ class Examples(TestCase):
         cells = random_cells(9, 333)
         self.assertEqual(MOC.union_all(MOC.from_healpix_cells(cell, 9) for cell in cells), MOC.from_healpix_cells(cells, 9))
         self.assertEqual((MOC.union_all([]), MOC.union_all([MOC.full()])), (MOC(), MOC.full()))
+        # Small sets, sets that are united in pairs, and more ranges than are sorted at once.
+        counts = (3, 50_000, 900, 40_000, 20, 30_000, *[9000] * 40)
+        sets = [set(random_cells(9, count)) for count in counts]
+        self.assertEqual(MOC.union_all(MOC.from_healpix_cells(each, 9) for each in sets), MOC.from_healpix_cells(set().union(*sets), 9))
         invalid: Any = [MOC(), 3]
         with self.assertRaises(TypeError):
             MOC.union_all(invalid)
@@ -139,11 +143,20 @@ class Examples(TestCase):
         rows: list[tuple[str, Format, str]] = [
             ('{"0":[3]}', "ascii", "this looks like JSON"), (" \n{", "uniq", "this looks like JSON"),
             ("s3/1", "json", "this looks like ASCII"), ("0/1", "uniq", "this looks like ASCII"),
-            ("4\n5", "ascii", "this looks like a NUNIQ list"), ("x", "ascii", "`x`"), ("0/1 5/7x", "ascii", "`5/7x`"), ("", "json", "")]
+            ("4\n5", "ascii", "this looks like a NUNIQ list"), ("4\n5x 6", "uniq", "`5x 6`"), ("x", "ascii", "`x`"),
+            ("0/1 5/7x", "ascii", "`5/7x`"), ("", "json", "")]
         for text, format, detail in rows:
             with self.subTest(text=text), self.assertRaises(MocError) as caught:
                 MOC.from_string(text, format)
             self.assertEqual(caught.exception.detail, detail)
+        expected = "a NUNIQ list has one number on a line, and an ASCII text has an order such as 3/ before the cells"
+        lines: list[tuple[str, Format, str]] = [
+            ("12 13", "ascii", "`12`"), ("12 13", "uniq", "`12 13`"), ("12 13\n3/4", "ascii", "`12`"),
+            ("4\n, 5,13\t", "uniq", "`, 5,13\\x09`")]
+        for text, format, quotation in lines:
+            with self.subTest(text=text), self.assertRaises(MocError) as caught:
+                MOC.from_string(text, format)
+            self.assertEqual(caught.exception.detail, f"{quotation}: {expected}")
         with self.assertRaises(MocError) as caught:
             MOC.from_string('{"0":[3]}')
         self.assertEqual((caught.exception.name, caught.exception.place), ("BadByte", (0,)))
@@ -244,6 +257,17 @@ class Objects(TestCase):
         data = pickle.dumps(moc, 5, buffer_callback=buffers.append)
         self.assertEqual((len(buffers), len(data) < 200), (1, True))
         self.assertEqual(pickle.loads(data, buffers=buffers), moc)
+
+    def test_pickles_are_short(self) -> None:
+        """Checks that a pickle has the ranges, or the NUNIQ numbers if these are fewer bytes."""
+        cells = MOC.from_healpix_cells(range(0, 40_000, 2), 9)
+        ranges = MOC.from_ranges((start, start + 4**20 + 2) for start in range(1, 4**26, 4**21))
+        for moc, length in ((cells, 8 * 20_000), (ranges, 16 * 4**5)):
+            buffers: list[pickle.PickleBuffer] = []
+            data = pickle.dumps(moc, 5, buffer_callback=buffers.append)
+            self.assertEqual([len(memoryview(buffer).cast("B")) for buffer in buffers], [length])
+            self.assertEqual(pickle.loads(data, buffers=buffers), moc)
+            self.assertLess(len(pickle.dumps(moc, 4)), length + 200)
 
     def test_repr(self) -> None:
         self.assertEqual(repr(MOC.from_string("0/0 1/4-5")),
