@@ -10,34 +10,49 @@ from .errors import MocError
 # The maximal number of bytes of a text that a quotation has.
 MAX_QUOTED = 40
 _SEPARATORS = (b" ", b",", b"\t", b"\r", b"\n")
-# A line of several numbers, which neither ASCII nor a NUNIQ list permits.
-_SEVERAL_NUMBERS = re.compile(rb"[ ,\t\r]*[0-9]+(?:[ ,\t\r]+[0-9]+)+[ ,\t\r]*")
-_EXPECTED_NUMBERS = "a NUNIQ list has one number on a line, and an ASCII text has an order such as 3/ before the cells"
+# What a text must have in place of an error, by its format and the name of the error.
+_EXPECTED = {
+    ("ascii", "BadByte"): "words look like 3/, 10, 12-14 or 3/10", ("ascii", "Unfinished"): "words look like 3/, 10, 12-14 or 3/10",
+    ("ascii", "NoOrder"): "an order comes first, as in 3/", ("ascii", "OrderTooLarge"): "orders go up to 29",
+    ("ascii", "Backwards"): "a range goes from its first cell to its last",
+    ("json", "NotJson"): 'a text is one object, as in {"3":[10,12]}', ("json", "NotObject"): 'a text is one object, as in {"3":[10,12]}',
+    ("json", "BadOrder"): "names are orders from 0 to 29",
+    ("json", "NotArray"): 'the value of an order is an array, as in {"3":[10,12]}',
+    ("json", "NotWhole"): "cells are whole numbers of at most 64 bits",
+    ("uniq", "BadByte"): "each line is one number, of digits only", ("uniq", "NotUniq"): "NUNIQ numbers go from 4 to 4611686018427387903"}
 
 
 def likely_format(text: bytes) -> str | None:
     """Returns the format that a text looks like, by the rules of the program `moc`, or None if it looks like none."""
     first = re.match(rb"[ \t\r\n]*(.)", text, re.DOTALL)
-    if first is None or first[1] not in b"{0123456789s,":
+    if first is None:
         return None
-    return "json" if first[1] == b"{" else "ascii" if b"/" in text else "uniq"
+    if first[1] == b"{":
+        return "json"
+    if first[1] in b"0123456789s," and b"/" in text and re.search(rb"[0-9]", text):
+        return "ascii"
+    return "uniq" if re.fullmatch(rb"[0-9 \t\r\n]*", text) else None
 
 
 def expectation_of(text: bytes, format: str, error: MocError) -> str:
-    """Returns what the formats expect if an error is about a line of several numbers without an order, or else an empty text."""
-    if format == "ascii" and error.name == "NoOrder":
-        line = _line_around(text, error.place[0])
-    elif format == "uniq" and error.name == "BadByte":
-        line = _line(text, error.place[0])
+    """Returns what a text must have in place of an error, in the words of the program `moc`, or an empty text for another error."""
+    if error.name != "CellTooLarge":
+        return _EXPECTED.get((format, error.name), "")
+    if format == "ascii":
+        order = re.findall(rb"([0-9]+)/", text[:error.place[0]])[-1]
     else:
-        return ""
-    return _EXPECTED_NUMBERS if _SEVERAL_NUMBERS.fullmatch(line) else ""
+        order = _sorted_names(json.loads(text))[error.place[0]]
+    return f"cells of order {int(order)} go up to {12 * 4**int(order) - 1}"
 
 
-def quote(part: bytes) -> str:
-    """Returns a part of a text between backquotes. Bytes that are not printable ASCII, backquotes and backslashes are in hexadecimal."""
-    plain = "".join(chr(byte) if 32 <= byte <= 126 and byte not in b"\\`" else f"\\x{byte:02x}" for byte in part[:MAX_QUOTED])
-    return f"`{plain}`" + (".." if len(part) > MAX_QUOTED else "")
+def quote(part: bytes, at: int = 0) -> str:
+    """Returns a part of a text between backquotes, around the byte at a position.
+
+    Bytes that are not printable ASCII, backquotes and backslashes are in hexadecimal, and two points stand for what is left out."""
+    start = max(0, min(at - MAX_QUOTED // 2, len(part) - MAX_QUOTED))
+    shown = part[start:start + MAX_QUOTED]
+    plain = "".join(chr(byte) if 32 <= byte <= 126 and byte not in b"\\`" else f"\\x{byte:02x}" for byte in shown)
+    return (".." if start else "") + f"`{plain}`" + (".." if start + MAX_QUOTED < len(part) else "")
 
 
 def position_of(data: bytes, format: str, error: MocError) -> str:
@@ -58,9 +73,12 @@ def _position_and_quotation(data: bytes, format: str, error: MocError) -> tuple[
         return "", ""
     place = error.place[0]
     if format == "uniq":
-        return f"line {place}", quote(_line(data, place))
+        part = _line(data, place)
+        digits = re.match(rb"[0-9]*", part)
+        return f"line {place}", quote(part, digits.end() if digits else 0)
     line, start = data.count(b"\n", 0, place) + 1, data.rfind(b"\n", 0, place) + 1
-    return f"byte {place}, line {line}, byte {place - start} of it", quote(_word(data, place))
+    begin, end = _word_bounds(data, place)
+    return f"byte {place}, line {line}, byte {place - start} of it", quote(data[begin:end], place - begin)
 
 
 def _line(data: bytes, number: int) -> bytes:
@@ -68,17 +86,15 @@ def _line(data: bytes, number: int) -> bytes:
     return data.split(b"\n", number)[number - 1]
 
 
-def _line_around(data: bytes, place: int) -> bytes:
-    """Returns the line with the byte at a position."""
-    end = data.find(b"\n", place)
-    return data[data.rfind(b"\n", 0, place) + 1:end if end >= 0 else len(data)]
-
-
-def _word(data: bytes, place: int) -> bytes:
-    """Returns the bytes between the separators around a position."""
+def _word_bounds(data: bytes, place: int) -> tuple[int, int]:
+    """Returns the positions of the bytes between the separators around a position."""
     start = max(data.rfind(separator, 0, place) for separator in _SEPARATORS) + 1
-    end = min((end for end in (data.find(separator, place) for separator in _SEPARATORS) if end >= 0), default=len(data))
-    return data[start:end]
+    return start, min((end for end in (data.find(separator, place) for separator in _SEPARATORS) if end >= 0), default=len(data))
+
+
+def _sorted_names(content: dict[str, Any]) -> list[str]:
+    """Returns the names of a JSON object in byte order."""
+    return sorted(content, key=str.encode)
 
 
 def _position_in_json(data: bytes, error: MocError) -> tuple[str, str]:
@@ -91,7 +107,7 @@ def _position_in_json(data: bytes, error: MocError) -> tuple[str, str]:
         return "", ""
     if not error.place:
         return "", ""
-    name: str = sorted(content, key=str.encode)[error.place[0]]
+    name = _sorted_names(content)[error.place[0]]
     if error.name == "BadOrder":
         return f"name {error.place[0]}", quote(name.encode())
     if error.name == "NotArray":

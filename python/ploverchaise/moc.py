@@ -177,9 +177,8 @@ class MOC:
         Raises
         ------
         MocError
-            For the first error of the text. Its `detail` quotes the invalid part of a text of at most 256 KiB, or names another format if
-            the text looks like it. If a line has several numbers without an order, it states what the formats expect. The errors are, by
-            format:
+            For the first error of the text. Its `detail` names another format if the text looks like it. Otherwise it quotes the invalid
+            part of a text of at most 256 KiB, and states what must be in its place. The errors are, by format:
 
             - ASCII, with the position of a byte: `BadByte`, `NoOrder`, `OrderTooLarge`, `CellTooLarge`, `Backwards`, `Unfinished`;
             - JSON, without a position: `NotJson`, `NotObject`; with the position of a name: `BadOrder`, `NotArray`; with those of a name
@@ -1469,17 +1468,17 @@ def _call(function: str, store: StoreHandle, *arguments: Any, is_long: bool) -> 
 
 
 def _text_error(error: MocError, text: bytes, format: str) -> MocError:
-    """Returns the error of a text with what the formats expect, with the format that the text looks like, or with a quotation.
+    """Returns the error of a text with the other format that the text looks like, or with a quotation and what must be in its place.
 
-    Only the error of a text of at most 256 KiB has a quotation or an expectation."""
+    Only the error of a text of at most 256 KiB has a quotation."""
     from ._diagnostics import expectation_of, likely_format, quotation_of
 
-    is_short, likely = len(text) <= _MAX_QUOTED_TEXT, likely_format(text)
-    expectation = expectation_of(text, format, error) if is_short else ""
-    if not expectation and likely is not None and likely != format:
+    likely = likely_format(text)
+    if likely is not None and likely != format:
         return error._with_detail(f"this looks like {_FORMAT_NAMES[likely]}")
-    quotation = quotation_of(text, format, error) if is_short else ""
-    return error._with_detail(": ".join(part for part in (quotation, expectation) if part))
+    if len(text) > _MAX_QUOTED_TEXT:
+        return error
+    return error._with_detail(": ".join(part for part in (quotation_of(text, format, error), expectation_of(text, format, error)) if part))
 
 
 def _json_member(order: object, cells: Iterable[SupportsIndex]) -> str:

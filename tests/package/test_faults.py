@@ -150,9 +150,9 @@ class Errors(TestCase):
             ("power of two, not 3", lambda: nest2ring(3, 0)),
             ("the order is 2, and the deepest cells have order 3", lambda: moc.to_string(max_order=2)),
             ("the order is 1, and the deepest cells have order 3", lambda: moc.add_neighbours(1)),
-            ("(byte 8): `2/7-5`", lambda: MOC.from_string("1/0-3\n2/7-5")),
-            ("(line 2): `3`", lambda: MOC.from_string("4\n3\n", "uniq")),
-            ("(name 0, item 1): `48`", lambda: MOC.from_json({"1": [0, 48]})),
+            ("(byte 8): `2/7-5`: a range goes from its first cell to its last", lambda: MOC.from_string("1/0-3\n2/7-5")),
+            ("(line 2): `3`: NUNIQ numbers go from 4 to 4611686018427387903", lambda: MOC.from_string("4\n3\n", "uniq")),
+            ("(name 0, item 1): `48`: cells of order 1 go up to 47", lambda: MOC.from_json({"1": [0, 48]})),
             ("(byte 0): this looks like a NUNIQ list", lambda: MOC.from_string("4\n5\n")),
             ("at least 0, not -1", lambda: moc.to_string(fold=-1))]
         for end, call in rows:
@@ -162,8 +162,10 @@ class Errors(TestCase):
 
     def test_quotations_of_long_texts(self) -> None:
         """Checks that the error of a text of 256 KiB has a quotation, and that of a longer text has none."""
-        rows: tuple[tuple[Format, str, str, str], ...] = (("ascii", "29/0", " 5/7x", "`5/7x`"), ("json", '{"1":[0', ",48]}", "`48`"),
-                                                          ("uniq", "4", "\n3", "`3`"))
+        rows: tuple[tuple[Format, str, str, str], ...] = (
+            ("ascii", "29/0", " 5/7x", "`5/7x`: words look like 3/, 10, 12-14 or 3/10"),
+            ("json", '{"1":[0', ",48]}", "`48`: cells of order 1 go up to 47"),
+            ("uniq", "4", "\n3", "`3`: NUNIQ numbers go from 4 to 4611686018427387903"))
         for text_format, start, end, quotation in rows:
             for length, detail in ((2**18, quotation), (2**18 + 1, "")):
                 text = start + " " * (length - len(start) - len(end)) + end

@@ -139,24 +139,29 @@ class Examples(TestCase):
             self.assertEqual(caught.exception.detail, detail)
 
     def test_hints(self) -> None:
-        """Checks that an error names the format that the text looks like, as the program does, or else quotes the text."""
+        """Checks that an error names the format that the text looks like, or else quotes the text and states what must be there."""
+        words, cells = "words look like 3/, 10, 12-14 or 3/10", "cells of order 1 go up to 47"
+        number = "each line is one number, of digits only"
         rows: list[tuple[str, Format, str]] = [
             ('{"0":[3]}', "ascii", "this looks like JSON"), (" \n{", "uniq", "this looks like JSON"),
             ("s3/1", "json", "this looks like ASCII"), ("0/1", "uniq", "this looks like ASCII"),
-            ("4\n5", "ascii", "this looks like a NUNIQ list"), ("4\n5x 6", "uniq", "`5x 6`"), ("x", "ascii", "`x`"),
-            ("0/1 5/7x", "ascii", "`5/7x`"), ("", "json", "")]
+            ("4\n5", "ascii", "this looks like a NUNIQ list"), ("12 13", "ascii", "this looks like a NUNIQ list"),
+            ("4\n5x 6", "uniq", f"`5x 6`: {number}"), ("12 13", "uniq", f"`12 13`: {number}"),
+            ("4\n, 5,13\t", "uniq", f"`, 5,13\\x09`: {number}"), ("3\n", "uniq", "`3`: NUNIQ numbers go from 4 to 4611686018427387903"),
+            ("x", "ascii", f"`x`: {words}"), ("0/1 5/7x", "ascii", f"`5/7x`: {words}"), ("5/7-", "ascii", f"`5/7-`: {words}"),
+            ("s", "json", 'a text is one object, as in {"3":[10,12]}'), ("9:1,5", "json", 'a text is one object, as in {"3":[10,12]}'),
+            ("12 13\n3/4", "ascii", "`12`: an order comes first, as in 3/"), ("30/1", "ascii", "`30/1`: orders go up to 29"),
+            ("0/3 001/48", "ascii", f"`001/48`: {cells}"), ('{"0":[3],"1":[5,48]}', "json", f"`48`: {cells}"),
+            ("2/7-5", "ascii", "`2/7-5`: a range goes from its first cell to its last"),
+            ('{"x":[]}', "json", "`x`: names are orders from 0 to 29"),
+            ('{"1":3}', "json", '`1`: the value of an order is an array, as in {"3":[10,12]}'),
+            ('{"1":[-1]}', "json", "`-1`: cells are whole numbers of at most 64 bits"),
+            (f"1/{'7' * 60}x{'7' * 60}", "ascii", f"..`{'7' * 20}x{'7' * 19}`..: {words}"),
+            ("", "json", 'a text is one object, as in {"3":[10,12]}')]
         for text, format, detail in rows:
             with self.subTest(text=text), self.assertRaises(MocError) as caught:
                 MOC.from_string(text, format)
             self.assertEqual(caught.exception.detail, detail)
-        expected = "a NUNIQ list has one number on a line, and an ASCII text has an order such as 3/ before the cells"
-        lines: list[tuple[str, Format, str]] = [
-            ("12 13", "ascii", "`12`"), ("12 13", "uniq", "`12 13`"), ("12 13\n3/4", "ascii", "`12`"),
-            ("4\n, 5,13\t", "uniq", "`, 5,13\\x09`")]
-        for text, format, quotation in lines:
-            with self.subTest(text=text), self.assertRaises(MocError) as caught:
-                MOC.from_string(text, format)
-            self.assertEqual(caught.exception.detail, f"{quotation}: {expected}")
         with self.assertRaises(MocError) as caught:
             MOC.from_string('{"0":[3]}')
         self.assertEqual((caught.exception.name, caught.exception.place), ("BadByte", (0,)))

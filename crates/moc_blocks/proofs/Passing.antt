@@ -1,16 +1,16 @@
 -- Skipping the first runs of a list of ranges.
 use Rattle.std.proofs.Common.{◌≡◌, ℕ, zero, suc, ◌/◌, inl, inr, Option, None, Some, MatchOption, Bor, ◌+◌, ◌-◌, ◌<◌}
 use Rattle.std.proofs.Common.{◌≤◌, List, [], ◌∷◌, ◌++◌, length, get_or, take, drop, refl, sym, ap, subst, ◌∙◌, arith}
-use Rattle.std.proofs.Common.{append_assoc}
+use Rattle.std.proofs.Common.{append_assoc, length-take}
 use Rattle.std.proofs.lemmas.Bool.{cases_lt}
-use Rattle.std.proofs.lemmas.List.{take_more, drop_more, take_rest, take-append-drop, take_all, get_or_default}
+use Rattle.std.proofs.lemmas.List.{take_more, drop_more, take_rest, take-append-drop, take_all, get_or_default, get_or-take, get_or-drop}
 use Rattle.std.proofs.lemmas.List.Sums.{sum_by-cons}
 use Rattle.std.specs.Slice.{IsItemAt}
 use Rattle.std.specs.Option.{option_copied}
 use Rattle.moc_blocks.specs.RangeList.{pixel_count, IsNormal}
 use Rattle.moc_blocks.specs.Blocks.{concat}
 use Rattle.moc_blocks.specs.Private.Blocks.{first_of, last_of, width_of, rest_of}
-use Rattle.moc_blocks.specs.Private.Walks.{all_ranges, EndsBy, overlap_of, Skips, EndsAfterAt, IsSkipping, IsFirstAfter}
+use Rattle.moc_blocks.specs.Private.Walks.{all_ranges, EndsBy, overlap_of, Skips, EndsAfterAt, IsCounting, IsSkipping, IsFirstAfter}
 use Rattle.moc_blocks.proofs.Blocking.{IsNormal-prefix, IsNormal-suffix, width_bounded, last_of-append, concat-append}
 use Rattle.moc_blocks.proofs.Blocking.{none_there, append_empty}
 
@@ -111,6 +111,61 @@ ends_after_later {T} f xs limit place n ended near past = λ run inside. elim (c
   | inl before ↦ absurd (let le = run_ends_by f xs n place limit run before (omega arith) ended in let gt = past run (omega arith) in omega arith)
   | inr here ↦ let same : place ≡ n = omega arith in subst (λ (k : ℕ). EndsAfterAt f xs limit k) same past run inside
 ]
+
+pub counts_none : {T : Type 0} (f : T → List (ℕ × ℕ)) (xs : List T) (limit low size : ℕ) → IsSkipping f xs limit low size → IsCounting f xs limit low 0 low
+counts_none {T} f xs limit low size s = record {
+  least = omega arith;
+  most = omega arith;
+  before = s.before;
+  past = λ lt. absurd (omega (arith, lt));
+}
+
+-- the next run is counted if it ends at or before the limit
+pub counts_more : {T : Type 0} (f : T → List (ℕ × ℕ)) (xs : List T) (limit low read place : ℕ) (x : T) (one : ℕ) → IsNormal (all_ranges f xs) → low + read < length xs
+    → x ≡ get_or xs (low + read) x → 0 < length (f x) → (last_of (f x) ≤ limit → one ≡ 1) → (limit < last_of (f x) → one ≡ 0)
+    → IsCounting f xs limit low read place → IsCounting f xs limit low (read + 1) (place + one)
+counts_more {T} f xs limit low read place x one normal inside is some ended later s =
+    let least = s.least in
+    let most = s.most in
+    elim (cases_lt limit (last_of (f x))) [
+      | inl lt ↦
+          let none : one ≡ 0 = later lt in
+          let same : place + one ≡ place = omega arith in
+          record {
+            least = omega arith;
+            most = omega arith;
+            before = subst (λ n. EndsBy limit (all_ranges f (take n xs))) (sym same) s.before;
+            past = λ fewer. subst (EndsAfterAt f xs limit) (sym same) (elim (cases_lt place (low + read)) [
+              | inl before ↦ s.past before
+              | inr here ↦ let last : place ≡ low + read = omega arith in subst (EndsAfterAt f xs limit) (sym last) (ends_after_at_index f xs limit (low + read) x is lt)
+            ]);
+          }
+      | inr le ↦
+          let all : EndsBy limit (all_ranges f (take (low + read + 1) xs)) = ends_by_next f xs (low + read) limit x normal inside is some le in
+          elim (cases_lt place (low + read)) [
+            | inl before ↦ absurd (let ends = run_ends_by f xs (low + read + 1) place limit x (omega arith) (omega arith) all in let after = s.past before x (omega arith) in omega arith)
+            | inr here ↦
+                let counted : one ≡ 1 = ended le in
+                let next : low + read + 1 ≡ place + one = omega arith in
+                record {
+                  least = omega arith;
+                  most = omega arith;
+                  before = subst (λ n. EndsBy limit (all_ranges f (take n xs))) next all;
+                  past = λ fewer. absurd (omega (arith, fewer));
+                }
+          ]
+    ]
+
+-- after all runs of a search, the next one ends after the limit
+pub counted_past : {T : Type 0} (f : T → List (ℕ × ℕ)) (xs : List T) (limit low size place : ℕ) → IsSkipping f xs limit low size → IsCounting f xs limit low size place → EndsAfterAt f xs limit place
+counted_past {T} f xs limit low size place s counted = elim (cases_lt place (low + size)) [
+  | inl before ↦ counted.past before
+  | inr here ↦ let near = s.near in ends_after_later f xs limit s.place place counted.before (omega arith) s.past
+]
+
+-- the run at an index from `low` on
+pub run_from : {T : Type 0} (xs : List T) (low size i : ℕ) (x : T) → i < length (take (low + size - low) (drop low xs)) → x ≡ get_or (take (low + size - low) (drop low xs)) i x → x ≡ get_or xs (low + i) x
+run_from {T} xs low size i x lt is = is ∙ get_or-take (low + size - low) (drop low xs) i x (omega (arith, length-take (low + size - low) (drop low xs))) ∙ get_or-drop low xs i x
 
 -- if a run ends after the limit, the result of the search is at or before it
 pub skip_before : {T : Type 0} (f : T → List (ℕ × ℕ)) (xs : List T) (limit low : ℕ) (x : T) → 0 < low → low ≤ length xs → x ≡ get_or xs (low - 1) x → limit < last_of (f x) → IsSkipping f xs limit 0 low

@@ -10,6 +10,7 @@ ghost use Rattle.moc_blocks.specs.Private.Edits.{FitsSplice, after_splice};
 use crate::edits::splice::Splice;
 use std::alloc::{AllocError, Global};
 use std::marker::Model;
+use std::num::{nearest_u64_to_f64, saturating_f64_to_u64};
 use std::sync::Arc;
 
 /// The maximum number of ranges of a block.
@@ -162,6 +163,15 @@ impl Block {
         ensures fits { length self.now ≤ MAX_BLOCK_RANGES }
     {
         &self.ranges
+    }
+
+    /// Estimates how many of the ranges begin below a number, as if they were evenly spaced.
+    #[inline]
+    pub(crate) fn estimated_place(&self, number: u64) -> usize {
+        let passed = nearest_u64_to_f64(number.saturating_sub(self.from));
+        let width = nearest_u64_to_f64(self.to.saturating_sub(self.from));
+        let count = nearest_u64_to_f64(self.ranges.len() as u64);
+        saturating_f64_to_u64(passed / width * count) as usize
     }
 
     /// Changes ranges in place if this block is the only owner of its list, and returns whether they were changed. The

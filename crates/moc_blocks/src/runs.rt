@@ -12,6 +12,9 @@ use crate::node::Node;
 /// The search near a guess covers this many runs to each side.
 const NEAR: usize = 8;
 
+/// A search compares up to this number of runs one by one.
+const FEW: usize = 16;
+
 /// One or more ranges in ascending order: a range, a block, or a node.
 pub(crate) trait Run {
     ghost ranges: { Self → List (ℕ × ℕ) };
@@ -106,6 +109,23 @@ fn step_past(step: usize, end: u64, limit: u64) -> usize
     step & mask
 }
 
+/// Returns the same number as `count_ended_from`. Compares each of the `size` runs, because then no load waits for the
+/// comparison before it, as in a binary search.
+#[inline]
+fn count_each<T: Run>(runs: &[T], limit: u64, low: usize, size: usize) -> usize
+    requires normal { IsNormal (all_ranges T.ranges runs.now) }
+    requires there { IsSkipping T.ranges runs.now limit low size }
+    ensures bound { result ≤ length runs.now }
+    ensures ended { EndsBy limit (all_ranges T.ranges (take result runs.now)) }
+    ensures past { EndsAfterAt T.ranges runs.now limit result }
+{
+    let mut place = low;
+    for run in &runs[low..low + size] {
+        place += usize::from(run.end() <= limit);
+    }
+    place
+}
+
 /// Returns the number of runs that end at or before the limit. Requires that all runs before `low` do, and that none
 /// from `low + size` on does. O(log size).
 #[inline]
@@ -118,15 +138,12 @@ fn count_ended_from<T: Run>(runs: &[T], limit: u64, low: usize, size: usize) -> 
 {
     let mut low = low;
     let mut size = size;
-    while size > 1 {
+    while size > FEW {
         let half = size / 2;
         low += step_past(half, runs[low + half].end(), limit);
         size -= half;
     }
-    if size > 0 && runs[low].end() <= limit {
-        low += 1;
-    }
-    low
+    count_each(runs, limit, low, size)
 }
 
 /// Returns the number of runs that end at or before the limit. O(log n).
@@ -170,6 +187,17 @@ pub(crate) fn first_ending_after<T: Run>(runs: &[T], limit: u64) -> Option<&T>
         (λ run. IsFirstAfter limit (T.ranges run.now) (all_ranges T.ranges runs.entry.now)) }
 {
     runs.get(count_ended(runs, limit))
+}
+
+/// Returns the same run as `first_ending_after`, from a guess of its position. Reads less memory if the guess is good.
+#[inline]
+pub(crate) fn first_ending_near<T: Run>(runs: &[T], limit: u64, about: usize) -> Option<&T>
+    requires { IsNormal (all_ranges T.ranges runs.now) }
+    ensures { MatchOption result
+        (EndsBy limit (all_ranges T.ranges runs.entry.now))
+        (λ run. IsFirstAfter limit (T.ranges run.now) (all_ranges T.ranges runs.entry.now)) }
+{
+    runs.get(count_ended_near(runs, limit, about))
 }
 
 /// Ranges at the front of a list, and the ranges after them.

@@ -26,6 +26,14 @@ pub record IsSkipping {T : Type 0} (ranges : T → List (ℕ × ℕ)) (runs : Li
   pub near : place ≤ low + size
   pub past : EndsAfterAt ranges runs limit place
 
+-- the invariant of a count: the first `place` runs end at or before the limit, and if they are fewer than the runs that
+-- were read from `low` on, the next run ends after it
+pub record IsCounting {T : Type 0} (ranges : T → List (ℕ × ℕ)) (runs : List T) (limit low read place : ℕ) : Type 0 where
+  pub least : low ≤ place
+  pub most : place ≤ low + read
+  pub before : EndsBy limit (all_ranges ranges (take place runs))
+  pub past : place < low + read → EndsAfterAt ranges runs limit place
+
 -- the ranges of the first run that ends after the limit, in the ranges of all runs
 pub record IsFirstAfter (limit : ℕ) (run whole : List (ℕ × ℕ)) : Type 0 where
   pub removed : List (ℕ × ℕ)

@@ -15,7 +15,6 @@ use crate::edits::rebuild::{EditKind, ranges_in_next};
 use crate::lengths::ranges_in_last;
 use crate::node::Node;
 use crate::runs::count_ended_near;
-use std::num::{nearest_u64_to_f64, saturating_f64_to_u64};
 
 /// How an edit changes the ranges of a block: at a position, up to two ranges are replaced by up to two others.
 #[derive(Clone, Copy)]
@@ -99,15 +98,6 @@ pub struct BlockSplice {
     pub splice: Splice,
 }
 
-/// Estimates how many of a block's ranges begin below a number, as if they were evenly spaced.
-#[inline]
-fn estimated_place(block: &Block, number: u64) -> usize {
-    let passed = nearest_u64_to_f64(number.saturating_sub(block.from()));
-    let width = nearest_u64_to_f64(block.to().saturating_sub(block.from()));
-    let count = nearest_u64_to_f64(block.ranges().len() as u64);
-    saturating_f64_to_u64(passed / width * count) as usize
-}
-
 /// Returns whether no range begins before the limit.
 fn begins_at_or_after(ranges: &[(u64, u64)], limit: u64) -> bool
     requires { limit ≤ pixel_count }
@@ -183,7 +173,7 @@ fn splice_of(block: &Block, edit: EditKind, from: u64, to: u64) -> Option<Splice
     requires within { to ≤ pixel_count }
     ensures { IfSome result (IsSplice edit from to block.now) }
 {
-    let about = estimated_place(block, from);
+    let about = block.estimated_place(from);
     match edit {
         EditKind::Insert => insertion(block.ranges(), about, from, to),
         EditKind::Remove => removal(block.ranges(), about, from, to),

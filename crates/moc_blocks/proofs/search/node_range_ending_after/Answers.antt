@@ -21,8 +21,8 @@ returns-in_err-block c =
     let node = first_after_in_node c.args.limit c.in_ok-node.node.now c.args.nodes.now c.in_ok-node.ensures in
     absurd (no_block_ends_after c.args.limit c.blocks-2.result.now c.in_ok-node.node.now c.args.nodes.now node c.blocks-2.ensures.value c.in_err-block.ensures)
 
-pub range_ending_after-requires : goal.range_ending_after-requires
-range_ending_after-requires c =
+pub range_ending_near-requires : goal.range_ending_near-requires
+range_ending_near-requires c =
     let node = first_after_in_node c.args.limit c.in_ok-node.node.now c.args.nodes.now c.in_ok-node.ensures in
     let block = first_after_in_block c.args.limit c.in_ok-block.block.now c.blocks-2.result.now c.in_ok-node.node.now c.args.nodes.now node c.blocks-2.ensures.value c.in_ok-block.ensures in
     subst IsNormal (sym c.ranges-2.ensures.value) (first_after_normal c.args.limit _ _ c.requires block)
@@ -31,4 +31,4 @@ pub returns : goal.returns
 returns c =
     let node = first_after_in_node c.args.limit c.in_ok-node.node.now c.args.nodes.now c.in_ok-node.ensures in
     let block = first_after_in_block c.args.limit c.in_ok-block.block.now c.blocks-2.result.now c.in_ok-node.node.now c.args.nodes.now node c.blocks-2.ensures.value c.in_ok-block.ensures in
-    first_range_after_in_block c.args.limit c.ranges-2.result.now c.in_ok-block.block.now _ c.range_ending_after.result block c.ranges-2.ensures.value c.range_ending_after.ensures
+    first_range_after_in_block c.args.limit c.ranges-2.result.now c.in_ok-block.block.now _ c.range_ending_near.result block c.ranges-2.ensures.value c.range_ending_near.ensures
