@@ -6,7 +6,10 @@ usage: bench/threads.py [SECONDS]
 Needs numpy and the library in the folder of the package (`./moc library`). Run it on a quiet machine with four processors. For each task,
 the threads of a round repeat the call on the same sets for SECONDS, by default 1. There are three rounds for each number of threads, and
 the round with the most calls counts. A line has the task, the time of a call on one thread in microseconds, and the number of calls of two
-and of four threads in a second, divided by the number of one thread. The first task shows which ratios the machine permits."""
+and of four threads in a second, divided by the number of one thread. The first task shows which ratios the machine permits.
+
+In parentheses is the share of the time for which the threads waited for the GIL or for a lock, by Linux's statistics of the scheduler. It
+does not count the time for which they waited for a processor. On a busy machine fewer threads run at once, so the share is smaller."""
 from __future__ import annotations
 
 import hashlib
@@ -18,7 +21,7 @@ import time
 from collections.abc import Callable, Iterator
 from functools import partial
 from itertools import chain
-from typing import Any
+from typing import Any, NamedTuple
 
 import numpy as numpy_module
 
@@ -80,37 +83,52 @@ def small_tasks() -> Iterator[Task]:
     yield "count of a base pixel in a map", [partial(shared.client().apply, f"count 0/{number}") for number in range(max(THREADS))]
 
 
-def calls_per_second(calls: list[Callable[[], object]], count: int) -> float:
-    """Returns how many calls this number of threads make in a second together."""
-    barrier, rates = threading.Barrier(count), [0.0] * count
+class Round(NamedTuple):
+    """The calls per second of some threads together, and the share of the time for which they neither ran nor were ready to run."""
+
+    rate: float
+    blocked: float
+
+
+def ready_time() -> float:
+    """Returns the seconds for which this thread has run, or was ready and waited for a processor."""
+    with open("/proc/thread-self/schedstat", encoding="ascii") as file:
+        run, wait, _ = file.read().split()
+    return (int(run) + int(wait)) / 1e9
+
+
+def measure(calls: list[Callable[[], object]], count: int) -> Round:
+    """Makes a round with this number of threads."""
+    barrier, rates, ready = threading.Barrier(count), [0.0] * count, [0.0] * count
 
     def work(number: int) -> None:
         call, made = calls[number], 0
         call()
         barrier.wait()
-        start = time.perf_counter()
-        while (elapsed := time.perf_counter() - start) < SECONDS or not made:
+        start, ready_before = time.perf_counter(), ready_time()
+        while time.perf_counter() - start < SECONDS or not made:
             call()
             made += 1
-        rates[number] = made / elapsed
+        ready_after, elapsed = ready_time(), time.perf_counter() - start
+        rates[number], ready[number] = made / elapsed, (ready_after - ready_before) / elapsed
 
     threads = [threading.Thread(target=work, args=(number,)) for number in range(count)]
     for thread in threads:
         thread.start()
     for thread in threads:
         thread.join()
-    return sum(rates)
+    return Round(sum(rates), max(0.0, 1 - sum(ready) / count))
 
 
 def main() -> None:
     """Measures all tasks."""
     for title, calls in chain([reference_task()], array_tasks(), small_tasks()):
-        rates = {count: 0.0 for count in THREADS}
+        best = {count: Round(0, 0) for count in THREADS}
         for _ in range(TURNS):
             for count in THREADS:
-                rates[count] = max(rates[count], calls_per_second(calls, count))
-        ratios = "".join(f"  {count} threads {rates[count] / rates[1]:.2f}" for count in THREADS[1:])
-        print(f"{title:44} {1e6 / rates[1]:10.1f} us{ratios}", flush=True)
+                best[count] = max(best[count], measure(calls, count))
+        parts = [f"{count} threads {best[count].rate / best[1].rate:.2f} ({best[count].blocked:.0%})" for count in THREADS[1:]]
+        print(f"{title:44} {1e6 / best[1].rate:10.1f} us  {'  '.join(parts)}", flush=True)
 
 
 if __name__ == "__main__":
