@@ -33,7 +33,6 @@ PIXEL_COUNT = 12 * 4**29
 
 # The functions of the library that parse a text, by the name of its format.
 _PARSERS = {"ascii": "read_ascii", "json": "read_json", "uniq": "read_uniq"}
-_FORMAT_NAMES = {"ascii": "ASCII", "json": "JSON", "uniq": "a NUNIQ list"}
 # A call with MOCs of more ranges, or with a longer text, may take long.
 _MAX_SHORT_RANGES, _MAX_SHORT_TEXT = 500_000, 2**22
 # An error quotes a part only of a text that is not longer. To find the part in JSON, Python parses the text again, and no other thread of
@@ -1464,12 +1463,12 @@ def _call(function: str, store: StoreHandle, *arguments: Any, is_long: bool) -> 
 
 
 def _text_error(error: MocError, text: bytes, format: str) -> MocError:
-    """Returns the error of a text, with the format that the text looks like, or with a quotation if the text has at most 256 KiB."""
-    from ._diagnostics import likely_format, quotation_of
+    """Returns the error of a text, with what the text looks like, or with a quotation if the text has at most 256 KiB."""
+    from ._diagnostics import likely_content, quotation_of
 
-    likely = likely_format(text)
-    if likely is not None and likely != format:
-        return error._with_detail(f"this looks like {_FORMAT_NAMES[likely]}")
+    content = likely_content(text, format)
+    if content is not None:
+        return error._with_detail(f"this looks like {content}")
     return error._with_detail(quotation_of(text, format, error)) if len(text) <= _MAX_QUOTED_TEXT else error
 
 

@@ -22,6 +22,9 @@ from .common import TOP, TestCase, needs
 PROGRAM = os.environ.get("MOC", os.path.join(TOP, "crates", "moc_cli", "out", "moc_cli"))
 # The area of the sky in square degrees, 360^2 / pi.
 SKY = 41252.96124941927
+# The lines that the program prints after the position of an error, and the package does not.
+OTHER_LINES = ("this looks like", "words look like", "an order comes", "orders go", "cells of order", "cells are", "a range goes",
+               "a text is one", "names are", "the value of an order", "each line is", "NUNIQ numbers")
 
 
 class Result(NamedTuple):
@@ -190,7 +193,7 @@ class Commands(CommandCase):
             expected = []
             for format in ("ascii", "json", "uniq"):
                 result = subprocess.run([PROGRAM, "check", format], input=text, capture_output=True, timeout=60)
-                expected.append([line for line in result.stderr.decode().splitlines() if not line.startswith("this looks like")])
+                expected.append([line for line in result.stderr.decode().splitlines() if not line.startswith(OTHER_LINES)])
             found = lines.get(f"{number}.text", [])
             if found[:1] == ["fault NotJson"]:
                 # Python's parser and serde_json may report different columns.

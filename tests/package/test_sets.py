@@ -135,11 +135,13 @@ class Examples(TestCase):
             self.assertEqual(caught.exception.detail, detail)
 
     def test_hints(self) -> None:
-        """Checks that an error names the format that the text looks like, as the program does, or else quotes the text."""
+        """Checks that an error names what the text looks like, as the program does, or else quotes the text."""
         rows: list[tuple[str, Format, str]] = [
             ('{"0":[3]}', "ascii", "this looks like JSON"), (" \n{", "uniq", "this looks like JSON"),
             ("s3/1", "json", "this looks like ASCII"), ("0/1", "uniq", "this looks like ASCII"),
-            ("4\n5", "ascii", "this looks like a NUNIQ list"), ("x", "ascii", "`x`"), ("0/1 5/7x", "ascii", "`5/7x`"), ("", "json", "")]
+            ("4\n5", "ascii", "this looks like a NUNIQ list"), ("x", "ascii", "`x`"), ("0/1 5/7x", "ascii", "`5/7x`"), ("", "json", ""),
+            ("\ufeff0/1", "ascii", "this looks like UTF-8 with a byte order mark"), ("<svg/>", "json", "this looks like HTML or XML"),
+            ("9:1,5", "ascii", "`9:1`"), ("s", "json", ""), ("0/" + "1" * 50 + "x", "ascii", "..`" + "1" * 39 + "x`")]
         for text, format, detail in rows:
             with self.subTest(text=text), self.assertRaises(MocError) as caught:
                 MOC.from_string(text, format)
