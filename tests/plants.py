@@ -77,7 +77,7 @@ DEFECTS = [
     Defect("error_is_never_reported", "moc_cli", "src/status.rt",
            "    let _ = error.report(errors);", "    let _ = &errors;", "prove"),
     Defect("longest_input_is_rejected", "moc_conversion", "src/reading.rt",
-           "    while text.len() <= INPUT_LIMIT {", "    while text.len() < INPUT_LIMIT {", "prove"),
+           "    while text.len() <= limit {", "    while text.len() < limit {", "prove"),
     # pages
     Defect("example_of_a_help_text_has_a_wrong_number", "moc_command_line", "src/help.rt",
            " ; total 23643898043695104", " ; total 23643898043695103", "script", "pages"),

@@ -6,6 +6,7 @@ failed. The environment variable MOC has the path of the program; the default is
 `N passed, M failed`."""
 from __future__ import annotations
 
+import gzip
 import os
 import resource
 import select
@@ -24,8 +25,9 @@ sys.path.insert(0, os.path.join(TOP, "tools"))
 import version  # noqa: E402
 
 MOC = os.environ.get("MOC", os.path.join(TOP, "crates", "moc_cli", "out", "moc_cli"))
-# The maximal numbers of bytes of an input and of a line.
-INPUT_LIMIT = 16_777_216
+# The maximal numbers of bytes of a text, of a text that is converted, and of a line.
+INPUT_LIMIT = 1_073_741_824
+CONVERSION_LIMIT = 16_777_216
 LINE_LIMIT = 1_048_576
 TIME_LIMIT = 60
 
@@ -116,6 +118,11 @@ def picture(title: str, kinds: list[Kind]) -> bytes:
     return "".join(f"{line}\n" for line in lines).encode()
 
 
+def cells(order: int) -> bytes:
+    """Returns the line that states how far the cells of an order go."""
+    return b"\ncells of order %d go up to %d" % (order, 12 * 4 ** order - 1)
+
+
 # A picture of base pixel 4, the northern quarter of base pixel 0, and three quarters of cell 0 of order 7.
 PICTURE = picture("Share of each cell of order 7",
                   [Kind("#6baed6", 256, "up to 1/4", ""), Kind("#4292c6", 400, "up to 1/2", ""),
@@ -127,6 +134,17 @@ PICTURE_OF_TWO = picture("Cells of order 7 with pixels of",
                          [Kind("#0072b2", 256, "the first alone", diamonds(1, 255, 128)),
                           Kind("#e69f00", 432, "the second alone", diamonds(64, 5, 0)),
                           Kind("#000", 624, "both", diamonds(128, 2, 2))])
+# The lines that state what a text must have in place of an error.
+WORDS = b"\nwords look like 3/, 10, 12-14 or 3/10"
+FIRST_ORDER = b"\nan order comes first, as in 3/"
+ORDERS = b"\norders go up to 29"
+RANGES = b"\na range goes from its first cell to its last"
+OBJECT = b'\na text is one object, as in {"3":[10,12]}'
+NAMES = b"\nnames are orders from 0 to 29"
+ARRAY = b'\nthe value of an order is an array, as in {"3":[10,12]}'
+WHOLE = b"\ncells are whole numbers of at most 64 bits"
+DIGITS = b"\neach line is one number, of digits only"
+NUNIQ = b"\nNUNIQ numbers go from 4 to 4611686018427387903"
 # Arguments, standard input, and the error that the program reports: each error of an invalid value or text.
 INVALID_INPUTS: list[tuple[Arguments, bytes, bytes]] = [
     (["ring", "0", "12"], b"", b"CellTooLarge"),
@@ -146,68 +164,82 @@ INVALID_INPUTS: list[tuple[Arguments, bytes, bytes]] = [
     (["convert", "json", "uniq"], b'{"0":[12]}', b"CellTooLarge"),
     (["convert", "uniq", "ascii"], b"4\nx", b"BadByte"),
     (["convert", "uniq", "ascii"], b"3", b"NotUniq"),
-    (["convert", "ascii", "ascii"], b" " * (INPUT_LIMIT + 1), b"TooLong"),
-    (["describe", "ascii"], b"0/12", b"CellTooLarge\nbyte 2, line 1, byte 2 of it: `0/12`"),
-    (["describe", "uniq"], b"4\n3", b"NotUniq\nline 2: `3`"),
-    (["describe", "json"], b"[1]", b"NotObject"),
-    (["describe", "uniq"], b" " * (INPUT_LIMIT + 1), b"TooLong"),
-    (["combine", "union", "ascii"], b"0/0 ; 0/12", b"CellTooLarge\ntext 2, byte 3, line 1, byte 3 of it: `0/12`"),
-    (["combine", "difference", "ascii"], b"5/7-3 ; 0/12", b"Backwards\ntext 1, byte 2, line 1, byte 2 of it: `5/7-3`"),
+    (["convert", "ascii", "ascii"], b" " * (CONVERSION_LIMIT + 1), b"TooLong"),
+    (["describe", "ascii"], b"0/12", b"CellTooLarge\nbyte 2, line 1, byte 2 of it: `0/12`" + cells(0)),
+    (["describe", "uniq"], b"4\n3", b"NotUniq\nline 2: `3`" + NUNIQ),
+    (["describe", "json"], b"[1]", b"NotObject" + OBJECT),
+    (["combine", "union", "ascii"], b"0/0 ; 0/12", b"CellTooLarge\ntext 2, byte 3, line 1, byte 3 of it: `0/12`" + cells(0)),
+    (["combine", "difference", "ascii"], b"5/7-3 ; 0/12", b"Backwards\ntext 1, byte 2, line 1, byte 2 of it: `5/7-3`" + RANGES),
     (["combine", "union", "ascii"], b"0/0;" * 16 + b"\n7;0/0",
-     b"NoOrder\ntext 17, byte 1, line 2, byte 0 of it: `7`\nthis looks like a NUNIQ list"),
-    (["combine", "symmetric", "json"], b'{"0":[0]};{', b"NotJson\ntext 2, line 1, column 1"),
-    (["combine", "symmetric", "json"], b'{"0":[0]};[1];{}', b"NotObject\ntext 2"),
-    (["combine", "intersection", "uniq"], b"4;5\n;3", b"NotUniq\ntext 3, line 1: `3`"),
-    (["combine", "union", "ascii"], b"0/0;" + b" " * (INPUT_LIMIT + 1), b"TooLong\ntext 2"),
-    (["combine", "union", "ascii"], b" " * (INPUT_LIMIT + 1) + b";0/12", b"TooLong\ntext 1"),
-    (["degrade", "3", "ascii"], b"0/12", b"CellTooLarge\nbyte 2, line 1, byte 2 of it: `0/12`"),
-    (["degrade", "3", "json"], b" " * (INPUT_LIMIT + 1), b"TooLong"),
-    (["complement", "json"], b'{"x":[]}', b"BadOrder\nname 0: `x`"),
-    (["complement", "uniq"], b"4\n3", b"NotUniq\nline 2: `3`"),
-    (["draw", "ascii"], b"0/12", b"CellTooLarge\nbyte 2, line 1, byte 2 of it: `0/12`"),
-    (["draw", "json"], b'{"9":[0,1,true]}', b"NotWhole\norder 9, number 2: `true`"),
-    (["draw", "json"], b"[1]", b"NotObject"),
-    (["draw", "uniq"], b" " * (INPUT_LIMIT + 1), b"TooLong"),
+     b"NoOrder\ntext 17, byte 1, line 2, byte 0 of it: `7`" + FIRST_ORDER + b"\nthis looks like a NUNIQ list"),
+    (["combine", "symmetric", "json"], b'{"0":[0]};{', b"NotJson\ntext 2, line 1, column 1" + OBJECT),
+    (["combine", "symmetric", "json"], b'{"0":[0]};[1];{}', b"NotObject\ntext 2" + OBJECT),
+    (["combine", "intersection", "uniq"], b"4;5\n;3", b"NotUniq\ntext 3, line 1: `3`" + NUNIQ),
+    (["degrade", "3", "ascii"], b"0/12", b"CellTooLarge\nbyte 2, line 1, byte 2 of it: `0/12`" + cells(0)),
+    (["complement", "json"], b'{"x":[]}', b"BadOrder\nname 0: `x`" + NAMES),
+    (["complement", "uniq"], b"4\n3", b"NotUniq\nline 2: `3`" + NUNIQ),
+    (["draw", "ascii"], b"0/12", b"CellTooLarge\nbyte 2, line 1, byte 2 of it: `0/12`" + cells(0)),
+    (["draw", "json"], b'{"9":[0,1,true]}', b"NotWhole\norder 9, number 2: `true`" + WHOLE),
+    (["draw", "json"], b"[1]", b"NotObject" + OBJECT),
     (["renumber", "nest", "ring", "0"], b" " * (LINE_LIMIT + 1), b"LineTooLong"),
-    (["check", "json"], b"[1]", b"NotObject"),
-    (["check", "ascii"], b" " * (INPUT_LIMIT + 1), b"TooLong"),
-    (["check", "ascii"], b"0/0\n1/5 x7", b"BadByte\nbyte 8, line 2, byte 4 of it: `x7`"),
-    (["check", "ascii"], b"7", b"NoOrder\nbyte 0, line 1, byte 0 of it: `7`\nthis looks like a NUNIQ list"),
-    (["check", "ascii"], b"1/0\n\n\n30/0", b"OrderTooLarge\nbyte 6, line 4, byte 0 of it: `30/0`"),
-    (["check", "ascii"], b"0/12", b"CellTooLarge\nbyte 2, line 1, byte 2 of it: `0/12`"),
-    (["check", "ascii"], b"1/0-3\n2/7-5", b"Backwards\nbyte 8, line 2, byte 2 of it: `2/7-5`"),
-    (["check", "ascii"], b"1/0\n5-", b"Unfinished\nbyte 6, line 2, byte 2 of it: `5-`"),
-    (["check", "json"], b'{\n"0":[0', b"NotJson\nline 2, column 6"),
-    (["check", "json"], b'{"0":[],"x":[0]}', b"BadOrder\nname 1: `x`"),
-    (["check", "json"], b'{"1":[],"007":0}', b"NotArray\norder 7: `007`"),
-    (["check", "json"], b'{"9":[0,1,true]}', b"NotWhole\norder 9, number 2: `true`"),
-    (["check", "json"], b'{"10":[],"2":[0,192]}', b"CellTooLarge\norder 2, number 1: `192`"),
-    (["check", "uniq"], b"4\nx", b"BadByte\nline 2: `x`"),
-    (["check", "uniq"], b"4\n\n3", b"NotUniq\nline 3: `3`"),
-    # At most 40 bytes are quoted. Bytes that are not printable ASCII are quoted by their digits.
-    (["check", "ascii"], b"1/" + b"1" * 38 + b"x", b"BadByte\nbyte 40, line 1, byte 40 of it: `1/" + b"1" * 38 + b"`.."),
-    (["check", "ascii"], b"1/" + b"1" * 37 + b"-,", b"Unfinished\nbyte 40, line 1, byte 40 of it: `1/" + b"1" * 37 + b"-`"),
+    (["check", "json"], b"[1]", b"NotObject" + OBJECT),
+    (["check", "ascii"], b"0/0\n1/5 x7", b"BadByte\nbyte 8, line 2, byte 4 of it: `x7`" + WORDS),
+    (["check", "ascii"], b"7", b"NoOrder\nbyte 0, line 1, byte 0 of it: `7`" + FIRST_ORDER + b"\nthis looks like a NUNIQ list"),
+    (["check", "ascii"], b"1/0\n\n\n30/0", b"OrderTooLarge\nbyte 6, line 4, byte 0 of it: `30/0`" + ORDERS),
+    (["check", "ascii"], b"0/12", b"CellTooLarge\nbyte 2, line 1, byte 2 of it: `0/12`" + cells(0)),
+    (["check", "ascii"], b"1/0-3\n2/7-5", b"Backwards\nbyte 8, line 2, byte 2 of it: `2/7-5`" + RANGES),
+    (["check", "ascii"], b"1/0\n5-", b"Unfinished\nbyte 6, line 2, byte 2 of it: `5-`" + WORDS),
+    (["check", "json"], b'{\n"0":[0', b"NotJson\nline 2, column 6" + OBJECT),
+    (["check", "json"], b'{"0":[],"x":[0]}', b"BadOrder\nname 1: `x`" + NAMES),
+    (["check", "json"], b'{"1":[],"007":0}', b"NotArray\norder 7: `007`" + ARRAY),
+    (["check", "json"], b'{"9":[0,1,true]}', b"NotWhole\norder 9, number 2: `true`" + WHOLE),
+    (["check", "json"], b'{"10":[],"2":[0,192]}', b"CellTooLarge\norder 2, number 1: `192`" + cells(2)),
+    (["check", "uniq"], b"4\nx", b"BadByte\nline 2: `x`" + DIGITS),
+    (["check", "uniq"], b"4\n\n3", b"NotUniq\nline 3: `3`" + NUNIQ),
+    # At most 40 bytes are quoted, with the byte of the error among them. Bytes that are not printable ASCII are quoted by their digits.
+    (["check", "ascii"], b"1/" + b"1" * 38 + b"x", b"BadByte\nbyte 40, line 1, byte 40 of it: ..`/" + b"1" * 38 + b"x`" + WORDS),
+    (["check", "ascii"], b"x" + b"1" * 40, b"BadByte\nbyte 0, line 1, byte 0 of it: `x" + b"1" * 39 + b"`.." + WORDS),
+    (["check", "ascii"], b"0/3 " + b"1" * 50 + b"x" + b"2" * 50,
+     b"BadByte\nbyte 54, line 1, byte 54 of it: ..`" + b"1" * 20 + b"x" + b"2" * 19 + b"`.." + WORDS),
+    (["check", "uniq"], b"4\n" + b"1" * 50 + b"x", b"BadByte\nline 2: ..`" + b"1" * 39 + b"x`" + DIGITS),
+    (["check", "ascii"], b"1/" + b"1" * 37 + b"-,", b"Unfinished\nbyte 40, line 1, byte 40 of it: `1/" + b"1" * 37 + b"-`" + WORDS),
     (["check", "ascii"], b"0/0,\x1b[31m\xff`\\\x7f~\t3",
-     b"BadByte\nbyte 4, line 1, byte 4 of it: `\\x1b[31m\\xff\\x60\\x5c\\x7f~`"),
-    (["check", "uniq"], b"4 \r\n5", b"BadByte\nline 1: `4 \\x0d`"),
-    (["check", "json"], b'{"\\u0007":[]}', b"BadOrder\nname 0: `\\x07`"),
-    (["check", "json"], b'{"3":[[1, "a"]]}', b'NotWhole\norder 3, number 0: `[1,"a"]`'),
-    (["check", "json"], b'{"3":[1.5]}', b"NotWhole\norder 3, number 0: `1.5`"),
+     b"BadByte\nbyte 4, line 1, byte 4 of it: `\\x1b[31m\\xff\\x60\\x5c\\x7f~`" + WORDS),
+    (["check", "uniq"], b"4 \r\n5", b"BadByte\nline 1: `4 \\x0d`" + DIGITS),
+    (["check", "json"], b'{"\\u0007":[]}', b"BadOrder\nname 0: `\\x07`" + NAMES),
+    (["check", "json"], b'{"3":[[1, "a"]]}', b'NotWhole\norder 3, number 0: `[1,"a"]`' + WHOLE),
+    (["check", "json"], b'{"3":[1.5]}', b"NotWhole\norder 3, number 0: `1.5`" + WHOLE),
     # Hints at the format of a text that is read in another format.
     (["check", "ascii"], b'\n{"0":[3]}',
-     b'BadByte\nbyte 1, line 2, byte 0 of it: `{"0":[3]}`\nthis looks like JSON'),
-    (["check", "uniq"], b'{"0":[3]}', b'BadByte\nline 1: `{"0":[3]}`\nthis looks like JSON'),
-    (["check", "uniq"], b"0/3", b"BadByte\nline 1: `0/3`\nthis looks like ASCII"),
-    (["check", "json"], b" ,s0/3", b"NotJson\nline 1, column 2\nthis looks like ASCII"),
-    (["check", "json"], b",4\n5", b"NotJson\nline 1, column 1\nthis looks like a NUNIQ list"),
-    (["check", "json"], b"4", b"NotObject\nthis looks like a NUNIQ list"),
+     b'BadByte\nbyte 1, line 2, byte 0 of it: `{"0":[3]}`' + WORDS + b'\nthis looks like JSON'),
+    (["check", "uniq"], b'{"0":[3]}', b'BadByte\nline 1: `{"0":[3]}`' + DIGITS + b'\nthis looks like JSON'),
+    (["check", "uniq"], b"0/3", b"BadByte\nline 1: `0/3`" + DIGITS + b"\nthis looks like ASCII"),
+    (["check", "json"], b" ,s0/3", b"NotJson\nline 1, column 2" + OBJECT + b"\nthis looks like ASCII"),
+    (["check", "json"], b",4\n5", b"NotJson\nline 1, column 1" + OBJECT),
+    (["check", "json"], b"s", b"NotJson\nline 1, column 1" + OBJECT),
+    (["check", "json"], b"s/", b"NotJson\nline 1, column 1" + OBJECT),
+    (["check", "ascii"], b"9:1,5", b"BadByte\nbyte 1, line 1, byte 1 of it: `9:1`" + WORDS),
+    # Hints at other contents, by their first bytes.
+    (["check", "auto"], b"\xef\xbb\xbf3/1",
+     b"BadByte\nbyte 0, line 1, byte 0 of it: `\\xef\\xbb\\xbf3/1`" + WORDS + b"\nthis looks like UTF-8 with a byte order mark"),
+    (["check", "uniq"], "4\n".encode("utf-16"), b"BadByte\nline 1: `\\xff\\xfe4\\x00`" + DIGITS + b"\nthis looks like UTF-16"),
+    (["check", "ascii"], b"\xfe\xff" + "3/1".encode("utf-16-be"),
+     b"BadByte\nbyte 0, line 1, byte 0 of it: `\\xfe\\xff\\x003\\x00/\\x001`" + WORDS + b"\nthis looks like UTF-16"),
+    (["describe", "ascii"], gzip.compress(b"3/1", mtime=0)[:4],
+     b"BadByte\nbyte 0, line 1, byte 0 of it: `\\x1f\\x8b\\x08\\x00`" + WORDS + b"\nthis looks like gzip"),
+    (["combine", "union", "ascii"], b"SIMPLE  =                    T", b"BadByte\ntext 1, byte 0, line 1, byte 0 of it: `SIMPLE`" + WORDS
+     + b"\nthis looks like FITS; python -m ploverchaise convert reads it"),
+    (["check", "json"], b"<html>", b"NotJson\nline 1, column 1" + OBJECT + b"\nthis looks like HTML or XML"),
+    # The order in force at an error.
+    (["check", "ascii"], b"3/1 s09/1,5-3145728", b"CellTooLarge\nbyte 12, line 1, byte 12 of it: `5-3145728`" + cells(9)),
+    (["check", "json"], b"4", b"NotObject" + OBJECT + b"\nthis looks like a NUNIQ list"),
     (["convert", "json", "ascii"], b"0/3", b"NotJson"),
     # The detected format, and two coverages in a picture.
-    (["check", "auto"], b" {\"0\":[12]}", b"CellTooLarge\norder 0, number 0: `12`"),
-    (["check", "auto"], b"4\n5", b"NoOrder\nbyte 0, line 1, byte 0 of it: `4`\nthis looks like a NUNIQ list"),
-    (["combine", "union", "auto"], b'0/0;{"0":[12]}', b"CellTooLarge\ntext 2, order 0, number 0: `12`"),
-    (["draw", "ascii"], b"0/12;0/0", b"CellTooLarge\ntext 1, byte 2, line 1, byte 2 of it: `0/12`"),
-    (["draw", "ascii"], b"0/0;0/1;0/2", b"BadByte\ntext 2, byte 3, line 1, byte 3 of it: `0/1;0/2`"),
+    (["check", "auto"], b" {\"0\":[12]}", b"CellTooLarge\norder 0, number 0: `12`" + cells(0)),
+    (["check", "auto"], b"4\n5", b"NoOrder\nbyte 0, line 1, byte 0 of it: `4`" + FIRST_ORDER + b"\nthis looks like a NUNIQ list"),
+    (["combine", "union", "auto"], b'0/0;{"0":[12]}', b"CellTooLarge\ntext 2, order 0, number 0: `12`" + cells(0)),
+    (["draw", "ascii"], b"0/12;0/0", b"CellTooLarge\ntext 1, byte 2, line 1, byte 2 of it: `0/12`" + cells(0)),
+    (["draw", "ascii"], b"0/0;0/1;0/2", b"BadByte\ntext 2, byte 3, line 1, byte 3 of it: `0/1;0/2`" + WORDS),
     (["run"], b" " * (LINE_LIMIT + 1), b"LineTooLong"),
     (["play"], b" " * (LINE_LIMIT + 1), b"LineTooLong"),
     (["crew", "2"], b"add 0/0\n" + b" " * (LINE_LIMIT + 1), b"LineTooLong"),
@@ -285,17 +317,24 @@ INVALID_COMMAND_LINES: list[tuple[Arguments, bytes]] = [
     (["convert", "auto", "ascii"], b"auto"),
     (["convert", "ascii", "auto"], b"auto"),
 ]
-# Subcommands, and the words that users type instead.
+# What to use, and the words that users type instead.
 SUGGESTIONS = [
-    ("combine union", ["union", "merge", "join"]),
-    ("combine intersection", ["intersection", "intersect", "overlap"]),
-    ("combine difference", ["difference", "subtract", "minus"]),
-    ("combine symmetric", ["symmetric", "xor"]),
-    ("complement", ["invert", "inverse"]),
-    ("degrade", ["coarsen", "downgrade"]),
-    ("draw", ["plot", "show"]),
-    ("describe", ["info", "stat", "stats", "summary"]),
-    ("check", ["validate", "verify"]),
+    ("'combine union'", ["union", "merge", "join"]),
+    ("'combine intersection'", ["intersection", "intersect", "inter", "overlap"]),
+    ("'combine difference'", ["difference", "diff", "subtract", "minus"]),
+    ("'combine symmetric'", ["symmetric", "xor"]),
+    ("'complement'", ["invert", "inverse"]),
+    ("'degrade'", ["coarsen", "downgrade"]),
+    ("'draw'", ["plot", "show"]),
+    ("'describe'", ["info", "area", "stat", "stats", "summary"]),
+    ("'check'", ["validate", "verify"]),
+    ("'run'", ["script"]),
+    ("'run' with the command 'count'", ["contains", "count"]),
+    ("'run' with the command 'add'", ["add"]),
+    ("'run' with the command 'remove'", ["remove"]),
+    ("'run' with the command 'claim'", ["claim"]),
+    ("'run' with the command 'read'", ["read"]),
+    ("'near'", ["neighbours"]),
 ]
 # Arguments that print help, and a part of the help.
 HELP: list[tuple[Arguments, bytes]] = [
@@ -315,7 +354,7 @@ HELP: list[tuple[Arguments, bytes]] = [
     (["crew", "--help"], b"Number of threads, 1 to 64"),
     (["--help"], b"Coverages, from standard input:\n  convert "),
     (["faults"], b"  CellTooLarge     the order has no such cell"),
-    (["help", "faults"], b"  TooLong          a text of more than 16,777,216 bytes"),
+    (["help", "faults"], b"  TooLong          a text of more than 1 GiB; for `convert`, 16 MiB"),
     (["--version"], VERSION_LINE),
     (["-V"], VERSION_LINE),
     (["convert", "--help"], b"Converts a coverage from one text format to another"),
@@ -375,7 +414,7 @@ def check_command_lines(tally: Tally) -> None:
         tally.check((status, output) == (2, b"") and part in errors, f"{arguments}: {(status, output, errors)}")
     for subcommand, guesses in SUGGESTIONS:
         for guess in guesses:
-            text = (f"error: unrecognized subcommand '{guess}'\n\n  tip: what does it is '{subcommand}'\n\n"
+            text = (f"error: unrecognized subcommand '{guess}'\n\n  tip: use {subcommand}\n\n"
                     "Usage: moc <COMMAND>\n\nFor more information, try '--help'.\n")
             for command_line in [[guess], [guess, "ascii"], ["help", guess]]:
                 tally.check_equal(f"{command_line}", run(command_line), (2, b"", text.encode()))
@@ -401,15 +440,33 @@ def check_crews(tally: Tally) -> None:
 
 def check_limits(tally: Tally) -> None:
     """Checks inputs and lines of the maximal length, and numbers of many digits."""
-    tally.check_equal("the longest input", run(["convert", "ascii", "ascii"], b" " * INPUT_LIMIT), (0, b"\n", b""))
-    blanks = b" " * (INPUT_LIMIT - 3)
-    tally.check_equal("two of the longest texts", run(["combine", "union", "ascii"], blanks + b"0/1;" + blanks + b"0/0;0/2"),
+    blanks = b" " * CONVERSION_LIMIT
+    tally.check_equal("the longest text to convert", run(["convert", "ascii", "ascii"], blanks), (0, b"\n", b""))
+    tally.check_equal("a longer text", run(["check", "ascii"], blanks + b" "), (0, b"ok\n", b""))
+    tally.check_equal("longer texts, and many blanks", run(["combine", "union", "ascii"], blanks + b"0/1;" + blanks + b"0/0;0/2;" + blanks),
                       (0, b"0/0-2\n", b""))
+    check_long_texts(tally)
     tally.check_equal("a million empty texts", run(["combine", "symmetric", "ascii"], b";" * LINE_LIMIT + b"0/3"), (0, b"0/3\n", b""))
     tally.check_equal("the longest line", run(["run"], b" " * LINE_LIMIT + b"\nread"), (0, b"cover\n", b""))
     lines = b"near 0 " + NINES + b"\nnear " + NINES + b" 0\nadd 0/" + NINES + b"\nadd " + NINES + b"/0\n"
     tally.check_equal("numbers of a thousand nines", run(["run"], lines),
                       (0, b"fault CellTooLarge\nfault OrderTooLarge\nfault CellTooLarge\nfault OrderTooLarge\n", b""))
+
+
+def check_long_texts(tally: Tally) -> None:
+    """Checks texts that are too long. They are files without blocks on the disk, which are read as bytes of value 0."""
+    too_long = b"fault TooLong\n"
+    for arguments, front, back, error in [
+            (["check", "ascii"], b"", b"", too_long), (["describe", "uniq"], b"", b"", too_long), (["draw", "json"], b"", b"", too_long),
+            (["combine", "union", "ascii"], b"0/0;", b"", too_long + b"text 2\n"),
+            (["combine", "union", "ascii"], b"", b";0/12", too_long + b"text 1\n")]:
+        with tempfile.TemporaryFile() as text:
+            text.write(front)
+            text.seek(INPUT_LIMIT + 1, os.SEEK_CUR)
+            text.write(back)
+            text.truncate()
+            text.seek(0)
+            tally.check_equal(f"{arguments} on a text that is too long", run(arguments, stdin=text), (1, b"", error))
 
 
 def check_many_lines(tally: Tally) -> None:

@@ -10,6 +10,11 @@ from .errors import MocError
 # The maximal number of bytes of a text that a quotation has.
 MAX_QUOTED = 40
 _SEPARATORS = (b" ", b",", b"\t", b"\r", b"\n")
+# The first bytes of contents that no format has.
+_CONTENTS = (
+    (b"\xef\xbb\xbf", "UTF-8 with a byte order mark"), (b"\xff\xfe", "UTF-16"), (b"\xfe\xff", "UTF-16"), (b"\x1f\x8b", "gzip"),
+    (b"SIMPLE", "FITS; python -m ploverchaise convert reads it"), (b"<", "HTML or XML"))
+_FORMAT_NAMES = {"ascii": "ASCII", "json": "JSON", "uniq": "a NUNIQ list"}
 # What a text must have in place of an error, by its format and the name of the error.
 _EXPECTED = {
     ("ascii", "BadByte"): "words look like 3/, 10, 12-14 or 3/10", ("ascii", "Unfinished"): "words look like 3/, 10, 12-14 or 3/10",
@@ -24,14 +29,22 @@ _EXPECTED = {
 
 def likely_format(text: bytes) -> str | None:
     """Returns the format that a text looks like, by the rules of the program `moc`, or None if it looks like none."""
-    first = re.match(rb"[ \t\r\n]*(.)", text, re.DOTALL)
-    if first is None:
-        return None
-    if first[1] == b"{":
+    first = text.lstrip(b" \t\r\n")[:1]
+    if first == b"{":
         return "json"
-    if first[1] in b"0123456789s," and b"/" in text and re.search(rb"[0-9]", text):
+    has_digit = re.search(rb"[0-9]", text) is not None
+    if first and first in b"0123456789s," and has_digit and b"/" in text:
         return "ascii"
-    return "uniq" if re.fullmatch(rb"[0-9 \t\r\n]*", text) else None
+    return "uniq" if has_digit and re.fullmatch(rb"[0-9 \t\r\n]*", text) else None
+
+
+def likely_content(text: bytes, format: str) -> str | None:
+    """Returns what an invalid text looks like, by the rules of the program `moc`, or None if this is nothing or the format itself."""
+    for first_bytes, content in _CONTENTS:
+        if text.startswith(first_bytes):
+            return content
+    likely = likely_format(text)
+    return None if likely is None or likely == format else _FORMAT_NAMES[likely]
 
 
 def expectation_of(text: bytes, format: str, error: MocError) -> str:

@@ -33,7 +33,6 @@ PIXEL_COUNT = 12 * 4**29
 
 # The functions of the library that parse a text, by the name of its format.
 _PARSERS = {"ascii": "read_ascii", "json": "read_json", "uniq": "read_uniq"}
-_FORMAT_NAMES = {"ascii": "ASCII", "json": "JSON", "uniq": "a NUNIQ list"}
 # A call with MOCs of more ranges, or with a longer text, may take long.
 _MAX_SHORT_RANGES, _MAX_SHORT_TEXT = 500_000, 2**22
 # An error quotes a part only of a text that is not longer. To find the part in JSON, Python parses the text again, and no other thread of
@@ -177,7 +176,7 @@ class MOC:
         Raises
         ------
         MocError
-            For the first error of the text. Its `detail` names another format if the text looks like it. Otherwise it quotes the invalid
+            For the first error of the text. Its `detail` names what else the text looks like. Otherwise it quotes the invalid
             part of a text of at most 256 KiB, and states what must be in its place. The errors are, by format:
 
             - ASCII, with the position of a byte: `BadByte`, `NoOrder`, `OrderTooLarge`, `CellTooLarge`, `Backwards`, `Unfinished`;
@@ -1468,14 +1467,14 @@ def _call(function: str, store: StoreHandle, *arguments: Any, is_long: bool) -> 
 
 
 def _text_error(error: MocError, text: bytes, format: str) -> MocError:
-    """Returns the error of a text with the other format that the text looks like, or with a quotation and what must be in its place.
+    """Returns the error of a text with what the text looks like, or with a quotation and what must be in its place.
 
     Only the error of a text of at most 256 KiB has a quotation."""
-    from ._diagnostics import expectation_of, likely_format, quotation_of
+    from ._diagnostics import expectation_of, likely_content, quotation_of
 
-    likely = likely_format(text)
-    if likely is not None and likely != format:
-        return error._with_detail(f"this looks like {_FORMAT_NAMES[likely]}")
+    content = likely_content(text, format)
+    if content is not None:
+        return error._with_detail(f"this looks like {content}")
     if len(text) > _MAX_QUOTED_TEXT:
         return error
     return error._with_detail(": ".join(part for part in (quotation_of(text, format, error), expectation_of(text, format, error)) if part))

@@ -139,7 +139,7 @@ class Examples(TestCase):
             self.assertEqual(caught.exception.detail, detail)
 
     def test_hints(self) -> None:
-        """Checks that an error names the format that the text looks like, or else quotes the text and states what must be there."""
+        """Checks that an error names what the text looks like, or else quotes the text and states what must be there."""
         words, cells = "words look like 3/, 10, 12-14 or 3/10", "cells of order 1 go up to 47"
         number = "each line is one number, of digits only"
         rows: list[tuple[str, Format, str]] = [
@@ -157,7 +157,8 @@ class Examples(TestCase):
             ('{"1":3}', "json", '`1`: the value of an order is an array, as in {"3":[10,12]}'),
             ('{"1":[-1]}', "json", "`-1`: cells are whole numbers of at most 64 bits"),
             (f"1/{'7' * 60}x{'7' * 60}", "ascii", f"..`{'7' * 20}x{'7' * 19}`..: {words}"),
-            ("", "json", 'a text is one object, as in {"3":[10,12]}')]
+            ("", "json", 'a text is one object, as in {"3":[10,12]}'), ("9:1,5", "ascii", f"`9:1`: {words}"),
+            ("\ufeff0/1", "ascii", "this looks like UTF-8 with a byte order mark"), ("<svg/>", "json", "this looks like HTML or XML")]
         for text, format, detail in rows:
             with self.subTest(text=text), self.assertRaises(MocError) as caught:
                 MOC.from_string(text, format)

@@ -1,8 +1,8 @@
 //! Diagnostics and statistics of texts. Expected lines are worked out by hand from the texts.
 use crate::shown::is_shown;
 use moc_forms::{
-    Change, Diagnostic, Format, FormatChoice, FormatError, Operation, ParsedCoverage, Place,
-    Statistics, describe, draw, draw_two, hint, hint_line, is_blank, quote,
+    Change, Content, Diagnostic, Format, FormatChoice, FormatError, Operation, ParsedCoverage,
+    Place, Statistics, describe, draw, draw_two, expected_line, hint, hint_line, is_blank, quote,
 };
 use moc_sphere::{InvalidName, Order};
 use moc_text::{JsonError, TextError, UniqError, WriteError};
@@ -130,7 +130,8 @@ fn whole_diagnostic(rt: HostRuntime) {
         Some(Place::JsonSyntax { line: 2, column: 1 })
     );
     assert!(&rt; diagnostic.quote.is_none());
-    assert_eq!(&rt; diagnostic.hint, Some(Format::Ascii));
+    assert!(&rt; diagnostic.order.is_none());
+    assert_eq!(&rt; diagnostic.hint, Some(Content::Coverage(Format::Ascii)));
 }
 
 #[test]
@@ -172,10 +173,26 @@ fn quotes(rt: HostRuntime) {
             b"\x1b\\`~\x7f".as_slice(),
             "`\\x1b\\x5c\\x60~\\x7f`",
         ),
+        // At most 40 bytes are shown, and among them the byte of the error.
         (
             Format::Ascii,
             b"x0123456789012345678901234567890123456789".as_slice(),
             "`x012345678901234567890123456789012345678`..",
+        ),
+        (
+            Format::Ascii,
+            b"0/0 1/01234567890123456789012345678901234567x".as_slice(),
+            "..`/01234567890123456789012345678901234567x`",
+        ),
+        (
+            Format::Ascii,
+            b"1/01234567890123456789x012345678901234567890123456789".as_slice(),
+            "..`01234567890123456789x0123456789012345678`..",
+        ),
+        (
+            Format::Uniq,
+            b"4\n012345678901234567890123456789x0123456789".as_slice(),
+            "..`12345678901234567890123456789x0123456789`",
         ),
         (Format::Uniq, b"4\n5 \n6".as_slice(), "`5 `"),
         (Format::Json, b"{\"1\":[],\"x\":[]}".as_slice(), "`x`"),
@@ -213,14 +230,128 @@ fn hints(rt: HostRuntime) {
         (Format::Json, "s3/", "this looks like ASCII\n"),
         (Format::Json, "\n4\n5", "this looks like a NUNIQ list\n"),
         (Format::Json, "[1]", ""),
+        (Format::Json, "s", ""),
+        (Format::Json, "s/", ""),
+        (Format::Json, "x3/1", ""),
         (Format::Ascii, "0/x", ""),
+        (Format::Ascii, "9:1,5", ""),
+        (Format::Json, ",4\n5", ""),
+        (Format::Json, " \t\r\n", ""),
         (Format::Uniq, "", ""),
     ] {
-        let seen = match hint(format, text.as_bytes()) {
-            Some(format) => hint_line(format),
-            None => "",
-        };
-        assert_text(&rt, text, seen, expected_text);
+        assert_hint(&rt, format, text.as_bytes(), expected_text);
+    }
+}
+
+/// Contents that are known by their first bytes: the byte order marks are those of the Unicode standard.
+#[test]
+fn hints_of_other_contents(rt: HostRuntime) {
+    for (text, expected_text) in [
+        (
+            b"\xEF\xBB\xBF1/0".as_slice(),
+            "this looks like UTF-8 with a byte order mark\n",
+        ),
+        (b"\xFF\xFE1\0/\0".as_slice(), "this looks like UTF-16\n"),
+        (b"\xFE\xFF\x001\0/".as_slice(), "this looks like UTF-16\n"),
+        (b"\x1F\x8B\x08".as_slice(), "this looks like gzip\n"),
+        (
+            b"SIMPLE  =                    T".as_slice(),
+            "this looks like FITS; python -m ploverchaise convert reads it\n",
+        ),
+        (b"<svg/>1".as_slice(), "this looks like HTML or XML\n"),
+        (b"\xEF\xBB".as_slice(), ""),
+        (b"\x1F".as_slice(), ""),
+        (b"SIMPL".as_slice(), ""),
+    ] {
+        for format in [Format::Ascii, Format::Json, Format::Uniq] {
+            assert_hint(&rt, format, text, expected_text);
+        }
+    }
+}
+
+/// Checks the line of the hint at what a text looks like.
+fn assert_hint(rt: &impl Abort, format: Format, text: &[u8], expected_text: &str) {
+    let seen = match hint(format, text) {
+        Some(content) => hint_line(content),
+        None => "",
+    };
+    assert_eq!(rt; seen, expected_text);
+}
+
+/// Order 9 has 12·4^9 = 3145728 cells.
+#[test]
+fn orders_at_errors(rt: HostRuntime) {
+    for (format, text, order) in [
+        (
+            Format::Ascii,
+            b"3/1 s09/1,5-3145728".as_slice(),
+            Order::new(9),
+        ),
+        (
+            Format::Ascii,
+            b"9/3145727 10/ 9/\n3145728".as_slice(),
+            Order::new(9),
+        ),
+        (Format::Ascii, b"29/ 5-1".as_slice(), None),
+        (Format::Ascii, b"30/1".as_slice(), None),
+        (
+            Format::Json,
+            b"{\"09\":[0,3145728]}".as_slice(),
+            Order::new(9),
+        ),
+        (Format::Json, b"{\"9\":[true]}".as_slice(), None),
+        (Format::Uniq, b"3".as_slice(), None),
+    ] {
+        let diagnostic = diagnose(&rt, rt.alloc(), format, text).expect(&rt, "an error");
+        assert_eq!(&rt; diagnostic.order, order);
+    }
+}
+
+#[test]
+fn lines_of_what_is_expected(rt: HostRuntime) {
+    let words = "words look like 3/, 10, 12-14 or 3/10\n";
+    let object = "a text is one object, as in {\"3\":[10,12]}\n";
+    for (error, line) in [
+        (FormatError::Ascii(TextError::BadByte { at: 0 }), words),
+        (FormatError::Ascii(TextError::Unfinished { at: 0 }), words),
+        (
+            FormatError::Ascii(TextError::NoOrder { at: 0 }),
+            "an order comes first, as in 3/\n",
+        ),
+        (
+            FormatError::Ascii(TextError::OrderTooLarge { at: 0 }),
+            "orders go up to 29\n",
+        ),
+        (
+            FormatError::Ascii(TextError::Backwards { at: 0 }),
+            "a range goes from its first cell to its last\n",
+        ),
+        (FormatError::Ascii(TextError::CellTooLarge { at: 0 }), ""),
+        (FormatError::Json(JsonError::NotJson), object),
+        (FormatError::Json(JsonError::NotObject), object),
+        (
+            FormatError::Json(JsonError::BadOrder { name: 0 }),
+            "names are orders from 0 to 29\n",
+        ),
+        (
+            FormatError::Json(JsonError::NotArray { name: 0 }),
+            "the value of an order is an array, as in {\"3\":[10,12]}\n",
+        ),
+        (
+            FormatError::Json(JsonError::NotWhole { name: 0, place: 0 }),
+            "cells are whole numbers of at most 64 bits\n",
+        ),
+        (
+            FormatError::Uniq(UniqError::BadByte { line: 1 }),
+            "each line is one number, of digits only\n",
+        ),
+        (
+            FormatError::Uniq(UniqError::NotUniq { line: 1 }),
+            "NUNIQ numbers go from 4 to 4611686018427387903\n",
+        ),
+        (FormatError::Uniq(UniqError::Memory), ""),
+    ] {
+        assert_eq!(&rt; expected_line(error), line, "{error}");
     }
 }
 

@@ -37,6 +37,7 @@ IsErrorStatus s = (s ≡ Invalid) ⊎ (s ≡ Failed)
 of_input : (e : InputError) → IsErrorStatus (status_of_input e)
 unfolding IsErrorStatus
 of_input (input.Text number diagnostic) = inl refl
+of_input (input.ConvertedText error) = inl refl
 of_input (input.TooLong number) = inl refl
 of_input input.Read = inr refl
 of_input input.Memory = inr refl

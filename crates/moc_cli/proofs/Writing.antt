@@ -1,9 +1,9 @@
 -- The output of a text, and how an action ends with it.
 use Rattle.std.proofs.Common.{◌≡◌, ◌||◌, inl, inr, ℕ, Bool, true, false, List, [], ◌++◌, Result, Ok, Err, refl, sym, subst, append-nil, MatchResult}
-use Rattle.std.specs.Prelude.{IfOk, IfErr, OnOk, String, is_err, string_bytes}
+use Rattle.std.specs.Prelude.{IfOk, IfErr, IsErrAnd, OnOk, String, is_err, string_bytes}
 use Rattle.std.specs.declared.alloc.Global.{Global}
 use Rattle.moc_devices.specs.Devices.{SinkState, Accepts, AcceptsNone, Sends}
-use Rattle.moc_devices.specs.Lemmas.{Accepts-kept}
+use Rattle.moc_devices.specs.Lemmas.{Accepts-kept, AcceptsNone-refl}
 use Rattle.moc_conversion.specs.declared.error.InputError.{InputError}
 use Rattle.moc_cli.specs.Actions.{PrintsText, IsInputError}
 use Rattle.moc_cli.specs.Endings.{WritesUnlessFailed}
@@ -45,6 +45,12 @@ pub result_writes : (is : List ℕ → Type 0) (fails_with : InputError → Type
 result_writes is fails_with (Ok t) sink sink' result text why sent = sent_writes is (IsInputError fails_with) (string_bytes t) sink sink' result text sent
 result_writes is fails_with (Err cause) sink sink' (Ok u) text why (same, unchanged) = absurd (no_error (Input cause) u (Ok u) refl same)
 result_writes is fails_with (Err cause) sink sink' (Err error) text why (same, unchanged) = inr ((cause, same_error error (Input cause) (Err error) refl same, why), unchanged)
+
+-- an action that fails with an error of the input before it writes
+pub failure_writes : (is : List ℕ → Type 0) (fails_with : InputError → Type 0) (cause : InputError) (sink : SinkState) (result : Result (Unit {0}) ProgramError)
+    → IsErrAnd result (λ error. error ≡ Input cause) → fails_with cause → PrintsText is (IsInputError fails_with) sink sink result
+failure_writes is fails_with cause sink (Ok u) same why = absurd same
+failure_writes is fails_with cause sink (Err error) same why = inr ((cause, same, why), AcceptsNone-refl sink)
 
 -- ---- what standard error accepted
 

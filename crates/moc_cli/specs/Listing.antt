@@ -85,7 +85,7 @@ error_list =
     ∷ (name_of_uniq (uniq.NotUniq 0), codes "not a NUNIQ number")
     ∷ [])
     ++ section (codes "Lengths") name_width (
-    (name_of_input (input.TooLong None), codes "a text of more than 16,777,216 bytes")
+    (name_of_input (input.TooLong None), codes "a text of more than 1 GiB; for `convert`, 16 MiB")
     ∷ (name_of_run_error (run.LineTooLong 0), codes "a line of more than 1,048,576 bytes")
     ∷ [])
     ++ section (codes "Lines of scripts and schedules") name_width (

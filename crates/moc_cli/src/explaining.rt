@@ -88,7 +88,7 @@ fn explanation<S: AsStr>(
         && let Some(suggestion) = suggest(name)
     {
         return format!(in alloc;
-            "error: unrecognized subcommand '{name}'\n\n  tip: what does it is '{suggestion}'\n\n\
+            "error: unrecognized subcommand '{name}'\n\n  tip: use {suggestion}\n\n\
              Usage: moc <COMMAND>\n\nFor more information, try '--help'.\n"
         );
     }

@@ -55,8 +55,9 @@ impl ProgramError {
         ensures { result ≡ status_of self.now }
     {
         match self {
-            ProgramError::Input(InputError::Text { .. } | InputError::TooLong { .. }) =>
-                Status::Invalid,
+            ProgramError::Input(
+                InputError::Text { .. } | InputError::ConvertedText(_) | InputError::TooLong { .. },
+            ) => Status::Invalid,
             ProgramError::Input(InputError::Read | InputError::Memory) => Status::Failed,
             ProgramError::Number(_) | ProgramError::Lines(RunError::LineTooLong { .. }) =>
                 Status::Invalid,

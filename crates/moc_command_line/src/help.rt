@@ -235,15 +235,17 @@ the first error and a line with its position and a quotation: the byte, its line
 and the byte in that line (ascii), the line (uniq), or the order and, for an
 item, its index in the array (json). `BadOrder` has the index of the name,
 `NotJson` only a line and a column, if any; `NotObject` and `TooLong` have no
-position. Lines are counted from 1, bytes and indices from 0. If the text looks
-like another format, a line says so. `moc faults` explains the names. `auto`
-reads a text that begins with `{` as json, any other text as ascii.
+position. Lines are counted from 1, bytes and indices from 0. A line states what
+the text must have there. If the text looks like another format or another kind
+of file, a line states which. `moc faults` explains the names. `auto` reads a
+text that begins with `{` as json, any other text as ascii.
 
 Example:
   printf '1/0-3\\n2/7-5' | moc check ascii
 writes to standard error
   fault Backwards
-  byte 8, line 2, byte 2 of it: `2/7-5`";
+  byte 8, line 2, byte 2 of it: `2/7-5`
+  a range goes from its first cell to its last";
 
 /// The text of `moc describe --help` below the usage line.
 const STATISTICS: &str = "\
@@ -277,9 +279,9 @@ prints
 
 /// The text of `moc combine --help` below the usage line.
 const COMBINATION: &str = "\
-Reads one or more texts separated by `;`, each of at most 16,777,216 bytes, and
-combines them from left to right; blanks after the last `;` are ignored. Prints
-the result in the format of the first text, with the deepest order that a text
+Reads one or more texts separated by `;`, each of at most 1 GiB, and combines
+them from left to right; blanks after the last `;` are ignored. Prints the
+result in the format of the first text, with the deepest order that a text
 names.
   union         the pixels in any text
   intersection  the pixels in all texts
@@ -399,7 +401,7 @@ NUNIQ lists:
   NotUniq          not a NUNIQ number
 
 Lengths:
-  TooLong          a text of more than 16,777,216 bytes
+  TooLong          a text of more than 1 GiB; for `convert`, 16 MiB
   LineTooLong      a line of more than 1,048,576 bytes
 
 Lines of scripts and schedules:

@@ -9,33 +9,32 @@ use Rattle.moc_forms.specs.declared.finding.FormatChoice.{FormatChoice}
 use Rattle.moc_forms.specs.declared.format.Format.{Format}
 use Rattle.moc_forms.specs.declared.format.Format.TheVariants.{Ascii, Json, Uniq}
 use Rattle.moc_forms.specs.declared.format.FormatError.{FormatError}
-use Rattle.moc_conversion.specs.Conversion.{IsAll, IsNotConverted, FailsParsing, ReportsError, input_limit}
-use Rattle.moc_conversion.specs.Errors.{error_alone}
+use Rattle.moc_conversion.specs.Conversion.{IsAll, IsNotConverted, FailsParsing, ReportsError, conversion_limit, input_limit}
 use Rattle.moc_conversion.specs.declared.error.InputError.{InputError}
-use Rattle.moc_conversion.specs.declared.error.InputError.TheVariants.{Memory}
+use Rattle.moc_conversion.specs.declared.error.InputError.TheVariants.{ConvertedText, Memory}
 
 out_of_memory_is_memory : (format : Format) → IsTrue (is_memory (out_of_memory_in format))
 out_of_memory_is_memory Ascii = refl
 out_of_memory_is_memory Json = refl
 out_of_memory_is_memory Uniq = refl
 
--- the bytes are the whole input, and no longer than an input may be
-abbrev pub IsWhole : SourceState → SourceState → List ℕ → Type 0
-IsWhole source source' given = Delivers source source' given × IsEnded source' × (length given ≤ input_limit)
+-- the bytes are the whole input, and no longer than a limit
+abbrev pub IsWhole : ℕ → SourceState → SourceState → List ℕ → Type 0
+IsWhole limit source source' given = Delivers source source' given × IsEnded source' × (length given ≤ limit)
 
 -- then it has the property
-pub all_of : (is : List ℕ → Type 0) (source source' : SourceState) (given : List ℕ) → IsWhole source source' given → is given → IsAll is source source'
-all_of is source source' given (delivers, end, within) holds = (given, delivers, (end, within, holds))
+pub all_of : (limit : ℕ) (is : List ℕ → Type 0) (source source' : SourceState) (given : List ℕ) → IsWhole limit source source' given → is given → IsAll limit is source source'
+all_of limit is source source' given (delivers, end, within) holds = (given, delivers, (end, within, holds))
 
 -- an error of the input, or of its text
-pub of_input : (choice : FormatChoice) (source source' : SourceState) (given : List ℕ) (e : InputError) → IsWhole source source' given
+pub of_input : (choice : FormatChoice) (source source' : SourceState) (given : List ℕ) (e : InputError) → IsWhole input_limit source source' given
     → (e ≡ Memory) ⊎ ReportsError (format_for choice given) given None e → FailsParsing choice source source' e
 of_input choice source source' given e whole (inl memory) = inl (inr (inr memory))
-of_input choice source source' given e whole (inr reports) = inr (all_of (λ text. ReportsError (format_for choice text) text None e) source source' given whole reports)
+of_input choice source source' given e whole (inr reports) = inr (all_of input_limit (λ text. ReportsError (format_for choice text) text None e) source source' given whole reports)
 
 -- the error of a text is the reason that its input is not converted
-pub not_read : (format : Format) (source source' : SourceState) (given : List ℕ) (error : FormatError) (e : InputError) → IsWhole source source' given
-    → (IsTrue (is_memory error) → e ≡ Memory) → (e ≡ Memory) ⊎ (e ≡ error_alone error) → FormatFails format given error → IsNotConverted format source source' e
+pub not_read : (format : Format) (source source' : SourceState) (given : List ℕ) (error : FormatError) (e : InputError) → IsWhole conversion_limit source source' given
+    → (IsTrue (is_memory error) → e ≡ Memory) → (e ≡ Memory) ⊎ (e ≡ ConvertedText error) → FormatFails format given error → IsNotConverted format source source' e
 not_read format source source' given error e whole out (inl memory) fails = inl (inr (inr memory))
 not_read format source source' given error e whole out (inr alone) (inl memory) =
     inl (inr (inr (out (subst (λ x. IsTrue (is_memory x)) (sym memory) (out_of_memory_is_memory format)))))

@@ -23,7 +23,7 @@ use Rattle.moc_forms.specs.declared.finding.FormatChoice.TheVariants.{Auto, Name
 use Rattle.moc_forms.specs.declared.format.Format.{Format}
 use Rattle.moc_forms.specs.declared.format.Format.TheVariants.{Ascii, Json, Uniq}
 use Rattle.moc_conversion.specs.Combining.{IsInputCombination}
-use Rattle.moc_conversion.specs.Conversion.{InputRepresents}
+use Rattle.moc_conversion.specs.Conversion.{InputRepresents, input_limit}
 
 -- a set has its depth, or states no order, as a NUNIQ list
 abbrev IsFit : Format → NumberSet → Option ℕ → Type 0
@@ -60,7 +60,7 @@ change_fit Complement Uniq a k fit = fit
 
 -- and so can a change of it
 pub change_written : (change : Change) (choice : FormatChoice) (source source' : SourceState) (parsed : ParsedCoverage)
-    → InputRepresents choice source source' parsed → IsTooCoarse (changed_set change parsed.set) (changed_order change parsed.moc_order) → ⊥
+    → InputRepresents input_limit choice source source' parsed → IsTooCoarse (changed_set change parsed.set) (changed_order change parsed.moc_order) → ⊥
 change_written change choice source source' parsed (text, delivers, (end, within, represents)) =
     fit_written parsed.format _ _ (change_fit change parsed.format parsed.set parsed.moc_order (text_fit parsed.format text parsed.set parsed.moc_order represents.0))
 

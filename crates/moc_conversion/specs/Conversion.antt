@@ -17,50 +17,56 @@ use Rattle.moc_forms.specs.declared.finding.FormatChoice.TheVariants.{Named}
 use Rattle.moc_forms.specs.declared.format.Format.{Format}
 use Rattle.moc_forms.specs.declared.format.FormatError.{FormatError}
 use Rattle.moc_forms.specs.declared.diagnostic.Diagnostic.{Diagnostic}
-use Rattle.moc_conversion.specs.Errors.{error_alone}
 use Rattle.moc_conversion.specs.declared.error.InputError.{InputError}
 use Rattle.moc_conversion.specs.declared.error.InputError.TheVariants as input
 
--- the maximal number of bytes of a text
+-- the maximal number of bytes of a text, 1 GiB
 abbrev pub input_limit : ℕ
-input_limit = 16777216
+input_limit = 1073741824
+
+-- the maximal number of bytes of a text that is converted, 16 MiB
+abbrev pub conversion_limit : ℕ
+conversion_limit = 16777216
 
 -- the bytes that were read between two states of the input have a property
 abbrev pub HasRead : (List ℕ → Type 0) → SourceState → SourceState → Type 0
 HasRead is source source' = (given : List ℕ) × Delivers source source' given × is given
 
--- the whole input was read, it is no longer than an input may be, and it has a property
-abbrev pub IsAll : (List ℕ → Type 0) → SourceState → SourceState → Type 0
-IsAll is source source' = HasRead (λ text. IsEnded source' × (length text ≤ input_limit) × is text) source source'
+-- the whole input was read, it is no longer than a limit, and it has a property
+abbrev pub IsAll : ℕ → (List ℕ → Type 0) → SourceState → SourceState → Type 0
+IsAll limit is source source' = HasRead (λ text. IsEnded source' × (length text ≤ limit) × is text) source source'
 
--- the input, read in the chosen format, is this coverage
-abbrev pub InputRepresents : FormatChoice → SourceState → SourceState → ParsedCoverage → Type 0
-InputRepresents choice source source' parsed = IsAll (λ text. TextRepresents choice text parsed) source source'
+-- the input, read in the chosen format, is this coverage, and no longer than a limit
+abbrev pub InputRepresents : ℕ → FormatChoice → SourceState → SourceState → ParsedCoverage → Type 0
+InputRepresents limit choice source source' parsed =
+    IsAll limit (λ text. TextRepresents choice text parsed) source source'
 
 -- the input is a valid coverage
 abbrev pub IsValidInput : FormatChoice → SourceState → SourceState → Type 0
-IsValidInput choice source source' = (parsed : ParsedCoverage) × InputRepresents choice source source' parsed
+IsValidInput choice source source' =
+    (parsed : ParsedCoverage) × InputRepresents input_limit choice source source' parsed
 
--- the text is made from the coverage of the input
+-- the text is made from the coverage of the input, which is no longer than a limit
 abbrev pub MakesFromInput :
-    (ParsedCoverage → List ℕ → Type 0) → FormatChoice → SourceState → SourceState → List ℕ → Type 0
-MakesFromInput makes choice source source' text =
-    (parsed : ParsedCoverage) × InputRepresents choice source source' parsed × makes parsed text
+    ℕ → (ParsedCoverage → List ℕ → Type 0) → FormatChoice → SourceState → SourceState → List ℕ → Type 0
+MakesFromInput limit makes choice source source' text =
+    (parsed : ParsedCoverage) × InputRepresents limit choice source source' parsed × makes parsed text
 
 -- the text in one format of the coverage that the input is in the other, with the MOC order that it states
 abbrev pub ConvertsAll : Format → Format → SourceState → SourceState → List ℕ → Type 0
-ConvertsAll from to = MakesFromInput (λ parsed text. text ≡ format_text to parsed.set parsed.moc_order) (Named from)
+ConvertsAll from to =
+    MakesFromInput conversion_limit (λ parsed text. text ≡ format_text to parsed.set parsed.moc_order) (Named from)
 
 -- the text, in the same format, of a change of the coverage of the input, with the MOC order that is stated for the
 -- result
 abbrev pub ChangesAll : Change → FormatChoice → SourceState → SourceState → List ℕ → Type 0
 ChangesAll change =
-    MakesFromInput (λ parsed text.
+    MakesFromInput input_limit (λ parsed text.
     text ≡ format_text parsed.format (changed_set change parsed.set) (changed_order change parsed.moc_order))
 
 -- the text has the statistics of the coverage of the input
 abbrev pub DescribesAll : FormatChoice → SourceState → SourceState → List ℕ → Type 0
-DescribesAll = MakesFromInput (λ parsed text. Describes parsed.set parsed.moc_order text)
+DescribesAll = MakesFromInput input_limit (λ parsed text. Describes parsed.set parsed.moc_order text)
 
 -- the second text of a picture: the bytes after the first semicolon, unless they are blank
 abbrev pub second_text : List ℕ → Option (List ℕ)
@@ -79,10 +85,11 @@ IsPictureOf choice first (Some second) picture =
 -- the picture of the texts of the input: the bytes before its first semicolon, or all, and the second text
 abbrev pub DrawsAll : FormatChoice → SourceState → SourceState → List ℕ → Type 0
 DrawsAll choice source source' picture =
-    IsAll (λ text. IsPictureOf choice (before_first is_semicolon text) (second_text text) picture) source source'
+    IsAll input_limit (λ text.
+    IsPictureOf choice (before_first is_semicolon text) (second_text text) picture) source source'
 
--- the error is the first one of a text, with the number of the text if texts are counted, its position, a quote, and
--- the other format that the text looks like
+-- the error is the first one of a text, with the number of the text if texts are counted, its position, a quote, the
+-- order of the cells there, and what else the text looks like
 pub record ReportsError (format : Format) (text : List ℕ) (number : Option ℕ) (e : InputError) : Type 0 where
   pub error : FormatError
   pub is_first : IsFirstFormatError format text error
@@ -90,23 +97,24 @@ pub record ReportsError (format : Format) (text : List ℕ) (number : Option ℕ
   pub diagnoses : Diagnoses format text error diagnostic
   pub reported : e ≡ input.Text number diagnostic
 
--- the input was not read to its end: the reader failed, or the input is too long, or an allocation failed
-abbrev pub FailsReading : SourceState → SourceState → InputError → Type 0
-FailsReading source source' e =
-    (e ≡ input.Read) ⊎ ((e ≡ input.TooLong None) × HasRead (λ given. input_limit < length given) source source')
+-- the input was not read to its end: the reader failed, or the input is longer than a limit, or an allocation failed
+abbrev pub FailsReading : ℕ → SourceState → SourceState → InputError → Type 0
+FailsReading limit source source' e =
+    (e ≡ input.Read) ⊎ ((e ≡ input.TooLong None) × HasRead (λ given. limit < length given) source source')
     ⊎ (e ≡ input.Memory)
 
 -- why the input was not converted: it was not read to its end, or its text has this error; the error is reported alone
 abbrev pub IsNotConverted : Format → SourceState → SourceState → InputError → Type 0
 IsNotConverted format source source' e =
-    FailsReading source source' e
-    ⊎ IsAll (λ text. (first : FormatError) × IsFirstFormatError format text first × (e ≡ error_alone first))
-    source source'
+    FailsReading conversion_limit source source' e
+    ⊎ IsAll conversion_limit (λ text.
+    (first : FormatError) × IsFirstFormatError format text first × (e ≡ input.ConvertedText first)) source source'
 
 -- why the input is not a coverage: it was not read to its end, or its text has this error at this position
 abbrev pub FailsParsing : FormatChoice → SourceState → SourceState → InputError → Type 0
 FailsParsing choice source source' e =
-    FailsReading source source' e ⊎ IsAll (λ text. ReportsError (format_for choice text) text None e) source source'
+    FailsReading input_limit source source' e
+    ⊎ IsAll input_limit (λ text. ReportsError (format_for choice text) text None e) source source'
 
 -- the error is that of the first invalid text of a picture; texts are counted if there are two
 abbrev pub ReportsFirstOfTexts : FormatChoice → List ℕ → Option (List ℕ) → InputError → Type 0
@@ -119,5 +127,6 @@ ReportsFirstOfTexts choice first (Some second) e =
 -- why the input was not drawn: it was not read to its end, or one of its texts has this error
 abbrev pub IsNotDrawn : FormatChoice → SourceState → SourceState → InputError → Type 0
 IsNotDrawn choice source source' e =
-    FailsReading source source' e
-    ⊎ IsAll (λ text. ReportsFirstOfTexts choice (before_first is_semicolon text) (second_text text) e) source source'
+    FailsReading input_limit source source' e
+    ⊎ IsAll input_limit (λ text.
+    ReportsFirstOfTexts choice (before_first is_semicolon text) (second_text text) e) source source'

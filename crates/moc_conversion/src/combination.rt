@@ -171,7 +171,7 @@ fn read_texts<R: Source>(
 /// Requires that no call of the input has failed before. Reads the input to its end, or to its first error.
 ///
 /// # Errors
-/// Fails with `Read` if reading fails, with `TooLong` if a text has more than 16,777,216 bytes, with the first error of
+/// Fails with `Read` if reading fails, with `TooLong` if a text has more than 1 GiB, with the first error of
 /// a text, or with `Memory`.
 ///
 /// # Complexity

@@ -6,7 +6,7 @@ ghost use Rattle.moc_conversion.specs.Conversion.{IsNotConverted, FailsParsing, 
 
 use crate::error::InputError;
 use crate::parsing::{parse_input, text_of};
-use crate::reading::read_whole;
+use crate::reading::{CONVERSION_LIMIT, read_whole};
 use moc_devices::Source;
 use moc_forms::{Change, Format, FormatChoice, describe};
 use std::alloc::Global;
@@ -17,7 +17,7 @@ use std::alloc::Global;
 /// Requires that no call of the input has failed before. Reads the input to its end.
 ///
 /// # Errors
-/// Fails with `Read` if reading fails, with `TooLong` above 16,777,216 bytes, with the first error of the text, or with
+/// Fails with `Read` if reading fails, with `TooLong` above 16 MiB, with the first error of the text, or with
 /// `Memory`.
 ///
 /// # Complexity
@@ -38,10 +38,10 @@ pub fn convert_input<R: Source>(
     ensures converts { IfOk result (λ t.
         ConvertsAll from to (R.reading input.old) (R.reading input.new) (string_bytes t)) }
 {
-    let text = read_whole(alloc, input)?;
+    let text = read_whole(alloc, CONVERSION_LIMIT, input)?;
     match from.read(alloc, &text) {
         Ok((set, moc_order)) => Ok(text_of(alloc, to, &set, moc_order)?),
-        Err(error) => Err(InputError::without_position(error)),
+        Err(error) => Err(InputError::of_conversion(error)),
     }
 }
 
@@ -50,7 +50,7 @@ pub fn convert_input<R: Source>(
 /// Requires that no call of the input has failed before. Reads the input to its end.
 ///
 /// # Errors
-/// Fails with `Read` if reading fails, with `TooLong` above 16,777,216 bytes, with the first error of the text, or with
+/// Fails with `Read` if reading fails, with `TooLong` above 1 GiB, with the first error of the text, or with
 /// `Memory`.
 ///
 /// # Complexity
@@ -79,7 +79,7 @@ pub fn describe_input<R: Source>(
 /// Requires that no call of the input has failed before. Reads the input to its end.
 ///
 /// # Errors
-/// Fails with `Read` if reading fails, with `TooLong` above 16,777,216 bytes, with the first error of the text, or with
+/// Fails with `Read` if reading fails, with `TooLong` above 1 GiB, with the first error of the text, or with
 /// `Memory`.
 ///
 /// # Complexity
@@ -114,7 +114,7 @@ pub fn change_input<R: Source>(
 /// Requires that no call of the input has failed before. Reads the input to its end.
 ///
 /// # Errors
-/// Fails with `Read` if reading fails, with `TooLong` above 16,777,216 bytes, with the first error of the text and its
+/// Fails with `Read` if reading fails, with `TooLong` above 1 GiB, with the first error of the text and its
 /// position, or with `Memory`.
 ///
 /// # Complexity

@@ -8,7 +8,7 @@ ghost use Rattle.moc_conversion.specs.Conversion.{IsPictureOf, ReportsFirstOfTex
 
 use crate::error::InputError;
 use crate::parsing::parse_or_diagnose;
-use crate::reading::{read_whole, split_at_semicolon};
+use crate::reading::{INPUT_LIMIT, read_whole, split_at_semicolon};
 use moc_devices::Source;
 use moc_forms::{FormatChoice, draw, draw_two, is_blank};
 use std::alloc::Global;
@@ -18,7 +18,7 @@ use std::alloc::Global;
 /// Requires that no call of the input has failed before. Reads the input to its end.
 ///
 /// # Errors
-/// Fails with `Read` if reading fails, with `TooLong` above 16,777,216 bytes, with the first error of a text, or with
+/// Fails with `Read` if reading fails, with `TooLong` above 1 GiB, with the first error of a text, or with
 /// `Memory`.
 ///
 /// # Complexity
@@ -36,7 +36,7 @@ pub fn draw_input<R: Source>(
     ensures error { IfErr result (IsNotDrawn choice (R.reading input.old) (R.reading input.new)) }
     ensures draws { IfOk result (λ t. DrawsAll choice (R.reading input.old) (R.reading input.new) (string_bytes t)) }
 {
-    let text = read_whole(alloc, input)?;
+    let text = read_whole(alloc, INPUT_LIMIT, input)?;
     draw_texts(alloc, choice, &text)
 }
 

@@ -1,7 +1,7 @@
 //! Errors of an input.
 ghost use Rattle.std.specs.Prelude.{◌≡◌, ◌⊎◌, IsTrue};
 ghost use Rattle.moc_forms.specs.Formats.{is_memory};
-ghost use Rattle.moc_conversion.specs.Errors.{WritesText, error_alone, input_error_text, name_of_input};
+ghost use Rattle.moc_conversion.specs.Errors.{WritesText, input_error_text, name_of_input};
 ghost use Rattle.moc_conversion.specs.Errors.{position_text};
 ghost use Rattle.moc_conversion.specs.declared.error.InputError.TheVariants as error;
 
@@ -23,8 +23,11 @@ pub enum InputError {
         /// The error of the text, with its position.
         diagnostic: Diagnostic,
     },
-    /// A text has more than 16,777,216 bytes.
-    #[error("a text has more than 16,777,216 bytes")]
+    /// A text to convert is invalid. The error is reported by its name alone.
+    #[error("{0}")]
+    ConvertedText(FormatError),
+    /// A text has more than 1 GiB, or a text to convert more than 16 MiB.
+    #[error("a text is too long")]
     TooLong {
         /// The number of the text, from 1, if the call counts texts.
         number: Option<u64>,
@@ -38,23 +41,15 @@ pub enum InputError {
 }
 
 impl InputError {
-    /// Returns the error of a text without its position.
-    pub(crate) fn without_position(error: FormatError) -> InputError
+    /// Returns the error of a text to convert.
+    pub(crate) fn of_conversion(error: FormatError) -> InputError
         ensures memory { IsTrue (is_memory error) → result ≡ InputError.Memory }
-        ensures alone { (result ≡ InputError.Memory) ⊎ (result ≡ error_alone error) }
+        ensures alone { (result ≡ InputError.Memory) ⊎ (result ≡ InputError.ConvertedText error) }
     {
         if error.is_memory() {
             return InputError::Memory;
         }
-        InputError::Text {
-            number: None,
-            diagnostic: Diagnostic {
-                error,
-                place: None,
-                quote: None,
-                hint: None,
-            },
-        }
+        InputError::ConvertedText(error)
     }
 
     /// Returns the name of the error, as it is printed.
@@ -63,14 +58,15 @@ impl InputError {
     {
         match self {
             InputError::Text { diagnostic, .. } => diagnostic.error.name(),
+            InputError::ConvertedText(error) => error.name(),
             InputError::TooLong { .. } => "TooLong",
             InputError::Read => "Read",
             InputError::Memory => "Memory",
         }
     }
 
-    /// Writes the error, then its position, then the format that the text looks like. Linear in the length of the
-    /// output; allocates nothing.
+    /// Writes the error, then its position, then what the text must have there, then what the text looks like. Linear
+    /// in the length of the output; allocates nothing.
     ///
     /// # Errors
     /// Fails with `DeviceFault` if the writer fails. What was written before stays written.
@@ -90,7 +86,7 @@ impl InputError {
                 *number, diagnostic, errors,
             ),
             InputError::TooLong { number } => write_position(*number, None, None, errors),
-            InputError::Read | InputError::Memory => Ok(()),
+            InputError::ConvertedText(_) | InputError::Read | InputError::Memory => Ok(()),
         }
     }
 }

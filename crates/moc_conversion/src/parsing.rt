@@ -5,10 +5,10 @@ ghost use Rattle.moc_text.specs.AsciiText.{IsTooCoarse};
 ghost use Rattle.moc_forms.specs.Combining.{TextRepresents};
 ghost use Rattle.moc_forms.specs.Finding.{format_for};
 ghost use Rattle.moc_forms.specs.Formats.{format_text};
-ghost use Rattle.moc_conversion.specs.Conversion.{FailsParsing, InputRepresents, ReportsError};
+ghost use Rattle.moc_conversion.specs.Conversion.{FailsParsing, InputRepresents, ReportsError, input_limit};
 
 use crate::error::InputError;
-use crate::reading::read_whole;
+use crate::reading::{INPUT_LIMIT, read_whole};
 use moc_devices::Source;
 use moc_forms::{Diagnostic, Format, FormatChoice, ParsedCoverage};
 use moc_ranges::{Coverage, Memory};
@@ -69,8 +69,8 @@ pub(crate) fn parse_input<R: Source>(
     requires { R.mark input.old ≡ false }
     ensures read { IsErrOf result InputError.Read ↔ IsTrue (R.mark input.new) }
     ensures error { IfErr result (FailsParsing choice (R.reading input.old) (R.reading input.new)) }
-    ensures represents { IfOk result (InputRepresents choice (R.reading input.old) (R.reading input.new)) }
+    ensures represents { IfOk result (InputRepresents input_limit choice (R.reading input.old) (R.reading input.new)) }
 {
-    let text = read_whole(alloc, input)?;
+    let text = read_whole(alloc, INPUT_LIMIT, input)?;
     parse_or_diagnose(alloc, choice, &text, None)
 }

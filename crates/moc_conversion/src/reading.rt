@@ -1,7 +1,7 @@
 //! Reads an input in pieces or as a whole, and splits it at a semicolon.
 ghost use Rattle.std.specs.Prelude.{◌≡◌, ◌<◌, ◌≤◌, ◌↔◌, ◌⊎◌, false, IfErr, IfOk, IsErrOf, IsTrue, length};
 ghost use Rattle.moc_devices.specs.Devices.{Delivers, IsEnded};
-ghost use Rattle.moc_conversion.specs.Conversion.{FailsReading, input_limit};
+ghost use Rattle.moc_conversion.specs.Conversion.{FailsReading};
 ghost use Rattle.moc_conversion.specs.Private.Pieces.{ReadsPiece, IsSplit};
 
 use crate::error::InputError;
@@ -9,8 +9,11 @@ use memchr::memchr;
 use moc_devices::{BUFFER_SIZE, Source};
 use std::alloc::{AllocError, Global};
 
-/// The maximal number of bytes of a text.
-pub(crate) const INPUT_LIMIT: usize = 16_777_216;
+/// The maximal number of bytes of a text, 1 GiB.
+pub(crate) const INPUT_LIMIT: usize = 1_073_741_824;
+
+/// The maximal number of bytes of a text that is converted, 16 MiB.
+pub(crate) const CONVERSION_LIMIT: usize = 16_777_216;
 
 /// Allocates a buffer for one piece.
 pub(crate) fn buffer(alloc: Global) -> Result<Vec<u8>, AllocError>
@@ -39,18 +42,22 @@ pub(crate) fn read_chunk<R: Source>(
     Ok(count > 0)
 }
 
-/// Returns all bytes of an input of at most 16,777,216 bytes; fails with `TooLong` for a longer one. Reads in large
+/// Returns all bytes of an input that has at most `limit` bytes; fails with `TooLong` for a longer one. Reads in large
 /// pieces into one buffer.
-pub(crate) fn read_whole<R: Source>(alloc: Global, input: &mut R) -> Result<Vec<u8>, InputError>
+pub(crate) fn read_whole<R: Source>(
+    alloc: Global,
+    limit: usize,
+    input: &mut R,
+) -> Result<Vec<u8>, InputError>
     requires { R.mark input.old ≡ false }
     ensures read { IsErrOf result InputError.Read ↔ IsTrue (R.mark input.new) }
-    ensures error { IfErr result (FailsReading (R.reading input.old) (R.reading input.new)) }
+    ensures error { IfErr result (FailsReading limit (R.reading input.old) (R.reading input.new)) }
     ensures whole { IfOk result (λ v. Delivers (R.reading input.old) (R.reading input.new) v.items
-        × IsEnded (R.reading input.new) × (length v.items ≤ input_limit)) }
+        × IsEnded (R.reading input.new) × (length v.items ≤ limit)) }
 {
     let mut buffer = buffer(alloc)?;
     let mut text = Vec::new(alloc);
-    while text.len() <= INPUT_LIMIT {
+    while text.len() <= limit {
         if !read_chunk(input, &mut buffer, &mut text)? {
             return Ok(text);
         }

@@ -1,12 +1,14 @@
 //! Reports of errors.
 ghost use Rattle.std.specs.Prelude.{◌++◌, codes, decimal, option_map};
 ghost use Rattle.moc_text.specs.Names.{fault_report};
+ghost use Rattle.moc_forms.specs.Expectations.{cells_line, expected_text};
 ghost use Rattle.moc_forms.specs.Places.{place_text, position_line, quote_after};
 ghost use Rattle.moc_conversion.specs.Errors.{WritesText, diagnostic_text};
 
 use itoa::Buffer;
 use moc_devices::{DeviceFault, Sink, write_all};
-use moc_forms::{Diagnostic, Place, hint_line};
+use moc_forms::{Diagnostic, FormatError, Place, expected_line, hint_line};
+use moc_sphere::Order;
 
 /// Reports an error by its name: writes `fault NAME` and a line feed. Linear in the length of the name; allocates
 /// nothing.
@@ -21,7 +23,8 @@ pub fn report_error<E: Sink>(name: &str, errors: &mut E) -> Result<(), DeviceFau
     write_all(b"\n", errors)
 }
 
-/// Writes the line of the position of a diagnostic, and the line of its hint, if there are any.
+/// Writes the lines of a diagnostic, if there are any: those of its position, of what the text must have there, and of
+/// its hint.
 pub(crate) fn write_diagnostic<E: Sink>(
     number: Option<u64>,
     diagnostic: &Diagnostic,
@@ -35,10 +38,35 @@ pub(crate) fn write_diagnostic<E: Sink>(
         diagnostic.quote.as_deref(),
         errors,
     )?;
+    write_expected(diagnostic.error, diagnostic.order, errors)?;
     match diagnostic.hint {
-        Some(format) => write_all(hint_line(format).as_bytes(), errors),
+        Some(content) => write_all(hint_line(content).as_bytes(), errors),
         None => Ok(()),
     }
+}
+
+/// Writes the line that states what a text must have in place of an error, if there is one, given the order of the
+/// cells there.
+fn write_expected<E: Sink>(
+    error: FormatError,
+    order: Option<Order>,
+    errors: &mut E,
+) -> Result<(), DeviceFault>
+    ensures { WritesText E.writing E.mark (expected_text error order) errors.old errors.new result }
+{
+    match order {
+        None => write_all(expected_line(error).as_bytes(), errors),
+        Some(order) => write_cells_line(order, errors),
+    }
+}
+
+/// Writes the line for the cells of an order.
+fn write_cells_line<E: Sink>(order: Order, errors: &mut E) -> Result<(), DeviceFault>
+    ensures { WritesText E.writing E.mark (cells_line order) errors.old errors.new result }
+{
+    write_number("cells of order ", u64::from(order.get()), errors)?;
+    write_number(" go up to ", order.cell_count().saturating_sub(1), errors)?;
+    write_all(b"\n", errors)
 }
 
 /// Writes the line of a position: the number of the text if texts are counted, the position and the quote. Writes

@@ -9,7 +9,7 @@ use Rattle.std.proofs.lemmas.List.Sums.{suffix_len-le-length, suffix_len-take_no
 use Rattle.std.proofs.lemmas.List.Splits.{slice_split_first, slice_split-cons_no}
 use Rattle.moc_text.specs.Lines.{is_line_feed, lines_of}
 
-length_after_last : (p : ℕ → Bool) (xs : List ℕ) → length (after_last p xs) ≡ suffix_len (λ x. not (p x)) xs
+pub length_after_last : (p : ℕ → Bool) (xs : List ℕ) → length (after_last p xs) ≡ suffix_len (λ x. not (p x)) xs
 length_after_last p xs = omega (arith, suffix_len-le-length (λ x. not (p x)) xs, length-drop (length xs - suffix_len (λ x. not (p x)) xs) xs)
 
 -- one byte more, which passes the test

@@ -1,10 +1,13 @@
--- Detection of the format of a text by its first byte that is not a blank.
-use Rattle.std.specs.Prelude.{ℕ, Bool, true, false, ◌==◌, ◌&&◌, ◌||◌, nat_le, not, if◌then◌else◌, List, codes, Option}
-use Rattle.std.specs.Prelude.{None, Some, option_and_then}
-use Rattle.std.specs.List.{find, list_any}
-use Rattle.std.specs.Option.{option_map_or}
+-- Detection of the format of a text by its first byte that is not a blank, and of what an invalid text looks like.
+use Rattle.std.specs.Prelude.{ℕ, Bool, true, false, ◌==◌, ◌&&◌, ◌||◌, not, if◌then◌else◌, List, [], ◌∷◌, codes}
+use Rattle.std.specs.Prelude.{Option, None, Some, option_and_then, option_map}
+use Rattle.std.specs.Char.{is_ascii_digit}
+use Rattle.std.specs.List.{find, list_all, list_any, starts_with}
+use Rattle.std.specs.Option.{option_map_or, option_or}
 use Rattle.moc_sphere.specs.Names.{is_slash}
 use Rattle.moc_forms.specs.Formats.{format_name}
+use Rattle.moc_forms.specs.declared.finding.Content.{Content}
+use Rattle.moc_forms.specs.declared.finding.Content.TheVariants.{Coverage, MarkedUtf8, Utf16, Gzip, Fits, Markup}
 use Rattle.moc_forms.specs.declared.finding.FormatChoice.{FormatChoice}
 use Rattle.moc_forms.specs.declared.finding.FormatChoice.TheVariants.{Named, Auto}
 use Rattle.moc_forms.specs.declared.format.Format.{Format}
@@ -29,18 +32,50 @@ abbrev pub format_for : FormatChoice → List ℕ → Format
 format_for (Named format) text = format
 format_for Auto text = option_map_or (λ b. if b == 123 then Json else Ascii) (first_nonblank_byte text) Ascii
 
+-- whether bytes begin with some first bytes
+abbrev pub begins_with : List ℕ → List ℕ → Bool
+begins_with first bytes = starts_with (λ a b. a == b) bytes first
+
+-- the first bytes of contents that no format has: UTF-8 and UTF-16 with a byte order mark (Unicode), gzip (RFC 1952),
+-- FITS, and HTML or XML
+abbrev pub first_bytes : List (List ℕ × Content)
+first_bytes =
+    (239 ∷ 187 ∷ 191 ∷ [], MarkedUtf8) ∷ (255 ∷ 254 ∷ [], Utf16) ∷ (254 ∷ 255 ∷ [], Utf16) ∷ (31 ∷ 139 ∷ [], Gzip)
+    ∷ (codes "SIMPLE", Fits) ∷ (codes "<", Markup) ∷ []
+
+-- the content whose first bytes a text begins with, if there is one
+abbrev pub content_by_first_bytes : List ℕ → Option Content
+content_by_first_bytes text = option_map (λ entry. entry.1) (find (λ entry. begins_with entry.0 text) first_bytes)
+
 -- a digit, `s` or a comma: the first byte of an ASCII text after blanks
 abbrev pub begins_word : ℕ → Bool
-begins_word b = nat_le 48 b && nat_le b 57 || b == 115 || b == 44
+begins_word b = is_ascii_digit b || b == 115 || b == 44
 
--- the format that a text looks like by its first byte that is not a blank: JSON for `{`; for a digit, `s` or a comma
--- ASCII if the text has a slash, else a NUNIQ list; none for another byte
-abbrev pub looks_like : List ℕ → Option Format
+-- whether a text looks like JSON: its first byte that is not a blank is `{`
+abbrev pub looks_like_json : List ℕ → Bool
+looks_like_json text = option_map_or (λ b. b == 123) (first_nonblank_byte text) false
+
+-- whether a text looks like ASCII: its first byte that is not a blank begins a word, and it has a digit and a slash
+abbrev pub looks_like_ascii : List ℕ → Bool
+looks_like_ascii text =
+    option_map_or begins_word (first_nonblank_byte text) false && list_any is_ascii_digit text
+    && list_any is_slash text
+
+-- whether a text looks like a NUNIQ list: it has digits and blanks only, and at least one digit
+abbrev pub looks_like_uniq : List ℕ → Bool
+looks_like_uniq text =
+    list_any is_ascii_digit text && list_all (λ b. is_ascii_digit b || is_blank_byte b) text
+
+-- the format that a text looks like, if it looks like one
+abbrev pub likely_format : List ℕ → Option Format
+likely_format text =
+    if looks_like_json text then Some Json
+    else (if looks_like_ascii text then Some Ascii else (if looks_like_uniq text then Some Uniq else None))
+
+-- what a text looks like: the content whose first bytes it has; else the format that it looks like
+abbrev pub looks_like : List ℕ → Option Content
 looks_like text =
-    option_and_then
-    (λ b. if b == 123 then Some Json
-    else (if begins_word b then Some (if list_any is_slash text then Ascii else Uniq) else None))
-    (first_nonblank_byte text)
+    option_or (content_by_first_bytes text) (option_map (λ format. Coverage format) (likely_format text))
 
 -- whether two formats are the same
 abbrev pub same_format : Format → Format → Bool
@@ -49,13 +84,23 @@ same_format Json Json = true
 same_format Uniq Uniq = true
 same_format a b = false
 
--- the format that a text looks like, if it differs from the one that it is read in
-abbrev pub hint_of : Format → List ℕ → Option Format
-hint_of format text =
-    option_and_then (λ detected. if same_format format detected then None else Some detected) (looks_like text)
+-- whether a content is a coverage in this format
+abbrev pub is_in_format : Format → Content → Bool
+is_in_format format (Coverage detected) = same_format format detected
+is_in_format format content = false
 
--- the line that names the format that a text looks like
-abbrev pub hint_text : Format → List ℕ
-hint_text Ascii = codes "this looks like ASCII\n"
-hint_text Json = codes "this looks like JSON\n"
-hint_text Uniq = codes "this looks like a NUNIQ list\n"
+-- what a text looks like, if this is not the format that it is read in
+abbrev pub hint_of : Format → List ℕ → Option Content
+hint_of format text =
+    option_and_then (λ content. if is_in_format format content then None else Some content) (looks_like text)
+
+-- the line that states what a text looks like
+abbrev pub hint_text : Content → List ℕ
+hint_text (Coverage Ascii) = codes "this looks like ASCII\n"
+hint_text (Coverage Json) = codes "this looks like JSON\n"
+hint_text (Coverage Uniq) = codes "this looks like a NUNIQ list\n"
+hint_text MarkedUtf8 = codes "this looks like UTF-8 with a byte order mark\n"
+hint_text Utf16 = codes "this looks like UTF-16\n"
+hint_text Gzip = codes "this looks like gzip\n"
+hint_text Fits = codes "this looks like FITS; python -m ploverchaise convert reads it\n"
+hint_text Markup = codes "this looks like HTML or XML\n"

@@ -3,7 +3,9 @@ pub mod Combining
 pub mod Describing
 pub mod Diagnostics
 pub mod Drawing
+pub mod Expectations
 pub mod Finding
 pub mod Formats
 pub mod Places
 pub mod Quotes
+pub mod Private

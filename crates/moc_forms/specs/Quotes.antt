@@ -1,8 +1,10 @@
 -- Quotes of the faulty part of a text.
-use Rattle.std.specs.Prelude.{◌≡◌, ℕ, ◌+◌, ◌-◌, ◌/◌, ◌%◌, Bool, not, ◌&&◌, ◌==◌, nat_le, nat_lt, if◌then◌else◌, List}
-use Rattle.std.specs.Prelude.{[], ◌∷◌, ◌++◌, length, slice_index_or, take, drop, codes, MatchOption, Option, None}
+use Rattle.std.specs.Prelude.{◌≡◌, ℕ, ◌+◌, ◌-◌, ◌/◌, ◌%◌, Bool, not, ◌&&◌, ◌==◌, nat_le, nat_lt, min, if◌then◌else◌}
+use Rattle.std.specs.Prelude.{List, [], ◌∷◌, ◌++◌, length, slice_index_or, take, drop, codes, MatchOption, Option, None}
 use Rattle.std.specs.Prelude.{option_map}
-use Rattle.std.specs.List.{after_last, before_first, flat_map}
+use Rattle.std.specs.Char.{is_ascii_digit}
+use Rattle.std.specs.List.{after_last, before_first, flat_map, position_or_len}
+use Rattle.std.specs.Option.{option_map_or}
 use Rattle.moc_text.specs.Ascii.{is_separator}
 use Rattle.moc_text.specs.JsonFormat.{HasText}
 use Rattle.moc_text.specs.Lines.{lines_of}
@@ -25,6 +27,19 @@ IsQuotedText bytes (error.Json e) found =
     MatchOption (json_error_at e) (found ≡ None) (λ at. HasText bytes at.0 at.1 found)
 IsQuotedText bytes (error.Uniq e) found = found ≡ option_map (line_numbered bytes) (error_line e)
 
+-- not a digit
+abbrev pub is_not_digit : ℕ → Bool
+is_not_digit b = not (is_ascii_digit b)
+
+-- the position of an error in the faulty part: that of its byte in a word, of the first byte in a line that is not a
+-- digit, and the start of a name or an item of JSON
+abbrev pub quoted_at : List ℕ → FormatError → ℕ
+quoted_at bytes (error.Ascii e) =
+    option_map_or (λ at. length (after_last is_separator (take at bytes))) (error_byte e) 0
+quoted_at bytes (error.Json e) = 0
+quoted_at bytes (error.Uniq e) =
+    option_map_or (λ line. position_or_len is_not_digit (line_numbered bytes line)) (error_line e) 0
+
 -- the hexadecimal digit of a number below 16
 abbrev pub hex_digit : ℕ → ℕ
 hex_digit n = if nat_lt n 10 then 48 + n else 87 + n
@@ -41,10 +56,28 @@ byte_quoted b = if is_plain b then b ∷ [] else 92 ∷ 120 ∷ hex_digit (b / 1
 unfoldable pub bytes_quoted : List ℕ → List ℕ
 bytes_quoted bytes = flat_map byte_quoted bytes
 
--- a quote: at most the first 40 bytes, in quoted form between backquotes, and two points after it if there are more
-abbrev pub quote_text : List ℕ → List ℕ
-quote_text bytes = 96 ∷ bytes_quoted (take 40 bytes) ++ 96 ∷ (if nat_lt 40 (length bytes) then codes ".." else [])
+-- the maximal number of bytes that a quote shows
+abbrev pub max_quote_bytes : ℕ
+max_quote_bytes = 40
+
+-- the number of bytes of a part that a quote leaves out at its start: the position is in the middle of what is shown,
+-- or nearer to the start or the end of the part
+abbrev pub quote_start : List ℕ → ℕ → ℕ
+quote_start bytes at = min (at - max_quote_bytes / 2) (length bytes - max_quote_bytes)
+
+-- two points in place of bytes that are left out
+abbrev pub omission : ℕ → List ℕ
+omission count = if count == 0 then [] else codes ".."
+
+-- a quote of a part around a position: at most 40 bytes, in quoted form between backquotes
+abbrev pub quote_text : List ℕ → ℕ → List ℕ
+quote_text bytes at =
+    let following = drop (quote_start bytes at) bytes in
+    omission (quote_start bytes at)
+    ++ (96 ∷ bytes_quoted (take max_quote_bytes following) ++ 96 ∷ omission (length following - max_quote_bytes))
 
 -- the quote of the faulty part of a text
 abbrev pub IsQuote : List ℕ → FormatError → Option (List ℕ) → Type 0
-IsQuote bytes e quote = (found : Option (List ℕ)) × IsQuotedText bytes e found × (quote ≡ option_map quote_text found)
+IsQuote bytes e quote =
+    (found : Option (List ℕ)) × IsQuotedText bytes e found
+    × (quote ≡ option_map (λ part. quote_text part (quoted_at bytes e)) found)

@@ -7,7 +7,8 @@ ghost use Rattle.moc_forms.specs.Diagnostics.{Diagnoses};
 ghost use Rattle.moc_forms.specs.Places.{IsJsonPlace, IsOfOrder, IsPlace, byte_place};
 ghost use Rattle.moc_forms.specs.declared.place.Place.TheVariants.{Line, Number};
 
-use crate::finding::hint;
+use crate::expectation::order_at_error;
+use crate::finding::{Content, hint};
 use crate::format::{Format, FormatError};
 use crate::place::Place;
 use crate::quoting::quote;
@@ -17,7 +18,7 @@ use moc_text::{JsonError, JsonPlace, TextError, UniqError, json_content_at, json
 use std::alloc::Global;
 use thiserror::Error;
 
-/// An error of a text, with its position, a quote of the text there, and a format that the text looks like.
+/// An error of a text, with its position, a quote of the text there, and what the text looks like.
 #[derive(Debug, Drop, Error)]
 #[error("{error}")]
 pub struct Diagnostic {
@@ -27,8 +28,11 @@ pub struct Diagnostic {
     pub place: Option<Place>,
     /// The quote that `quote` returns. `None` if the error has no position in the text.
     pub quote: Option<String>,
-    /// The format that the text looks like, if it differs from the format in which the text was read.
-    pub hint: Option<Format>,
+    /// The order of the cells at the error, for `CellTooLarge`: the order in force of an ASCII text, or the order that
+    /// a name of a JSON text denotes. `None` for other errors.
+    pub order: Option<Order>,
+    /// What the text looks like, if this is not the format in which the text was read.
+    pub hint: Option<Content>,
 }
 
 impl Diagnostic {
@@ -51,10 +55,12 @@ impl Diagnostic {
         if error.is_memory() {
             return Err(Memory);
         }
+        let place = place_of(alloc, text, error)?;
         Ok(Diagnostic {
             error,
-            place: place_of(alloc, text, error)?,
+            place,
             quote: quote(alloc, text, error)?,
+            order: order_at_error(text, error, place),
             hint: hint(format, text),
         })
     }

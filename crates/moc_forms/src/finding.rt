@@ -1,9 +1,12 @@
-//! Detection of the format of a text by its first byte that is not a blank; for hints also by whether it has a slash.
-ghost use Rattle.std.specs.Prelude.{◌≡◌};
+//! Detection of the format of a text by its first byte that is not a blank, and of what an invalid text looks like.
+ghost use Rattle.std.specs.Prelude.{◌≡◌, ◌||◌};
+ghost use Rattle.std.specs.Char.{is_ascii_digit};
+ghost use Rattle.std.specs.List.{list_all, list_any};
 ghost use Rattle.moc_forms.specs.Combining.{are_blanks};
-ghost use Rattle.moc_forms.specs.Finding.{first_nonblank_byte as first_nonblank_byte_of, format_for};
-ghost use Rattle.moc_forms.specs.Finding.{hint_of, hint_text};
-ghost use Rattle.moc_forms.specs.Finding.{is_blank_byte as is_blank_byte_of, looks_like};
+ghost use Rattle.moc_forms.specs.Finding.{content_by_first_bytes, first_nonblank_byte as first_nonblank_byte_of};
+ghost use Rattle.moc_forms.specs.Finding.{format_for, hint_of, hint_text, is_blank_byte as is_blank_byte_of};
+ghost use Rattle.moc_forms.specs.Finding.{likely_format as likely_format_of, looks_like, looks_like_ascii};
+ghost use Rattle.moc_forms.specs.Finding.{looks_like_uniq};
 
 use crate::format::Format;
 use moc_sphere::InvalidName;
@@ -101,40 +104,132 @@ fn is_blank_byte(byte: u8) -> bool
     matches!(byte, b' ' | b'\t' | b'\r' | b'\n')
 }
 
-/// Returns the format that a text looks like if it differs from the given one. A text looks like JSON if its first byte
-/// that is not a blank is `{`. If this byte is a digit, `s` or a comma, the text looks like ASCII if it has a slash,
-/// else like a NUNIQ list.
+/// What a text looks like.
+#[derive(Clone, Copy, Debug, PartialEq, Eq)]
+pub enum Content {
+    /// A coverage in a format.
+    Coverage(Format),
+    /// UTF-8 after a byte order mark, which no format permits.
+    MarkedUtf8,
+    /// UTF-16 after a byte order mark.
+    Utf16,
+    /// A file that `gzip` compressed.
+    Gzip,
+    /// A FITS file.
+    Fits,
+    /// HTML or XML.
+    Markup,
+}
+
+/// Returns what a text looks like if this is not the given format. UTF-8 and UTF-16 with a byte order mark, gzip, FITS,
+/// and HTML or XML have their first bytes. A text looks like JSON if its first byte that is not a blank is `{`. It
+/// looks like ASCII if this byte is a digit, `s` or a comma, and the text has a digit and a slash. It looks like a
+/// NUNIQ list if it has digits and blanks only, and at least one digit.
 ///
 /// Linear in the length of the text; allocates nothing.
-pub fn hint(format: Format, text: &[u8]) -> Option<Format>
+pub fn hint(format: Format, text: &[u8]) -> Option<Content>
     ensures { result ≡ hint_of format text.now }
 {
-    let detected = detect_format(text)?;
-    if detected == format {
-        return None;
+    match detect_content(text)? {
+        Content::Coverage(detected) if detected == format => None,
+        content => Some(content),
     }
-    Some(detected)
+}
+
+/// Returns what a text looks like.
+fn detect_content(text: &[u8]) -> Option<Content>
+    ensures { result ≡ looks_like text.now }
+{
+    if let Some(content) = known_content(text) {
+        return Some(content);
+    }
+    Some(Content::Coverage(likely_format(text)?))
+}
+
+/// Returns the content whose first bytes a text begins with.
+fn known_content(text: &[u8]) -> Option<Content>
+    ensures { result ≡ content_by_first_bytes text.now }
+{
+    if text.starts_with(b"\xEF\xBB\xBF") {
+        Some(Content::MarkedUtf8)
+    } else if text.starts_with(b"\xFF\xFE") || text.starts_with(b"\xFE\xFF") {
+        Some(Content::Utf16)
+    } else if text.starts_with(b"\x1F\x8B") {
+        Some(Content::Gzip)
+    } else if text.starts_with(b"SIMPLE") {
+        Some(Content::Fits)
+    } else if text.starts_with(b"<") {
+        Some(Content::Markup)
+    } else {
+        None
+    }
 }
 
 /// Returns the format that a text looks like.
-fn detect_format(text: &[u8]) -> Option<Format>
-    ensures { result ≡ looks_like text.now }
+fn likely_format(text: &[u8]) -> Option<Format>
+    ensures { result ≡ likely_format_of text.now }
 {
-    match first_nonblank_byte(text)? {
-        b'{' => Some(Format::Json),
-        b'0'..=b'9' | b's' | b',' if text.contains(&b'/') => Some(Format::Ascii),
-        b'0'..=b'9' | b's' | b',' => Some(Format::Uniq),
+    match first_nonblank_byte(text) {
+        Some(b'{') => Some(Format::Json),
+        _ if is_like_ascii(text) => Some(Format::Ascii),
+        _ if is_like_uniq(text) => Some(Format::Uniq),
         _ => None,
     }
 }
 
-/// Returns the line that names the format that a text looks like.
-pub fn hint_line(format: Format) -> &'static str
-    ensures { result.now ≡ hint_text format }
+/// Returns whether a text looks like ASCII.
+fn is_like_ascii(text: &[u8]) -> bool
+    ensures { result ≡ looks_like_ascii text.now }
 {
-    match format {
-        Format::Ascii => "this looks like ASCII\n",
-        Format::Json => "this looks like JSON\n",
-        Format::Uniq => "this looks like a NUNIQ list\n",
+    match first_nonblank_byte(text) {
+        Some(b'0'..=b'9' | b's' | b',') => has_digit(text) && text.contains(&b'/'),
+        _ => false,
+    }
+}
+
+/// Returns whether a text looks like a NUNIQ list.
+fn is_like_uniq(text: &[u8]) -> bool
+    ensures { result ≡ looks_like_uniq text.now }
+{
+    has_digit(text) && is_digits_and_blanks(text)
+}
+
+/// Returns whether a text has a digit.
+fn has_digit(text: &[u8]) -> bool
+    ensures { result ≡ list_any is_ascii_digit text.now }
+{
+    for byte in text {
+        if byte.is_ascii_digit() {
+            return true;
+        }
+    }
+    false
+}
+
+/// Returns whether each byte of a text is a digit or a blank.
+fn is_digits_and_blanks(text: &[u8]) -> bool
+    ensures { result ≡ list_all (λ b. is_ascii_digit b || is_blank_byte_of b) text.now }
+{
+    for byte in text {
+        if !byte.is_ascii_digit() && !is_blank_byte(*byte) {
+            return false;
+        }
+    }
+    true
+}
+
+/// Returns the line that states what a text looks like.
+pub fn hint_line(content: Content) -> &'static str
+    ensures { result.now ≡ hint_text content }
+{
+    match content {
+        Content::Coverage(Format::Ascii) => "this looks like ASCII\n",
+        Content::Coverage(Format::Json) => "this looks like JSON\n",
+        Content::Coverage(Format::Uniq) => "this looks like a NUNIQ list\n",
+        Content::MarkedUtf8 => "this looks like UTF-8 with a byte order mark\n",
+        Content::Utf16 => "this looks like UTF-16\n",
+        Content::Gzip => "this looks like gzip\n",
+        Content::Fits => "this looks like FITS; python -m ploverchaise convert reads it\n",
+        Content::Markup => "this looks like HTML or XML\n",
     }
 }

@@ -1,26 +1,27 @@
 //! Quotes of the faulty part of a text.
-ghost use Rattle.std.specs.Prelude.{◌≡◌, ◌++◌, ◌<◌, ◌≤◌, ℕ, List, Option, [], length, option_map, slice_index_or};
-ghost use Rattle.std.specs.Prelude.{take, IfOk, OnOk};
+ghost use Rattle.std.specs.Prelude.{◌≡◌, ◌++◌, ◌<◌, ◌≤◌, ℕ, List, Option, [], drop, length, option_map, slice_index_or};
+ghost use Rattle.std.specs.Prelude.{◌∷◌, take, IfOk, OnOk};
 ghost use Rattle.std.specs.List.{after_last, before_first, position_or_len};
 ghost use Rattle.std.specs.String.{string_bytes};
 ghost use Rattle.moc_text.specs.Ascii.{is_separator as is_separator_byte};
 ghost use Rattle.moc_text.specs.Lines.{is_line_feed, lines_of};
-ghost use Rattle.moc_text.specs.Places.{error_byte, error_line};
-ghost use Rattle.moc_forms.specs.Quotes.{IsQuote, IsQuotedText, byte_quoted, bytes_quoted, hex_digit};
-ghost use Rattle.moc_forms.specs.Quotes.{is_plain as is_plain_byte, line_numbered, quote_text, word_around};
+ghost use Rattle.moc_forms.specs.Quotes.{IsQuote, IsQuotedText, byte_quoted, bytes_quoted, hex_digit, is_not_digit};
+ghost use Rattle.moc_forms.specs.Quotes.{is_plain as is_plain_byte, line_numbered, max_quote_bytes, omission};
+ghost use Rattle.moc_forms.specs.Quotes.{quote_start as quote_start_of, quote_text, quoted_at, word_around};
 
 use crate::format::FormatError;
 use moc_ranges::Memory;
-use moc_text::{JsonError, TextError, UniqError, is_separator, json_content_at};
+use moc_text::{JsonError, is_separator, json_content_at};
 use std::alloc::{AllocError, Global};
 
 /// The maximal number of bytes of a text that a quote shows.
 const MAX_QUOTE_BYTES: usize = 40;
 
 /// Returns a quote of the faulty part of a text: the word of an ASCII text, the line of a NUNIQ list, the name of a
-/// JSON object or the item of its array as `serde_json` writes it. A quote shows at most the first 40 bytes of the
-/// part, between backquotes. A byte that is not printable ASCII, a backslash or a backquote is written as `\x` and two
-/// hexadecimal digits. If the part is longer, `..` follows. Returns `None` if the error has no position.
+/// JSON object or the item of its array as `serde_json` writes it. A quote shows at most 40 bytes of the part, between
+/// backquotes, and among them the byte at the error. A byte that is not printable ASCII, a backslash or a backquote is
+/// written as `\x` and two hexadecimal digits in lower case. `..` stands for bytes that are left out before or after.
+/// Returns `None` if the error has no position.
 ///
 /// # Errors
 /// Fails with `Memory` if an allocation fails.
@@ -31,39 +32,66 @@ pub fn quote(alloc: Global, text: &[u8], error: FormatError) -> Result<Option<St
     ensures { IfOk result (λ quote. IsQuote text.now error (option_map string_bytes quote)) }
 {
     match error {
-        FormatError::Ascii(error) => Ok(quote_of(alloc, word_at(text, error))?),
-        FormatError::Uniq(error) => Ok(quote_of(alloc, line_at(text, error))?),
+        FormatError::Ascii(error) => {
+            let Some(at) = error.place() else {
+                return Ok(None);
+            };
+            let word = word_around_place(text, at);
+            Ok(Some(quote_of(alloc, word, offset_in_word(text, at))?))
+        }
+        FormatError::Uniq(error) => {
+            let Some(line) = error.line() else {
+                return Ok(None);
+            };
+            let line = line_at(text, line);
+            Ok(Some(quote_of(alloc, line, leading_digit_count(line))?))
+        }
         FormatError::Json(error) => match json_piece(alloc, text, error)? {
-            Some(piece) => Ok(quote_of(alloc, Some(piece.as_bytes()))?),
+            Some(piece) => Ok(Some(quote_of(alloc, piece.as_bytes(), 0)?)),
             None => Ok(None),
         },
     }
 }
 
-/// Returns the quote of a part of a text, or `None` if there is no part.
-fn quote_of(alloc: Global, piece: Option<&[u8]>) -> Result<Option<String>, AllocError>
-    ensures { IfOk result (λ quote.
-        option_map string_bytes quote ≡ option_map quote_text (option_map (λ p. p.now) piece.entry)) }
+/// Returns the quote of a part of a text around a position.
+fn quote_of(alloc: Global, piece: &[u8], at: usize) -> Result<String, AllocError>
+    ensures { IfOk result (λ quote. string_bytes quote ≡ quote_text piece.now at) }
 {
-    let Some(piece) = piece else {
-        return Ok(None);
-    };
     let mut text = String::new(alloc);
-    push_quoted(&mut text, piece)?;
-    Ok(Some(text))
+    let (before, following) = piece.split_at(quote_start(piece, at));
+    push_omission(&mut text, before.len())?;
+    push_quoted(&mut text, following)?;
+    push_omission(&mut text, following.len().saturating_sub(MAX_QUOTE_BYTES))?;
+    Ok(text)
 }
 
-/// Appends a quote.
-fn push_quoted(text: &mut String, piece: &[u8]) -> Result<(), AllocError>
-    ensures { OnOk result (string_bytes text.new ≡ string_bytes text.old ++ quote_text piece.now) }
+/// Returns the number of bytes that a quote leaves out before the first one that it shows.
+fn quote_start(piece: &[u8], at: usize) -> usize
+    ensures value { result ≡ quote_start_of piece.now at }
+    ensures within { result ≤ length piece.now }
+{
+    at.saturating_sub(MAX_QUOTE_BYTES / 2)
+        .min(piece.len().saturating_sub(MAX_QUOTE_BYTES))
+}
+
+/// Appends two points if bytes are left out.
+fn push_omission(text: &mut String, count: usize) -> Result<(), AllocError>
+    ensures { OnOk result (string_bytes text.new ≡ string_bytes text.old ++ omission count) }
+{
+    if count == 0 {
+        return Ok(());
+    }
+    text.push_str("..")
+}
+
+/// Appends the first bytes in quoted form, between backquotes.
+fn push_quoted(text: &mut String, bytes: &[u8]) -> Result<(), AllocError>
+    ensures { OnOk result (string_bytes text.new
+        ≡ string_bytes text.old ++ (96 ∷ bytes_quoted (take max_quote_bytes bytes.now) ++ 96 ∷ [])) }
 {
     text.push('`')?;
-    push_bytes(text, &piece[..piece.len().min(MAX_QUOTE_BYTES)])?;
-    text.push('`')?;
-    if piece.len() > MAX_QUOTE_BYTES {
-        text.push_str("..")?;
-    }
-    Ok(())
+    push_bytes(text, &bytes[..bytes.len().min(MAX_QUOTE_BYTES)])?;
+    text.push('`')
 }
 
 /// Appends bytes in quoted form.
@@ -109,19 +137,19 @@ fn hex(number: u8) -> u8
     }
 }
 
-/// Returns the word at the error of an ASCII text.
-fn word_at(text: &[u8], error: TextError) -> Option<&[u8]>
-    ensures { option_map (λ w. w.now) result ≡ option_map (word_around text.now) (error_byte error) }
-{
-    Some(word_around_place(text, error.place()?))
-}
-
 /// Returns the word around a position.
 fn word_around_place(text: &[u8], at: usize) -> &[u8]
     ensures { result.now ≡ word_around text.now at }
 {
     let (before, following) = text.split_at(at.min(text.len()));
     &text[before.len() - last_word_len(before)..before.len() + first_word_len(following)]
+}
+
+/// Returns the number of bytes between the start of the word around a position and this position.
+fn offset_in_word(text: &[u8], at: usize) -> usize
+    ensures { result ≡ length (after_last is_separator_byte (take at text.now)) }
+{
+    last_word_len(&text[..at.min(text.len())])
 }
 
 /// Returns the number of bytes after the last separator.
@@ -156,12 +184,25 @@ fn first_word_len(bytes: &[u8]) -> usize
     count
 }
 
-/// Returns the line at the error of a NUNIQ list.
-fn line_at(text: &[u8], error: UniqError) -> Option<&[u8]>
-    ensures { option_map (λ l. l.now) result ≡ option_map (line_numbered text.now) (error_line error) }
+/// Returns the number of digits at the start of a line.
+fn leading_digit_count(line: &[u8]) -> usize
+    ensures { result ≡ position_or_len is_not_digit line.now }
 {
-    let line = error.line()?;
-    Some(line_before_feed(after_line_feeds(text, line.saturating_sub(1))))
+    let mut count = 0;
+    for byte in line {
+        if !byte.is_ascii_digit() {
+            break;
+        }
+        count += 1;
+    }
+    count
+}
+
+/// Returns the line with a number, counted from 1.
+fn line_at(text: &[u8], line: usize) -> &[u8]
+    ensures { result.now ≡ line_numbered text.now line }
+{
+    line_before_feed(after_line_feeds(text, line.saturating_sub(1)))
 }
 
 /// Returns the bytes after the given number of line feeds.

@@ -245,7 +245,8 @@ module _ (denotes : List ℕ → Result Command LineError) where
 
   -- the commands of a line that is not blank: 1 to 16, or an error
   abbrev pub batch_of : List ℕ → Result (List Command) LineError
-  batch_of line = if nat_lt max_commands (length (pieces_of line)) then Err TooManyCommands else commands_of (pieces_of line)
+  batch_of line =
+      if nat_lt max_commands (length (pieces_of line)) then Err TooManyCommands else commands_of (pieces_of line)
 
 module _ (denotes : List ℕ → Result (List Command) LineError) where
   -- the answer to a line, with its line feed; the answer to a blank line is empty

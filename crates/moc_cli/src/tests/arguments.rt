@@ -26,7 +26,7 @@ fn arguments_that_are_not_utf8(rt: HostRuntime) {
 
 #[test]
 fn invalid_arguments(rt: HostRuntime) {
-    let tip = "error: unrecognized subcommand 'union'\n\n  tip: what does it is 'combine union'\n\n\
+    let tip = "error: unrecognized subcommand 'union'\n\n  tip: use 'combine union'\n\n\
                Usage: moc <COMMAND>\n\nFor more information, try '--help'.\n";
     expect(&rt, rt.alloc(), &["union", "ascii"], "", 2, "", tip);
     expect(&rt, rt.alloc(), &["help", "union"], "", 2, "", tip);

@@ -61,22 +61,23 @@ fn failing_combinations(rt: HostRuntime) {
         (
             ["combine", "union", "ascii"],
             "0/0 ; 0/12",
-            "fault CellTooLarge\ntext 2, byte 3, line 1, byte 3 of it: `0/12`\n",
+            "fault CellTooLarge\ntext 2, byte 3, line 1, byte 3 of it: `0/12`\ncells of order 0 go up to 11\n",
         ),
         (
             ["combine", "union", "ascii"],
             "5/7-3 ; 0/12",
-            "fault Backwards\ntext 1, byte 2, line 1, byte 2 of it: `5/7-3`\n",
+            "fault Backwards\ntext 1, byte 2, line 1, byte 2 of it: `5/7-3`\n\
+            a range goes from its first cell to its last\n",
         ),
         (
             ["combine", "union", "json"],
             "{\"0\":[0]};[];",
-            "fault NotObject\ntext 2\n",
+            "fault NotObject\ntext 2\na text is one object, as in {\"3\":[10,12]}\n",
         ),
         (
             ["combine", "union", "uniq"],
             "4\n;5;3",
-            "fault NotUniq\ntext 3, line 1: `3`\n",
+            "fault NotUniq\ntext 3, line 1: `3`\nNUNIQ numbers go from 4 to 4611686018427387903\n",
         ),
     ] {
         expect(&rt, rt.alloc(), &arguments, input, 1, "", report);

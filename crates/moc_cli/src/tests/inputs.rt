@@ -10,8 +10,8 @@ use std::alloc::Global;
 use std::io::{self, Read};
 use std::process::Abort;
 
-/// The maximal number of bytes of a text.
-const TEXT_LIMIT: usize = 16_777_216;
+/// The maximal number of bytes of a text that is converted.
+const CONVERSION_LIMIT: usize = 16_777_216;
 
 /// The call that processes an input.
 #[derive(Clone, Copy)]
@@ -125,22 +125,23 @@ fn diagnostics(rt: HostRuntime) {
         (
             InputCall::Check(FormatChoice::Named(Format::Ascii)),
             "{\"0\":[3]}",
-            "fault BadByte\nbyte 0, line 1, byte 0 of it: `{\"0\":[3]}`\nthis looks like JSON\n",
+            "fault BadByte\nbyte 0, line 1, byte 0 of it: `{\"0\":[3]}`\n\
+            words look like 3/, 10, 12-14 or 3/10\nthis looks like JSON\n",
         ),
         (
             InputCall::Describe(FormatChoice::Auto),
             "1/0\n99",
-            "fault CellTooLarge\nbyte 4, line 2, byte 0 of it: `99`\n",
+            "fault CellTooLarge\nbyte 4, line 2, byte 0 of it: `99`\ncells of order 1 go up to 47\n",
         ),
         (
             InputCall::Combine(Operation::Union),
             "0/0;0/12",
-            "fault CellTooLarge\ntext 2, byte 2, line 1, byte 2 of it: `0/12`\n",
+            "fault CellTooLarge\ntext 2, byte 2, line 1, byte 2 of it: `0/12`\ncells of order 0 go up to 11\n",
         ),
         (
             InputCall::Check(FormatChoice::Named(Format::Uniq)),
             "4\n5 \n6",
-            "fault BadByte\nline 2: `5 `\n",
+            "fault BadByte\nline 2: `5 `\neach line is one number, of digits only\n",
         ),
     ] {
         expect_report(&rt, rt.alloc(), call, text, report);
@@ -153,12 +154,21 @@ fn diagnostics(rt: HostRuntime) {
 #[test]
 fn json_diagnostics(rt: HostRuntime) {
     for (text, report) in [
-        ("{\"1\":[0,]}", "fault NotJson\nline 1, column 9\n"),
-        ("{\"0\":[],\"x\":[]}", "fault BadOrder\nname 1: `x`\n"),
-        ("{\"007\":1}", "fault NotArray\norder 7: `007`\n"),
+        (
+            "{\"1\":[0,]}",
+            "fault NotJson\nline 1, column 9\na text is one object, as in {\"3\":[10,12]}\n",
+        ),
+        (
+            "{\"0\":[],\"x\":[]}",
+            "fault BadOrder\nname 1: `x`\nnames are orders from 0 to 29\n",
+        ),
+        (
+            "{\"007\":1}",
+            "fault NotArray\norder 7: `007`\nthe value of an order is an array, as in {\"3\":[10,12]}\n",
+        ),
         (
             "{\"1\":[0,48]}",
-            "fault CellTooLarge\norder 1, number 1: `48`\n",
+            "fault CellTooLarge\norder 1, number 1: `48`\ncells of order 1 go up to 47\n",
         ),
     ] {
         expect_report(
@@ -172,21 +182,29 @@ fn json_diagnostics(rt: HostRuntime) {
 }
 
 #[test]
-fn an_input_that_is_too_long(rt: HostRuntime) {
-    let text = vec![in rt.alloc(); b' '; TEXT_LIMIT + 1].expect(&rt, "memory");
-    let (whole, _) = text.split_at(TEXT_LIMIT);
-    let read = check_input(
+fn an_input_that_is_too_long_to_convert(rt: HostRuntime) {
+    let text = vec![in rt.alloc(); b' '; CONVERSION_LIMIT + 1].expect(&rt, "memory");
+    let (whole, _) = text.split_at(CONVERSION_LIMIT);
+    let converted = convert_input(
         rt.alloc(),
-        FormatChoice::Named(Format::Ascii),
+        Format::Ascii,
+        Format::Ascii,
         &mut OverReader::new(whole),
     );
-    assert!(rt; read.is_ok());
+    assert!(rt; converted.is_ok());
+    let converted = convert_input(
+        rt.alloc(),
+        Format::Ascii,
+        Format::Ascii,
+        &mut OverReader::new(text.as_slice()),
+    );
+    assert!(rt; matches!(&converted, Err(InputError::TooLong { number: None })));
     let read = check_input(
         rt.alloc(),
         FormatChoice::Named(Format::Ascii),
         &mut OverReader::new(text.as_slice()),
     );
-    assert!(rt; matches!(&read, Err(InputError::TooLong { number: None })));
+    assert!(rt; read.is_ok());
 }
 
 /// A reader of these bytes that counts its calls.

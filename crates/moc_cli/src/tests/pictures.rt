@@ -43,7 +43,7 @@ fn pictures(rt: HostRuntime) {
         "0/12",
         1,
         "",
-        "fault CellTooLarge\nbyte 2, line 1, byte 2 of it: `0/12`\n",
+        "fault CellTooLarge\nbyte 2, line 1, byte 2 of it: `0/12`\ncells of order 0 go up to 11\n",
     );
 }
 
@@ -58,6 +58,7 @@ fn pictures_of_two(rt: HostRuntime) {
     assert_eq!(rt; two.as_slice(), same.as_slice());
     assert!(rt; two.as_slice() != one.as_slice());
     let arguments = ["draw", "ascii"];
-    let report = "fault BadByte\ntext 2, byte 3, line 1, byte 3 of it: `0/1;0/2`\n";
+    let report = "fault BadByte\ntext 2, byte 3, line 1, byte 3 of it: `0/1;0/2`\n\
+        words look like 3/, 10, 12-14 or 3/10\n";
     expect(&rt, rt.alloc(), &arguments, "0/0;0/1;0/2", 1, "", report);
 }

@@ -81,24 +81,50 @@ fn checks(rt: HostRuntime) {
         (
             ["check", "ascii"],
             "1/0-3\n2/7-5",
-            "fault Backwards\nbyte 8, line 2, byte 2 of it: `2/7-5`\n",
+            "fault Backwards\nbyte 8, line 2, byte 2 of it: `2/7-5`\na range goes from its first cell to its last\n",
         ),
         (
             ["check", "json"],
             "{\"9\":[0,1,true]}",
-            "fault NotWhole\norder 9, number 2: `true`\n",
+            "fault NotWhole\norder 9, number 2: `true`\ncells are whole numbers of at most 64 bits\n",
         ),
-        (["check", "json"], "[1]", "fault NotObject\n"),
-        (["check", "uniq"], "4\n5\n3", "fault NotUniq\nline 3: `3`\n"),
+        (
+            ["check", "json"],
+            "[1]",
+            "fault NotObject\na text is one object, as in {\"3\":[10,12]}\n",
+        ),
+        (
+            ["check", "json"],
+            "s",
+            "fault NotJson\nline 1, column 1\na text is one object, as in {\"3\":[10,12]}\n",
+        ),
+        (
+            ["check", "ascii"],
+            "9:1,5",
+            "fault BadByte\nbyte 1, line 1, byte 1 of it: `9:1`\nwords look like 3/, 10, 12-14 or 3/10\n",
+        ),
+        (
+            ["check", "ascii"],
+            "SIMPLE  =",
+            "fault BadByte\nbyte 0, line 1, byte 0 of it: `SIMPLE`\nwords look like 3/, 10, 12-14 or 3/10\n\
+             this looks like FITS; python -m ploverchaise convert reads it\n",
+        ),
+        (
+            ["check", "uniq"],
+            "4\n5\n3",
+            "fault NotUniq\nline 3: `3`\n\
+        NUNIQ numbers go from 4 to 4611686018427387903\n",
+        ),
         (
             ["check", "json"],
             ",0/3",
-            "fault NotJson\nline 1, column 1\nthis looks like ASCII\n",
+            "fault NotJson\nline 1, column 1\na text is one object, as in {\"3\":[10,12]}\nthis looks like ASCII\n",
         ),
         (
             ["check", "auto"],
             "4\n5\n",
-            "fault NoOrder\nbyte 0, line 1, byte 0 of it: `4`\nthis looks like a NUNIQ list\n",
+            "fault NoOrder\nbyte 0, line 1, byte 0 of it: `4`\nan order comes first, as in 3/\n\
+            this looks like a NUNIQ list\n",
         ),
     ] {
         expect(&rt, rt.alloc(), &arguments, input, 1, "", report);
@@ -123,7 +149,7 @@ fn statistics(rt: HostRuntime) {
         "0/12",
         1,
         "",
-        "fault CellTooLarge\nbyte 2, line 1, byte 2 of it: `0/12`\n",
+        "fault CellTooLarge\nbyte 2, line 1, byte 2 of it: `0/12`\ncells of order 0 go up to 11\n",
     );
 }
 
@@ -149,7 +175,8 @@ fn changes(rt: HostRuntime) {
     ] {
         expect(&rt, rt.alloc(), arguments, input, 0, output, "");
     }
-    let report = "fault Backwards\nbyte 2, line 1, byte 2 of it: `5/7-3`\n";
+    let report = "fault Backwards\nbyte 2, line 1, byte 2 of it: `5/7-3`\n\
+        a range goes from its first cell to its last\n";
     expect(
         &rt,
         rt.alloc(),

@@ -1,7 +1,7 @@
 -- An action that reads an input writes the text that was made from it, or fails with its error.
 use Rattle.std.proofs.Common.{subst, sym}
 use Rattle.moc_cli.specs.Actions.{ActionEnds}
-use Rattle.moc_cli.proofs.Writing.{result_writes}
+use Rattle.moc_cli.proofs.Writing.{failure_writes, result_writes}
 use Rattle.moc_cli.proofs.execution.execute.Goals as goal
 
 pub returns-in-Describe-clause-ends : goal.returns-in-Describe-clause-ends
@@ -33,3 +33,9 @@ returns-in-Combine-clause-ends g c =
     subst (λ a. ActionEnds a (g.R.Source.reading c.args.input.now) (g.R.Source.reading c.combine_input.new.input) (g.W.Sink.writing c.args.output.now)
     (g.W.Sink.writing c.write_result-in-Combine.new.output) c.write_result-in-Combine.result) (sym c.in-Combine.is)
     (result_writes _ _ c.combine_input.result _ _ _ c.combine_input.ensures.combines c.combine_input.ensures.error c.write_result-in-Combine.ensures.sent)
+
+pub returns-in_err-check_input-in-Check-clause-ends : goal.returns-in_err-check_input-in-Check-clause-ends
+returns-in_err-check_input-in-Check-clause-ends g c =
+    subst (λ a. ActionEnds a (g.R.Source.reading c.args.input.now) (g.R.Source.reading c.check_input.new.input) (g.W.Sink.writing c.args.output.now)
+    (g.W.Sink.writing c.args.output.now) c.from_residual.result) (sym c.in-Check.is)
+    (failure_writes _ _ c.in_err-check_input-in-Check.field-0.0 _ c.from_residual.result c.from_residual.ensures.1 c.in_err-check_input-in-Check.ensures.error)

@@ -6,8 +6,8 @@ use Rattle.moc_conversion.proofs.conversion.convert_input.Goals as goal
 
 pub returns-clause-error : goal.returns-clause-error
 returns-clause-error g c =
-    not_read c.args.from _ _ c.in_ok-text.text.items c.in-Err.error c.without_position.result c.in_ok-text.ensures.whole
-    c.without_position.ensures.memory c.without_position.ensures.alone
+    not_read c.args.from _ _ c.in_ok-text.text.items c.in-Err.error c.of_conversion.result c.in_ok-text.ensures.whole
+    c.of_conversion.ensures.memory c.of_conversion.ensures.alone
     (subst (λ (bytes : List ℕ). FormatFails c.args.from bytes c.in-Err.error) c.deref.ensures.value c.in-Err.ensures.error)
 
 pub text_of-requires : goal.text_of-requires

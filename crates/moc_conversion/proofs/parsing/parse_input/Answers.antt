@@ -2,14 +2,14 @@ use Rattle.std.proofs.Common.{◌≡◌, ◌⊎◌, ℕ, List, None, subst}
 use Rattle.std.proofs.lemmas.Result.{IfErr-weaker, IfOk-weaker}
 use Rattle.moc_forms.specs.Combining.{TextRepresents}
 use Rattle.moc_forms.specs.Finding.{format_for}
-use Rattle.moc_conversion.specs.Conversion.{ReportsError}
+use Rattle.moc_conversion.specs.Conversion.{ReportsError, input_limit}
 use Rattle.moc_conversion.specs.declared.error.InputError.TheVariants.{Memory}
 use Rattle.moc_conversion.proofs.Checks.{all_of, of_input}
 use Rattle.moc_conversion.proofs.parsing.parse_input.Goals as goal
 
 pub returns-clause-represents : goal.returns-clause-represents
 returns-clause-represents g c = IfOk-weaker c.parse_or_diagnose.result _ _ (λ r represents.
-    all_of (λ bytes. TextRepresents c.args.choice bytes r) _ _ c.in_ok-text.text.items c.in_ok-text.ensures.whole
+    all_of input_limit (λ bytes. TextRepresents c.args.choice bytes r) _ _ c.in_ok-text.text.items c.in_ok-text.ensures.whole
     (subst (λ (bytes : List ℕ). TextRepresents c.args.choice bytes r) c.deref.ensures.value represents)) c.parse_or_diagnose.ensures.represents
 
 pub returns-clause-error : goal.returns-clause-error

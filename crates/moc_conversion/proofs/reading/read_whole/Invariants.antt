@@ -1,6 +1,5 @@
 use Rattle.std.proofs.Common.{◌≡◌, false, ◌+◌, ◌-◌, ◌<◌, length}
 use Rattle.moc_devices.specs.Devices.{Delivers}
-use Rattle.moc_conversion.specs.Conversion.{input_limit}
 use Rattle.moc_conversion.proofs.reading.read_whole.Given as goal
 
 abbrev pub invariant-loop-input : goal.invariant-loop-input
@@ -11,4 +10,4 @@ invariant-loop-input g l = record {
 }
 
 abbrev pub decreases-loop-input : goal.decreases-loop-input
-decreases-loop-input g l = input_limit + 1 - length l.text.items
+decreases-loop-input g l = l.limit + 1 - length l.text.items

@@ -1,6 +1,6 @@
 -- The position, then the quote if there is one.
-use Rattle.std.proofs.Common.{◌++◌, [], None, Ok, Err, codes, refl}
-use Rattle.moc_forms.specs.Places.{place_text, quote_after}
+use Rattle.std.proofs.Common.{◌++◌, [], Ok, Err, codes, refl}
+use Rattle.moc_forms.specs.Places.{place_text}
 use Rattle.moc_conversion.proofs.Sending.{writes_all, writes_as, writes_first, writes_next, writes_none}
 use Rattle.moc_conversion.proofs.reporting.write_quoted_place.Goals as goal
 
