@@ -651,10 +651,10 @@ def check_answers_without_memory(failing: FailingAllocations) -> None:
 def check_errors_without_memory(failing: FailingAllocations) -> None:
     """Checks subcommands that write everything or nothing, while allocations fail: crews, help, and the two lines of an error."""
     failing.check_failure("crew", ["crew", "2"], CREW_SCRIPT, (0, CREW_ANSWERS, b""), {OUT_OF_MEMORY, NO_THREAD}, OUT_OF_MEMORY)
-    error = (1, b"", b"fault CellTooLarge\norder 2, number 1: `192`\n")
+    error = (1, b"", b"fault CellTooLarge\norder 2, number 1: `192`" + cells(2) + b"\n")
     for subcommand in ["check", "describe", "draw", "complement"]:
         failing.check_failure(subcommand, [subcommand, "json"], b'{"10":[],"2":[0,192]}', error, {OUT_OF_MEMORY}, OUT_OF_MEMORY)
-    error = (1, b"", b"fault CellTooLarge\ntext 2, order 2, number 1: `192`\n")
+    error = (1, b"", b"fault CellTooLarge\ntext 2, order 2, number 1: `192`" + cells(2) + b"\n")
     texts = b'{"0":[0]};{"10":[],"2":[0,192]}'
     failing.check_failure("combine", ["combine", "union", "json"], texts, error, {OUT_OF_MEMORY}, OUT_OF_MEMORY)
     _, text, _ = run(["--help"])

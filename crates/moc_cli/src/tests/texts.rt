@@ -94,6 +94,31 @@ fn checks(rt: HostRuntime) {
             "fault NotObject\na text is one object, as in {\"3\":[10,12]}\n",
         ),
         (
+            ["check", "uniq"],
+            "4\n5\n3",
+            "fault NotUniq\nline 3: `3`\n\
+             NUNIQ numbers go from 4 to 4611686018427387903\n",
+        ),
+        (
+            ["check", "json"],
+            ",0/3",
+            "fault NotJson\nline 1, column 1\na text is one object, as in {\"3\":[10,12]}\nthis looks like ASCII\n",
+        ),
+        (
+            ["check", "auto"],
+            "4\n5\n",
+            "fault NoOrder\nbyte 0, line 1, byte 0 of it: `4`\nan order comes first, as in 3/\n\
+             this looks like a NUNIQ list\n",
+        ),
+    ] {
+        expect(&rt, rt.alloc(), &arguments, input, 1, "", report);
+    }
+}
+
+#[test]
+fn hints_of_checks(rt: HostRuntime) {
+    for (arguments, input, report) in [
+        (
             ["check", "json"],
             "s",
             "fault NotJson\nline 1, column 1\na text is one object, as in {\"3\":[10,12]}\n",
@@ -108,23 +133,6 @@ fn checks(rt: HostRuntime) {
             "SIMPLE  =",
             "fault BadByte\nbyte 0, line 1, byte 0 of it: `SIMPLE`\nwords look like 3/, 10, 12-14 or 3/10\n\
              this looks like FITS; python -m ploverchaise convert reads it\n",
-        ),
-        (
-            ["check", "uniq"],
-            "4\n5\n3",
-            "fault NotUniq\nline 3: `3`\n\
-        NUNIQ numbers go from 4 to 4611686018427387903\n",
-        ),
-        (
-            ["check", "json"],
-            ",0/3",
-            "fault NotJson\nline 1, column 1\na text is one object, as in {\"3\":[10,12]}\nthis looks like ASCII\n",
-        ),
-        (
-            ["check", "auto"],
-            "4\n5\n",
-            "fault NoOrder\nbyte 0, line 1, byte 0 of it: `4`\nan order comes first, as in 3/\n\
-            this looks like a NUNIQ list\n",
         ),
     ] {
         expect(&rt, rt.alloc(), &arguments, input, 1, "", report);
