@@ -1,5 +1,6 @@
 pub mod Ends
 pub mod Half
-pub mod Partial
+pub mod Mixed
+pub mod LeadingZeros
 pub mod Pieces
 pub mod Ranges
