@@ -16,7 +16,7 @@ import sys
 import tempfile
 import time
 from collections.abc import Callable, Iterable, Sequence
-from typing import IO, Any, NamedTuple, Optional, Union
+from typing import IO, Any, Optional, Union
 
 from tally import Tally
 
@@ -64,32 +64,16 @@ INVERSIONS = (b"add 9/" + b" ".join(b"%d" % cell for cell in range(0, 60_000, 2)
 CALLS = [b"new", b"try_apply of an update", b"try_apply of a query", b"apply of an update", b"apply of a query",
          b"finish of an update", b"finish of a query", b"answer of an add", b"answer of an add to a shared list", b"answer", b"close"]
 VERSION_LINE = f"moc {version.read_version()}\n".encode()
-STATISTICS = b"deepest 2\npixels 306244774661193728\nshare 0.088541666666\nranges 2\ncells 2\norder 0 1\norder 2 1\n"
+STATISTICS = (b"deepest 2\npixels 306244774661193728\nshare 0.088541666666\narea 3652.605943958997\nranges 2\ncells 2\norder 0 1\n"
+              b"order 2 1\n")
 RING_ANSWERS = b"13\n0\nfault CellTooLarge\n27\nfault WrongCount\nfault BadNumber\n35\n"
 NINES = b"9" * 1000
 # The rows and columns of the centers of the twelve base pixels in the HEALPix projection.
 BASE_PIXELS = [(1, 1), (1, 3), (1, 5), (1, 7), (2, 0), (2, 2), (2, 4), (2, 6), (3, 1), (3, 3), (3, 5), (3, 7)]
 
 
-class Kind(NamedTuple):
-    """A kind of cells of a picture.
-
-    Attributes
-    ----------
-    colour : str
-        The colour of the cells.
-    x : int
-        The position in the legend.
-    meaning : str
-        The text of the legend.
-    cells : str
-        The diamonds of the cells.
-    """
-
-    colour: str
-    x: int
-    meaning: str
-    cells: str
+# The tones of a picture: four shades, from the lightest, of blue, orange and black.
+TONES = ["#8cc0dc", "#5ea6cf", "#2e8bc0", "#0072b2", "#f4d48c", "#efc35e", "#ebb02e", "#e69f00", "#8c8c8c", "#5e5e5e", "#2e2e2e", "#000000"]
 
 
 def diamonds(half: int, row: int, column: int) -> str:
@@ -98,23 +82,44 @@ def diamonds(half: int, row: int, column: int) -> str:
                    for x in [column * half] + [1024] * (column == 0))
 
 
-def picture(title: str, kinds: list[Kind]) -> bytes:
-    """Returns a picture, which has the base pixels, their numbers, the cells with east to the left, and a legend with this title."""
+def text_at(x: int, y: int, text: str) -> str:
+    """Returns a text of a legend at a position."""
+    return f'<text x="{x}" y="{y}">{text}</text>'
+
+
+def picture(meaning: str, cells: dict[int, str], names: list[str]) -> bytes:
+    """Returns a picture, which has the base pixels, their numbers, the cells with east to the left, and a legend.
+
+    Parameters
+    ----------
+    meaning : str
+        The text after the shades.
+    cells : dict[int, str]
+        The diamonds of each tone. The tones are counted from 1.
+    names : list[str]
+        The name of each colour.
+    """
     sky = "".join(diamonds(128, row, column) for row, column in BASE_PIXELS)
-    labels = [f'<text x="{x}" y="{row * 128 + 5}">{number}</text>' for number, (row, column) in enumerate(BASE_PIXELS)
+    labels = [text_at(x, row * 128 + 7, str(number)) for number, (row, column) in enumerate(BASE_PIXELS)
               for x in ([1024 - column * 128] if column else [16, 1008])]
-    paths = [f'<path fill="{colour}" stroke="{colour}" vector-effect="non-scaling-stroke" d="{cells}"/>'
-             for colour, _, _, cells in kinds]
-    legend = [f'<path fill="{colour}" d="M{x} 552h24v16h-24z"/><text x="{x + 32}" y="566">{meaning}</text>'
-              for colour, x, meaning, _ in kinds]
-    lines = ['<svg xmlns="http://www.w3.org/2000/svg" viewBox="-40 -40 1104 640">', "<title>Sky coverage</title>",
+    tones = TONES[:4 * len(names)]
+    paths = [f'<path fill="{colour}" stroke="{colour}" vector-effect="non-scaling-stroke" d="{cells.get(tone, "")}"/>'
+             for tone, colour in enumerate(tones, 1)]
+    legend = []
+    for row, name in enumerate(names):
+        squares = [f'<path fill="{colour}" d="M{60 + 40 * column} {580 + 28 * row}h24v16h-24z"/>'
+                   for column, colour in enumerate(tones[4 * row:4 * row + 4])]
+        legend += [*squares, text_at(216, 595 + 28 * row, name)]
+    height = 628 + 28 * len(names)
+    lines = [f'<svg xmlns="http://www.w3.org/2000/svg" viewBox="-40 -40 1104 {height}">', "<title>Sky coverage</title>",
              '<clipPath id="plane"><path d="M0 0h1024v512H0z"/></clipPath>',
-             '<rect x="-40" y="-40" width="1104" height="640" fill="#fff"/>',
+             f'<rect x="-40" y="-40" width="1104" height="{height}" fill="#fff"/>',
              f'<path fill="#eee" stroke="#bbb" clip-path="url(#plane)" d="{sky}"/>',
-             '<g font-family="sans-serif" font-size="14" text-anchor="middle" fill="#bbb">', *labels, "</g>",
+             '<g font-family="sans-serif" font-size="20" text-anchor="middle" fill="#bbb">', *labels, "</g>",
              '<g transform="translate(1024 0) scale(-1 1)" clip-path="url(#plane)" shape-rendering="crispEdges">', *paths, "</g>",
-             '<g font-family="sans-serif" font-size="16" fill="#444">', '<text x="-28" y="262">E</text>',
-             '<text x="1036" y="262">W</text>', f'<text x="0" y="566">{title}</text>', *legend, "</g>", "</svg>"]
+             '<g font-family="sans-serif" font-size="20" fill="#444">', text_at(-34, 263, "E"), text_at(1036, 263, "W"),
+             text_at(0, 566, "up to"), text_at(60, 566, "1/4"), text_at(100, 566, "1/2"), text_at(140, 566, "3/4"), text_at(180, 566, "1"),
+             text_at(216, 566, meaning), *legend, "</g>", "</svg>"]
     return "".join(f"{line}\n" for line in lines).encode()
 
 
@@ -124,16 +129,17 @@ def cells(order: int) -> bytes:
 
 
 # A picture of base pixel 4, the northern quarter of base pixel 0, and three quarters of cell 0 of order 7.
-PICTURE = picture("Share of each cell of order 7",
-                  [Kind("#6baed6", 256, "up to 1/4", ""), Kind("#4292c6", 400, "up to 1/2", ""),
-                   Kind("#2171b5", 544, "up to 3/4", diamonds(1, 255, 128)),
-                   Kind("#08306b", 688, "more", diamonds(128, 2, 0) + diamonds(64, 1, 2))])
+ONE_MEANING = "of a cell of order 7"
+PICTURE_CELLS = {3: diamonds(1, 255, 128), 4: diamonds(128, 2, 0) + diamonds(64, 1, 2)}
+PICTURE = picture(ONE_MEANING, PICTURE_CELLS, ["covered"])
 # A picture of two sets: base pixel 5 and a piece of cell 0 of order 7, and base pixel 5 and cell 16 of order 1. That cell is the southern
 # quarter of base pixel 4.
-PICTURE_OF_TWO = picture("Cells of order 7 with pixels of",
-                         [Kind("#0072b2", 256, "the first alone", diamonds(1, 255, 128)),
-                          Kind("#e69f00", 432, "the second alone", diamonds(64, 5, 0)),
-                          Kind("#000", 624, "both", diamonds(128, 2, 2))])
+TWO_MEANING = "of a cell of order 7; its colour is that of most of its covered pixels"
+CELLS_OF_TWO = {1: diamonds(1, 255, 128), 8: diamonds(64, 5, 0), 12: diamonds(128, 2, 2)}
+PICTURE_OF_TWO = picture(TWO_MEANING, CELLS_OF_TWO, ["first only", "second only", "both"])
+# A name of 40 bytes, and a picture with this name and another name.
+LONG_NAME = "<&>\"" + "W" * 36
+NAMED_PICTURE = picture(TWO_MEANING, CELLS_OF_TWO, ["&lt;&amp;&gt;&quot;" + "W" * 36, "B~ '", "both"])
 # The lines that state what a text must have in place of an error.
 WORDS = b"\nwords look like 3/, 10, 12-14 or 3/10"
 FIRST_ORDER = b"\nan order comes first, as in 3/"
@@ -273,6 +279,10 @@ VALID_INPUTS: list[tuple[Arguments, bytes, bytes]] = [
     (["draw", "ascii"], b"0/4 1/3 8/0-2", PICTURE),
     (["draw", "auto"], b'0/5 29/0\n;{"1":[16],"0":[5]}', PICTURE_OF_TWO),
     (["draw", "ascii"], b"0/4 1/3 8/0-2; \t\r\n", PICTURE),
+    (["draw", "ascii", "A"], b"0/4 1/3 8/0-2", picture(ONE_MEANING, PICTURE_CELLS, ["A"])),
+    (["draw", "ascii", "A", "B"], b"0/4 1/3 8/0-2", picture(ONE_MEANING, PICTURE_CELLS, ["A"])),
+    (["draw", "ascii", "A"], b"0/5 29/0;1/16 0/5", picture(TWO_MEANING, CELLS_OF_TWO, ["A", "second only", "both"])),
+    (["draw", "ascii", LONG_NAME, "B~ '"], b"0/5 29/0;1/16 0/5", NAMED_PICTURE),
     (["degrade", "1", "ascii"], b"0/0 3/300 5/", b"0/0 1/18\n"),
     (["degrade", "5", "ascii"], b"0/0 3/300 4/", b"0/0 3/300 4/\n"),
     (["degrade", "0", "json"], b'{"1":[5],"4":[]}', b'{"0":[1]}\n'),
@@ -302,7 +312,11 @@ INVALID_COMMAND_LINES: list[tuple[Arguments, bytes]] = [
     (["check", "fits"], b"fits"),
     (["describe", "ascii", "json"], b"json"),
     (["draw"], b"FORM"),
-    (["draw", "ascii", "svg"], b"svg"),
+    (["draw", "ascii", "a", "b", "svg"], b"svg"),
+    (["draw", "ascii", "W" * 41], b"error: a name is not 1 to 40 bytes of printable ASCII\n"),
+    (["draw", "ascii", "A", ""], b"error: a name is not 1 to 40 bytes of printable ASCII\n"),
+    (["draw", "ascii", "A", "\u00e9"], b"error: a name is not 1 to 40 bytes of printable ASCII\n"),
+    (["draw", "ascii", "A\tB"], b"control character"),
     (["renumber", "nest", "ring"], b"ORDER"),
     (["renumber", "nest", "rang", "1"], b"rang"),
     (["renumber", "nest", "ring", "30"], b"30"),

@@ -1311,7 +1311,7 @@ class MOC:
         return cells
 
     def describe(self) -> str:
-        """Returns statistics, one on a line: the number of pixels, the share of the sky, and the numbers of ranges and of cells.
+        """Returns statistics, one on a line: the number of pixels, the share of the sky, the area, and the numbers of ranges and cells.
 
         These lines are followed by the number of cells of each order that has any. They are the lines of `moc describe` without the first
         one, which has the MOC order of a text. Takes the time of `to_string`.
@@ -1321,6 +1321,7 @@ class MOC:
         >>> print(MOC.from_string("1/0-3 2/20").describe())
         pixels 306244774661193728
         share 0.088541666666
+        area 3652.605943958997
         ranges 2
         cells 2
         order 0 1

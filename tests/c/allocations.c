@@ -155,7 +155,8 @@ int main(void)
     WRITES(moc_write_ascii(&store, first_id + 5, MOC_NO_ORDER, &text), "0/0 1/4\n");
     WRITES(moc_write_json(&store, first_id + 6, MOC_NO_ORDER, &text), "{\"0\":[0],\"1\":[4]}\n");
     WRITES(moc_write_uniq(&store, first_id + 7, &text), "4\n20\n");
-    WRITES(moc_describe(&store, first_id + 3, MOC_NO_ORDER, &text), "deepest none\npixels 0\nshare 0.000000000000\nranges 0\ncells 0\n");
+    WRITES(moc_describe(&store, first_id + 3, MOC_NO_ORDER, &text),
+           "deepest none\npixels 0\nshare 0.000000000000\narea 0.000000000000\nranges 0\ncells 0\n");
     REPEATED(made, moc_draw(&store, first_id + 3, &text));
     REQUIRE(made.first == text.length && text.length > 0);
     moc_text_free(&text);

@@ -130,7 +130,8 @@ static void texts(void)
     NO_ID(uniq("4\n4611686018427387904\n"), MOC_UNIQ_NOT_UNIQ, 2);
 
     CHECK(makes_text(moc_describe(&store, set("0/0 2/20"), 2, &text),
-               "deepest 2\npixels 306244774661193728\nshare 0.088541666666\nranges 2\ncells 2\norder 0 1\norder 2 1\n"));
+               "deepest 2\npixels 306244774661193728\nshare 0.088541666666\narea 3652.605943958997\nranges 2\ncells 2\n"
+               "order 0 1\norder 2 1\n"));
     NO_TEXT(moc_describe(&store, unused, 2, &text), MOC_NO_SUCH_SET, unused);
     NO_TEXT(moc_describe(&store, id, 30, &text), MOC_NO_SUCH_ORDER, 30);
     result = moc_draw(&store, set("0/4"), &text);

@@ -211,7 +211,8 @@ class Examples(TestCase):
 
     def test_statistics(self) -> None:
         lines = MOC.from_string("1/0-3 2/20").describe().split("\n")
-        self.assertEqual(lines, ["pixels 306244774661193728", "share 0.088541666666", "ranges 2", "cells 2", "order 0 1", "order 2 1"])
+        self.assertEqual(lines, ["pixels 306244774661193728", "share 0.088541666666", "area 3652.605943958997", "ranges 2",
+                                 "cells 2", "order 0 1", "order 2 1"])
 
     def test_picture_is_svg(self) -> None:
         picture = MOC.from_string("0/4").draw()

@@ -2,7 +2,8 @@
 use crate::shown::is_shown;
 use moc_forms::{
     Change, Content, Diagnostic, Format, FormatChoice, FormatError, Operation, ParsedCoverage,
-    Place, Statistics, describe, draw, draw_two, expected_line, hint, hint_line, is_blank, quote,
+    PictureNames, Place, Statistics, describe, draw, draw_two, expected_line, hint, hint_line,
+    is_blank, quote,
 };
 use moc_sphere::{InvalidName, Order};
 use moc_text::{JsonError, TextError, UniqError, WriteError};
@@ -410,27 +411,44 @@ fn figures_of_sets(rt: HostRuntime) {
         (
             Format::Ascii,
             "",
-            "deepest none\npixels 0\nshare 0.000000000000\nranges 0\ncells 0\n",
+            "deepest none\npixels 0\nshare 0.000000000000\narea 0.000000000000\nranges 0\ncells 0\n",
         ),
         (
             Format::Ascii,
             "0/0-11",
-            "deepest 0\npixels 3458764513820540928\nshare 1.000000000000\nranges 1\ncells 12\norder 0 12\n",
+            "deepest 0\npixels 3458764513820540928\nshare 1.000000000000\narea 41252.961249419271\n\
+             ranges 1\ncells 12\norder 0 12\n",
         ),
         (
             Format::Ascii,
             "1/0-3 2/20 29/",
-            "deepest 29\npixels 306244774661193728\nshare 0.088541666666\nranges 2\ncells 2\norder 0 1\norder 2 1\n",
+            "deepest 29\npixels 306244774661193728\nshare 0.088541666666\narea 3652.605943958997\n\
+             ranges 2\ncells 2\norder 0 1\norder 2 1\n",
         ),
         (
             Format::Ascii,
             "29/7",
-            "deepest 29\npixels 1\nshare 0.000000000000\nranges 1\ncells 1\norder 29 1\n",
+            "deepest 29\npixels 1\nshare 0.000000000000000000289120\narea 0.000000000000011927080055\n\
+             ranges 1\ncells 1\norder 29 1\n",
+        ),
+        // The largest sets with 24 digits of the area and of the share, and one pixel more.
+        (
+            Format::Ascii,
+            "29/0-82",
+            "deepest 29\npixels 83\nshare 0.000000000000000023997008\narea 0.000000000000989947644605\n\
+             ranges 1\ncells 5\norder 26 1\norder 27 1\norder 29 3\n",
+        ),
+        (
+            Format::Ascii,
+            "29/0-83",
+            "deepest 29\npixels 84\nshare 0.000000000000000024286128\narea 0.000000000001\n\
+             ranges 1\ncells 3\norder 26 1\norder 27 1\norder 28 1\n",
         ),
         (
             Format::Uniq,
             "4\n",
-            "deepest none\npixels 288230376151711744\nshare 0.083333333333\nranges 1\ncells 1\norder 0 1\n",
+            "deepest none\npixels 288230376151711744\nshare 0.083333333333\narea 3437.746770784939\n\
+             ranges 1\ncells 1\norder 0 1\n",
         ),
     ] {
         let seen = statistics(&rt, alloc, format, text);
@@ -450,6 +468,7 @@ fn figures_one_by_one(rt: HostRuntime) {
     assert_eq!(&rt; statistics.moc_order(), Order::new(29));
     assert_eq!(&rt; statistics.count(), 306244774661193728);
     assert_eq!(&rt; statistics.share(), 88541666666);
+    assert_eq!(&rt; statistics.area(), 3652605943958997);
     assert_eq!(&rt; (statistics.range_count(), statistics.cell_count()), (2, 2));
     for (order, cells) in [(0, 1), (1, 0), (2, 1), (29, 0)] {
         assert_eq!(&rt;
@@ -541,75 +560,80 @@ fn moc_orders_of_both(rt: HostRuntime) {
     }
 }
 
-/// The text before the four paths of every picture: base pixel 4 is at both edges, and its number at both. East is to
-/// the left, so base pixel 0 is at the right.
-const PICTURE_HEAD: &str = "<svg xmlns=\"http://www.w3.org/2000/svg\" viewBox=\"-40 -40 1104 640\">
-<title>Sky coverage</title>
-<clipPath id=\"plane\"><path d=\"M0 0h1024v512H0z\"/></clipPath>
-<rect x=\"-40\" y=\"-40\" width=\"1104\" height=\"640\" fill=\"#fff\"/>
-<path fill=\"#eee\" stroke=\"#bbb\" clip-path=\"url(#plane)\" \
+/// The sky of every picture: base pixel 4 is at both edges, and its number at both. East is to the left, so base pixel
+/// 0 is at the right.
+const SKY: &str = "<path fill=\"#eee\" stroke=\"#bbb\" clip-path=\"url(#plane)\" \
 d=\"M128 0l128 128-128 128-128-128zM384 0l128 128-128 128-128-128z\
 M640 0l128 128-128 128-128-128zM896 0l128 128-128 128-128-128z\
 M0 128l128 128-128 128-128-128zM1024 128l128 128-128 128-128-128zM256 128l128 128-128 128-128-128z\
 M512 128l128 128-128 128-128-128zM768 128l128 128-128 128-128-128z\
 M128 256l128 128-128 128-128-128zM384 256l128 128-128 128-128-128z\
 M640 256l128 128-128 128-128-128zM896 256l128 128-128 128-128-128z\"/>
-<g font-family=\"sans-serif\" font-size=\"14\" text-anchor=\"middle\" fill=\"#bbb\">
-<text x=\"896\" y=\"133\">0</text>
-<text x=\"640\" y=\"133\">1</text>
-<text x=\"384\" y=\"133\">2</text>
-<text x=\"128\" y=\"133\">3</text>
-<text x=\"16\" y=\"261\">4</text>
-<text x=\"1008\" y=\"261\">4</text>
-<text x=\"768\" y=\"261\">5</text>
-<text x=\"512\" y=\"261\">6</text>
-<text x=\"256\" y=\"261\">7</text>
-<text x=\"896\" y=\"389\">8</text>
-<text x=\"640\" y=\"389\">9</text>
-<text x=\"384\" y=\"389\">10</text>
-<text x=\"128\" y=\"389\">11</text>
+<g font-family=\"sans-serif\" font-size=\"20\" text-anchor=\"middle\" fill=\"#bbb\">
+<text x=\"896\" y=\"135\">0</text>
+<text x=\"640\" y=\"135\">1</text>
+<text x=\"384\" y=\"135\">2</text>
+<text x=\"128\" y=\"135\">3</text>
+<text x=\"16\" y=\"263\">4</text>
+<text x=\"1008\" y=\"263\">4</text>
+<text x=\"768\" y=\"263\">5</text>
+<text x=\"512\" y=\"263\">6</text>
+<text x=\"256\" y=\"263\">7</text>
+<text x=\"896\" y=\"391\">8</text>
+<text x=\"640\" y=\"391\">9</text>
+<text x=\"384\" y=\"391\">10</text>
+<text x=\"128\" y=\"391\">11</text>
 </g>
 <g transform=\"translate(1024 0) scale(-1 1)\" clip-path=\"url(#plane)\" shape-rendering=\"crispEdges\">
 ";
 
-/// The text after them: the meaning of the shades, and the direction of east.
+/// The text after the cells of one set: the directions, and the meaning of the shades.
 const LEGEND: &str = "</g>
-<g font-family=\"sans-serif\" font-size=\"16\" fill=\"#444\">
-<text x=\"-28\" y=\"262\">E</text>
-<text x=\"1036\" y=\"262\">W</text>
-<text x=\"0\" y=\"566\">Share of each cell of order 7</text>
-<path fill=\"#6baed6\" d=\"M256 552h24v16h-24z\"/><text x=\"288\" y=\"566\">up to 1/4</text>
-<path fill=\"#4292c6\" d=\"M400 552h24v16h-24z\"/><text x=\"432\" y=\"566\">up to 1/2</text>
-<path fill=\"#2171b5\" d=\"M544 552h24v16h-24z\"/><text x=\"576\" y=\"566\">up to 3/4</text>
-<path fill=\"#08306b\" d=\"M688 552h24v16h-24z\"/><text x=\"720\" y=\"566\">more</text>
-</g>
-</svg>
-";
+<g font-family=\"sans-serif\" font-size=\"20\" fill=\"#444\">
+<text x=\"-34\" y=\"263\">E</text>
+<text x=\"1036\" y=\"263\">W</text>
+<text x=\"0\" y=\"566\">up to</text>
+<text x=\"60\" y=\"566\">1/4</text>
+<text x=\"100\" y=\"566\">1/2</text>
+<text x=\"140\" y=\"566\">3/4</text>
+<text x=\"180\" y=\"566\">1</text>
+<text x=\"216\" y=\"566\">of a cell of order 7</text>
+<path fill=\"#8cc0dc\" d=\"M60 580h24v16h-24z\"/>
+<path fill=\"#5ea6cf\" d=\"M100 580h24v16h-24z\"/>
+<path fill=\"#2e8bc0\" d=\"M140 580h24v16h-24z\"/>
+<path fill=\"#0072b2\" d=\"M180 580h24v16h-24z\"/>
+<text x=\"216\" y=\"595\">";
 
-/// Returns the picture whose layers of one colour each have these diamonds, with a legend.
-fn picture(rt: &impl Abort, alloc: Global, layers: &[(&str, &str)], behind: &str) -> String {
-    let mut text = String::from_str(alloc, PICTURE_HEAD).expect(rt, "memory");
-    for (colour, diamonds) in layers {
+/// The colours of the tones, in the order of the picture.
+const TONES: [&str; 12] = [
+    "#8cc0dc", "#5ea6cf", "#2e8bc0", "#0072b2", "#f4d48c", "#efc35e", "#ebb02e", "#e69f00",
+    "#8c8c8c", "#5e5e5e", "#2e2e2e", "#000000",
+];
+
+/// Returns the picture of a height whose tones each have these diamonds, up to its legend.
+fn picture(rt: &impl Abort, alloc: Global, height: u64, tones: &[&str]) -> String {
+    let mut text = format!(in alloc;
+        "<svg xmlns=\"http://www.w3.org/2000/svg\" viewBox=\"-40 -40 1104 {height}\">\n\
+         <title>Sky coverage</title>\n\
+         <clipPath id=\"plane\"><path d=\"M0 0h1024v512H0z\"/></clipPath>\n\
+         <rect x=\"-40\" y=\"-40\" width=\"1104\" height=\"{height}\" fill=\"#fff\"/>\n{SKY}"
+    )
+    .expect(rt, "memory");
+    for (diamonds, colour) in tones.iter().zip(TONES) {
         write!(
             text,
             "<path fill=\"{colour}\" stroke=\"{colour}\" vector-effect=\"non-scaling-stroke\" d=\"{diamonds}\"/>\n"
         )
         .expect(rt, "memory");
     }
-    text.push_str(behind).expect(rt, "memory");
     text
 }
 
-/// Returns the picture whose four shades, from the lightest, have these diamonds.
-fn picture_with_shades(rt: &impl Abort, alloc: Global, shades: [&str; 4]) -> String {
-    let [first, second, third, fourth] = shades;
-    let layers = [
-        ("#6baed6", first),
-        ("#4292c6", second),
-        ("#2171b5", third),
-        ("#08306b", fourth),
-    ];
-    picture(rt, alloc, &layers, LEGEND)
+/// Returns the picture whose four shades, from the lightest, have these diamonds, with a name in its legend.
+fn picture_with_shades(rt: &impl Abort, alloc: Global, shades: [&str; 4], name: &str) -> String {
+    let mut text = picture(rt, alloc, 656, &shades);
+    write!(text, "{LEGEND}{name}</text>\n</g>\n</svg>\n").expect(rt, "memory");
+    text
 }
 
 /// Returns the picture of the set of a text.
@@ -617,13 +641,13 @@ fn picture_of_text(rt: &impl Abort, alloc: Global, text: &str) -> String {
     let (set, _) = Format::Ascii
         .read(alloc, text.as_bytes())
         .expect(rt, "a text");
-    draw(alloc, &set).expect(rt, "memory")
+    draw(alloc, &set, None).expect(rt, "memory")
 }
 
 /// Checks the shades of the picture of a text.
 fn is_drawn(rt: &impl Abort, alloc: Global, text: &str, shades: [&str; 4]) {
     let seen = picture_of_text(rt, alloc, text);
-    let wanted = picture_with_shades(rt, alloc, shades);
+    let wanted = picture_with_shades(rt, alloc, shades, "covered");
     assert_text(rt, text, seen.as_str(), wanted.as_str());
 }
 
@@ -677,40 +701,140 @@ fn pictures_of_shares(rt: HostRuntime) {
     is_drawn(&rt, rt.alloc(), more, ["", first, second, third]);
 }
 
-/// The text after the cells of two sets.
+/// A name is escaped, and bytes that are not printable ASCII are drawn as question marks.
+#[test]
+fn picture_with_a_name(rt: HostRuntime) {
+    let alloc = rt.alloc();
+    let (set, _) = Format::Ascii
+        .read(alloc, b"0/5".as_slice())
+        .expect(&rt, "a text");
+    let seen = draw(alloc, &set, Some("A&B <\"1\">~\u{e9}\u{7}")).expect(&rt, "memory");
+    let shades = ["", "", "", "M256 128l128 128-128 128-128-128z"];
+    let wanted = picture_with_shades(&rt, alloc, shades, "A&amp;B &lt;&quot;1&quot;&gt;~???");
+    assert_eq!(&rt; seen.as_str(), wanted.as_str());
+}
+
+/// The text after the cells of two sets, up to the name of the first.
 const LEGEND_OF_TWO: &str = "</g>
-<g font-family=\"sans-serif\" font-size=\"16\" fill=\"#444\">
-<text x=\"-28\" y=\"262\">E</text>
-<text x=\"1036\" y=\"262\">W</text>
-<text x=\"0\" y=\"566\">Cells of order 7 with pixels of</text>
-<path fill=\"#0072b2\" d=\"M256 552h24v16h-24z\"/><text x=\"288\" y=\"566\">the first alone</text>
-<path fill=\"#e69f00\" d=\"M432 552h24v16h-24z\"/><text x=\"464\" y=\"566\">the second alone</text>
-<path fill=\"#000\" d=\"M624 552h24v16h-24z\"/><text x=\"656\" y=\"566\">both</text>
+<g font-family=\"sans-serif\" font-size=\"20\" fill=\"#444\">
+<text x=\"-34\" y=\"263\">E</text>
+<text x=\"1036\" y=\"263\">W</text>
+<text x=\"0\" y=\"566\">up to</text>
+<text x=\"60\" y=\"566\">1/4</text>
+<text x=\"100\" y=\"566\">1/2</text>
+<text x=\"140\" y=\"566\">3/4</text>
+<text x=\"180\" y=\"566\">1</text>
+<text x=\"216\" y=\"566\">of a cell of order 7; its colour is that of most of its covered pixels</text>
+<path fill=\"#8cc0dc\" d=\"M60 580h24v16h-24z\"/>
+<path fill=\"#5ea6cf\" d=\"M100 580h24v16h-24z\"/>
+<path fill=\"#2e8bc0\" d=\"M140 580h24v16h-24z\"/>
+<path fill=\"#0072b2\" d=\"M180 580h24v16h-24z\"/>
+<text x=\"216\" y=\"595\">";
+
+/// The text from the name of the first set up to that of the second.
+const LEGEND_OF_SECOND: &str = "</text>
+<path fill=\"#f4d48c\" d=\"M60 608h24v16h-24z\"/>
+<path fill=\"#efc35e\" d=\"M100 608h24v16h-24z\"/>
+<path fill=\"#ebb02e\" d=\"M140 608h24v16h-24z\"/>
+<path fill=\"#e69f00\" d=\"M180 608h24v16h-24z\"/>
+<text x=\"216\" y=\"623\">";
+
+/// The text after the name of the second set.
+const LEGEND_OF_BOTH: &str = "</text>
+<path fill=\"#8c8c8c\" d=\"M60 636h24v16h-24z\"/>
+<path fill=\"#5e5e5e\" d=\"M100 636h24v16h-24z\"/>
+<path fill=\"#2e2e2e\" d=\"M140 636h24v16h-24z\"/>
+<path fill=\"#000000\" d=\"M180 636h24v16h-24z\"/>
+<text x=\"216\" y=\"651\">both</text>
 </g>
 </svg>
 ";
 
-/// Returns the picture of the sets of two texts.
-fn picture_of_two_texts(rt: &impl Abort, alloc: Global, first: &[u8], second: &[u8]) -> String {
+/// Returns the picture of two sets whose twelve tones have these diamonds, with two names in its legend.
+fn picture_with_tones(
+    rt: &impl Abort,
+    alloc: Global,
+    tones: [&str; 12],
+    names: [&str; 2],
+) -> String {
+    let mut text = picture(rt, alloc, 712, &tones);
+    let [first, second] = names;
+    write!(
+        text,
+        "{LEGEND_OF_TWO}{first}{LEGEND_OF_SECOND}{second}{LEGEND_OF_BOTH}"
+    )
+    .expect(rt, "memory");
+    text
+}
+
+/// Returns the picture of the sets of two texts, with names.
+fn picture_of_two_texts(
+    rt: &impl Abort,
+    alloc: Global,
+    first: &[u8],
+    second: &[u8],
+    names: PictureNames<'_>,
+) -> String {
     let (first, _) = Format::Ascii.read(alloc, first).expect(rt, "a text");
     let (second, _) = Format::Ascii.read(alloc, second).expect(rt, "a text");
-    draw_two(alloc, &first, &second).expect(rt, "memory")
+    draw_two(alloc, &first, &second, names).expect(rt, "memory")
 }
 
 /// Cells of only the first set, of only the second, and of both; the diamonds are worked out by hand.
 #[test]
 fn pictures_of_two(rt: HostRuntime) {
     let alloc = rt.alloc();
-    let layers = [
-        ("#0072b2", "M128 254l1 1-1 1-1-1z"),
-        (
-            "#e69f00",
-            "M0 256l64 64-64 64-64-64zM1024 256l64 64-64 64-64-64z",
-        ),
-        ("#000", "M256 128l128 128-128 128-128-128z"),
+    let tones = [
+        "M128 254l1 1-1 1-1-1z",
+        "",
+        "",
+        "",
+        "",
+        "",
+        "",
+        "M0 256l64 64-64 64-64-64zM1024 256l64 64-64 64-64-64z",
+        "",
+        "",
+        "",
+        "M256 128l128 128-128 128-128-128z",
     ];
-    let wanted = picture(&rt, alloc, &layers, LEGEND_OF_TWO);
-    let seen = picture_of_two_texts(&rt, alloc, b"0/5 29/0".as_slice(), b"1/16 20-23".as_slice());
+    let wanted = picture_with_tones(&rt, alloc, tones, ["first only", "second only"]);
+    let names = PictureNames {
+        first: None,
+        second: None,
+    };
+    let first = b"0/5 29/0".as_slice();
+    let seen = picture_of_two_texts(&rt, alloc, first, b"1/16 20-23".as_slice(), names);
+    assert_eq!(&rt; seen.as_str(), wanted.as_str());
+}
+
+/// Quarters of the cells 0 to 6 of order 7: the colour is that of most quarters, and the shade that of all of them. Of
+/// two colours with as many quarters, black comes before orange (cell 1), and orange before blue (cell 2).
+#[test]
+fn pictures_of_mixed_cells(rt: HostRuntime) {
+    let alloc = rt.alloc();
+    let tones = [
+        "",
+        "",
+        "M130 252l1 1-1 1-1-1z",
+        "M128 252l1 1-1 1-1-1zM131 251l1 1-1 1-1-1z",
+        "",
+        "M127 253l1 1-1 1-1-1z",
+        "M128 254l1 1-1 1-1-1z",
+        "",
+        "M129 251l1 1-1 1-1-1z",
+        "",
+        "M129 253l1 1-1 1-1-1z",
+        "",
+    ];
+    let wanted = picture_with_tones(&rt, alloc, tones, ["A", "second only"]);
+    let names = PictureNames {
+        first: Some("A"),
+        second: None,
+    };
+    let first = b"7/5 8/0 4-5 8 12-14 16-17 24".as_slice();
+    let second = b"8/1-2 5-6 9 15 18 20 24".as_slice();
+    let seen = picture_of_two_texts(&rt, alloc, first, second, names);
     assert_eq!(&rt; seen.as_str(), wanted.as_str());
 }
 

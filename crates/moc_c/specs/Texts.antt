@@ -65,7 +65,7 @@ DescribesText d id deepest r =
 
 -- the picture of a set
 abbrev pub DrawsText : Contents → ℕ → Result (List ℕ) CallError → Type 0
-DrawsText d id r = IsNewText (λ x text. text ≡ picture_of x) (λ x e. e ≡ error.Memory) (set_at d id) r
+DrawsText d id r = IsNewText (λ x text. text ≡ picture_of x None) (λ x e. e ≡ error.Memory) (set_at d id) r
 
 -- the text is written and kept, or the call fails
 abbrev pub KeepsNewText : Contents → Contents → (Result (List ℕ) CallError → Type 0) → CallResult → Type 0

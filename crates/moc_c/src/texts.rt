@@ -94,7 +94,7 @@ impl CoverageTable {
         ensures { DrawsText self.now id (bytes_of_text result) }
     {
         let set = self.set(id)?;
-        Ok(draw(alloc, set)?)
+        Ok(draw(alloc, set, None)?)
     }
 
     /// Keeps a new text, and returns its length.

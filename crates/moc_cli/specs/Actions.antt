@@ -58,8 +58,8 @@ ActionEnds (Check choice) source source' sink sink' =
     (IsInputError (FailsParsing choice source source')) sink sink'
 ActionEnds (Describe choice) source source' sink sink' =
     PrintsText (DescribesAll choice source source') (IsInputError (FailsParsing choice source source')) sink sink'
-ActionEnds (Draw choice) source source' sink sink' =
-    PrintsText (DrawsAll choice source source') (IsInputError (IsNotDrawn choice source source')) sink sink'
+ActionEnds (Draw choice names) source source' sink sink' =
+    PrintsText (DrawsAll choice names source source') (IsInputError (IsNotDrawn choice source source')) sink sink'
 ActionEnds (Change change choice) source source' sink sink' =
     PrintsText (ChangesAll change choice source source') (IsInputError (FailsParsing choice source source')) sink sink'
 ActionEnds (Combine operation choice) source source' sink sink' =

@@ -1,5 +1,7 @@
 -- What the program has done when it ends.
 use Rattle.std.specs.Prelude.{◌≡◌, ◌≢◌, ◌⊎◌, ℕ, ◌++◌, Bool, false, List, [], Err, IsTrue}
+use Rattle.std.specs.Prelude.{◌&&◌, codes, drop, length, nat_le, nat_lt, slice_index_or}
+use Rattle.std.specs.List.{list_all}
 use Rattle.moc_devices.specs.Devices.{SourceState, SinkState, Accepts, AcceptsNone}
 use Rattle.clap.specs.Words.{App, Text, takes, fault_of, IsAmong}
 use Rattle.clap.specs.declared.error.kind.ErrorKind.{ErrorKind}
@@ -37,6 +39,15 @@ pub record AreInvalid (arguments : List Text) : Type 0 where
   pub kind : ErrorKind
   pub among : IsAmong kind (fault_of app arguments)
   pub usage_error : IsUsageError kind
+
+-- a name of a coverage: 1 to 40 bytes, all of printable ASCII
+abbrev pub is_name : Text → Bool
+is_name text = nat_lt 0 (length text) && nat_le (length text) 40 && list_all (λ b. nat_le 32 b && nat_lt b 127) text
+
+-- the subcommand is `draw`, and an argument after the format is not a name
+pub record HasInvalidName (arguments : List Text) : Type 0 where
+  pub draws : slice_index_or arguments 0 [] ≡ codes "draw"
+  pub invalid : list_all is_name (drop 2 arguments) ≡ false
 
 -- `clap` rejects the arguments in every case
 pub record AreAlwaysInvalid (arguments : List Text) : Type 0 where

@@ -1,11 +1,13 @@
 -- The action that the command line asks for.
-use Rattle.std.specs.Prelude.{◌≡◌, ℕ, List, codes, Some}
+use Rattle.std.specs.Prelude.{◌≡◌, ℕ, List, Option, Some, codes, option_map}
+use Rattle.std.specs.Borrow.{Bor}
 use Rattle.clap.specs.Words.{App, Row, Text, first_of, one_of, subcommand_of}
 use Rattle.moc_sphere.specs.Names.{Spells}
 use Rattle.moc_forms.specs.Combining.{operation_name}
 use Rattle.moc_forms.specs.Finding.{choice_name}
 use Rattle.moc_forms.specs.Formats.{format_name}
 use Rattle.moc_forms.specs.declared.finding.FormatChoice.{FormatChoice}
+use Rattle.moc_forms.specs.declared.legend.PictureNames.{PictureNames}
 use Rattle.moc_forms.specs.declared.changing.Change.TheVariants.{Degrade, Complement}
 use Rattle.moc_lines.specs.Numberings.{numbering_name}
 use Rattle.moc_script.specs.Crews.{lane_count}
@@ -35,6 +37,15 @@ HasCell values cell = HasNumber (codes "CELL") values cell
 abbrev pub HasChoice : List Row → FormatChoice → Type 0
 HasChoice values choice = HasValue (codes "FORM") values (choice_name choice)
 
+-- the argument with this name has this value, or is left out
+abbrev pub HasOptional : Text → List Row → Option (Bor Text) → Type 0
+HasOptional name values value = first_of name values ≡ option_map (λ text. text.now) value
+
+-- the arguments `FIRST` and `SECOND` are these names
+abbrev pub HasNames : List Row → PictureNames → Type 0
+HasNames values names =
+    HasOptional (codes "FIRST") values names.first × HasOptional (codes "SECOND") values names.second
+
 -- a subcommand with these values asks for an action
 abbrev pub SelectsAction : Text → List Row → Action → Type 0
 SelectsAction name values Run = name ≡ codes "run"
@@ -57,7 +68,8 @@ SelectsAction name values (Convert from to) =
     × HasValue (codes "TO") values (format_name to)
 SelectsAction name values (Check choice) = (name ≡ codes "check") × HasChoice values choice
 SelectsAction name values (Describe choice) = (name ≡ codes "describe") × HasChoice values choice
-SelectsAction name values (Draw choice) = (name ≡ codes "draw") × HasChoice values choice
+SelectsAction name values (Draw choice names) =
+    (name ≡ codes "draw") × HasChoice values choice × HasNames values names
 SelectsAction name values (Change (Degrade order) choice) =
     (name ≡ codes "degrade") × HasOrder values order × HasChoice values choice
 SelectsAction name values (Change Complement choice) = (name ≡ codes "complement") × HasChoice values choice

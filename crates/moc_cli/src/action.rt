@@ -4,12 +4,12 @@ ghost use Rattle.moc_forms.specs.Combining.{operation_name};
 ghost use Rattle.moc_forms.specs.Formats.{format_name};
 ghost use Rattle.moc_lines.specs.Numberings.{numbering_name};
 ghost use Rattle.moc_script.specs.Crews.{lane_count};
-ghost use Rattle.moc_cli.specs.Requests.{HasChoice, HasNumber, HasOrder, HasValue, SelectsAction};
+ghost use Rattle.moc_cli.specs.Requests.{HasChoice, HasNames, HasNumber, HasOrder, HasValue, SelectsAction};
 ghost use Rattle.moc_cli.specs.Private.Matches.{IsRequestedIn, values_of};
 ghost use Rattle.moc_cli.specs.declared.action.Action.TheVariants as action;
 
 use clap::ArgMatches;
-use moc_forms::{Change, Format, FormatChoice, Operation};
+use moc_forms::{Change, Format, FormatChoice, Operation, PictureNames};
 use moc_lines::{Numbering, Renumbering};
 use moc_script::Lanes;
 use moc_sphere::Order;
@@ -17,7 +17,7 @@ use std::str::FromStr;
 
 /// An action of the program.
 #[derive(Clone, Copy)]
-pub enum Action {
+pub enum Action<'a> {
     /// Run a script.
     Run,
     /// Play a schedule.
@@ -34,8 +34,8 @@ pub enum Action {
     Check(FormatChoice),
     /// Print the statistics of a coverage.
     Describe(FormatChoice),
-    /// Draw a coverage.
-    Draw(FormatChoice),
+    /// Draw one coverage or two, with names.
+    Draw(FormatChoice, PictureNames<'a>),
     /// Change a coverage.
     Change(Change, FormatChoice),
     /// Combine coverages.
@@ -59,9 +59,9 @@ pub enum NumberConversion {
     Near(Order, u64),
 }
 
-impl Action {
+impl<'a> Action<'a> {
     /// Returns the action of the matches, or `None` if a subcommand or a value is missing, which `clap` rules out.
-    pub fn from_matches(matches: &ArgMatches<'_>) -> Option<Action>
+    pub fn from_matches(matches: &ArgMatches<'a>) -> Option<Action<'a>>
         ensures { IfSome result (λ action. IsRequestedIn matches.now action) }
     {
         let (name, values) = matches.subcommand()?;
@@ -73,7 +73,7 @@ impl Action {
             "convert" => Some(Action::Convert(format(values, "FROM")?, format(values, "TO")?)),
             "check" => Some(Action::Check(choice(values)?)),
             "describe" => Some(Action::Describe(choice(values)?)),
-            "draw" => Some(Action::Draw(choice(values)?)),
+            "draw" => Some(Action::Draw(choice(values)?, picture_names(values))),
             "degrade" => Some(Action::Change(Change::Degrade(order(values)?), choice(values)?)),
             "complement" => Some(Action::Change(Change::Complement, choice(values)?)),
             "combine" => Some(Action::Combine(operation(values)?, choice(values)?)),
@@ -115,6 +115,16 @@ fn choice(values: &ArgMatches<'_>) -> Option<FormatChoice>
     ensures { IfSome result (λ choice. HasChoice (values_of values.now) choice) }
 {
     FormatChoice::from_str(values.get_str("FORM")?).ok()
+}
+
+/// Returns the names of the coverages of a picture.
+fn picture_names<'a>(values: &ArgMatches<'a>) -> PictureNames<'a>
+    ensures { HasNames (values_of values.now) result }
+{
+    PictureNames {
+        first: values.get_str("FIRST"),
+        second: values.get_str("SECOND"),
+    }
 }
 
 /// Returns the operation on two sets.

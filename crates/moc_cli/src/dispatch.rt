@@ -6,7 +6,7 @@ ghost use Rattle.clap.specs.Words.{kind_of};
 ghost use Rattle.moc_cli.specs.Actions.{ActionEnds};
 ghost use Rattle.moc_cli.specs.Requests.{RequestAction};
 ghost use Rattle.moc_cli.specs.Explanations.{not_utf8_text};
-ghost use Rattle.moc_cli.specs.Endings.{AcceptsSome, AreAlwaysInvalid, AreInvalid};
+ghost use Rattle.moc_cli.specs.Endings.{AcceptsSome, AreAlwaysInvalid, AreInvalid, HasInvalidName};
 ghost use Rattle.moc_cli.specs.Endings.{RequestHelp, BlamesFailed, CanEndWith};
 ghost use Rattle.moc_cli.specs.Endings.{ReportsUsageError, IsUsageError, RunsOutOfMemory, ReportsErrorOf};
 ghost use Rattle.moc_cli.specs.Endings.{WritesUnlessFailed};
@@ -15,7 +15,7 @@ ghost use Rattle.moc_cli.specs.Private.Matches.{AreParsedAs};
 ghost use Rattle.moc_cli.specs.declared.action.Action.{Action};
 
 use crate::execution::execute_matches;
-use crate::explaining::explain;
+use crate::explaining::{explain, has_invalid_name, report_invalid_name};
 use crate::status::{ProgramError, Status, report_result};
 use clap::error::ErrorKind;
 use clap::{ArgMatches, Error};
@@ -48,10 +48,12 @@ pub fn program<'a, T: Threads + Wait + Sync, S: AsStr, R: Source, W: Sink, E: Si
     // The status is one of `Status`.
     ensures status { (status : Status) × (result ≡ code_of status) }
 
-    // 2 is returned only if the command line is invalid. A command line that can only be invalid ends with 2; or with
-    // 3, and then `errors` accepts the text of `Memory`, or a prefix of it if `errors` fails. In both cases nothing is
-    // written to `output`.
-    ensures failure { result ≡ code_of Status.BadCommandLine → AreInvalid (map S.text arguments.entry.now) }
+    // 2 is returned only if `clap` rejects the command line or a name is invalid, and always in the second case. A
+    // command line that can only be invalid ends with 2; or with 3, and then `errors` accepts the text of `Memory`, or
+    // a prefix of it if `errors` fails. In both cases nothing is written to `output`.
+    ensures failure { result ≡ code_of Status.BadCommandLine
+        → AreInvalid (map S.text arguments.entry.now) ⊎ HasInvalidName (map S.text arguments.entry.now) }
+    ensures names { HasInvalidName (map S.text arguments.entry.now) → result ≡ code_of Status.BadCommandLine }
     ensures always_invalid { AreAlwaysInvalid (map S.text arguments.entry.now)
         → (result ≡ code_of Status.BadCommandLine) ⊎ ((result ≡ code_of Status.Failed)
         × RunsOutOfMemory (W.writing output.old) (W.writing output.new)
@@ -80,6 +82,48 @@ pub fn program<'a, T: Threads + Wait + Sync, S: AsStr, R: Source, W: Sink, E: Si
         (E.mark errors.old || E.mark errors.new) (E.writing errors.old) (E.writing errors.new) }
 
     // A failed device ends the program with 3, and at 0 all that was written is flushed.
+    ensures input { IsTrue (R.mark input.new) → result ≡ code_of Status.Failed }
+    ensures output { IsTrue (W.mark output.new) → result ≡ code_of Status.Failed }
+    ensures flushed { result ≡ code_of Status.Success → IsTrue (W.flushed output.new) }
+{
+    if has_invalid_name(arguments) {
+        return report_invalid_name(arguments, errors).code();
+    }
+    parse_and_execute(rt, alloc, arguments, input, output, errors)
+}
+
+/// Executes a command line whose names are valid, with the contract of `program`.
+fn parse_and_execute<'a, T: Threads + Wait + Sync, S: AsStr, R: Source, W: Sink, E: Sink>(
+    rt: &T,
+    alloc: Global,
+    arguments: &'a [S],
+    input: &mut R,
+    output: &mut W,
+    errors: &mut E,
+) -> u8
+    requires input { R.mark input.old ≡ false }
+    requires output { W.mark output.old ≡ false }
+    ensures status { (status : Status) × (result ≡ code_of status) }
+    ensures failure { result ≡ code_of Status.BadCommandLine → AreInvalid (map S.text arguments.entry.now) }
+    ensures always_invalid { AreAlwaysInvalid (map S.text arguments.entry.now)
+        → (result ≡ code_of Status.BadCommandLine) ⊎ ((result ≡ code_of Status.Failed)
+        × RunsOutOfMemory (W.writing output.old) (W.writing output.new)
+        (E.mark errors.old || E.mark errors.new) (E.writing errors.old) (E.writing errors.new)) }
+    ensures no_output { result ≡ code_of Status.BadCommandLine
+        → AcceptsNone (W.writing output.old) (W.writing output.new) }
+    ensures explained { result ≡ code_of Status.BadCommandLine → ReportsUsageError (map S.text arguments.entry.now)
+        (E.mark errors.old || E.mark errors.new) (E.writing errors.old) (E.writing errors.new) }
+    ensures done { result ≡ code_of Status.Success → (RequestHelp (map S.text arguments.entry.now)
+        × AcceptsSome (W.writing output.old) (W.writing output.new))
+        ⊎ ((action : Action) × RequestAction (map S.text arguments.entry.now) action
+        × ActionEnds action
+        (R.reading input.old) (R.reading input.new) (W.writing output.old) (W.writing output.new) (Ok tt)) }
+    ensures silent { result ≡ code_of Status.Success → AcceptsNone (E.writing errors.old) (E.writing errors.new) }
+    ensures reported { IsErrorCode result
+        → ReportsErrorOf result (λ error. BlamesFailed (R.mark input.new) (W.mark output.new) error
+        × CanEndWith (map S.text arguments.entry.now)
+        (R.reading input.old) (R.reading input.new) (W.writing output.old) (W.writing output.new) error)
+        (E.mark errors.old || E.mark errors.new) (E.writing errors.old) (E.writing errors.new) }
     ensures input { IsTrue (R.mark input.new) → result ≡ code_of Status.Failed }
     ensures output { IsTrue (W.mark output.new) → result ≡ code_of Status.Failed }
     ensures flushed { result ≡ code_of Status.Success → IsTrue (W.flushed output.new) }

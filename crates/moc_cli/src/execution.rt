@@ -44,7 +44,7 @@ pub(crate) fn execute_matches<T: Threads + Wait + Sync, R: Source, W: Sink>(
         // `clap` requires the subcommand and its values, so none is missing.
         return Err(ProgramError::Memory);
     };
-    execute(rt, alloc, action, input, output)
+    execute(rt, alloc, &action, input, output)
 }
 
 /// Executes an action.
@@ -52,7 +52,7 @@ pub(crate) fn execute_matches<T: Threads + Wait + Sync, R: Source, W: Sink>(
 fn execute<T: Threads + Wait + Sync, R: Source, W: Sink>(
     rt: &T,
     alloc: Global,
-    action: Action,
+    action: &Action<'_>,
     input: &mut R,
     output: &mut W,
 ) -> Result<(), ProgramError>
@@ -61,11 +61,11 @@ fn execute<T: Threads + Wait + Sync, R: Source, W: Sink>(
     ensures input { IsTrue (R.mark input.new) → status_of_result result ≡ Status.Failed }
     ensures output { IsTrue (W.mark output.new) → status_of_result result ≡ Status.Failed }
     ensures flushed { OnOk result (IsTrue (W.flushed output.new)) }
-    ensures ends { ActionEnds action (R.reading input.old) (R.reading input.new)
+    ensures ends { ActionEnds action.now (R.reading input.old) (R.reading input.new)
         (W.writing output.old) (W.writing output.new) result }
     ensures devices { IfErr result (BlamesFailed (R.mark input.new) (W.mark output.new)) }
 {
-    match action {
+    match *action {
         Action::Run => run_result(run(alloc, input, output)),
         Action::Play => run_result(play(alloc, input, output)),
         Action::Crew(lanes) => run_result(crew(rt, alloc, input, output, lanes, &OpenGate)),
@@ -77,7 +77,9 @@ fn execute<T: Threads + Wait + Sync, R: Source, W: Sink>(
             write_text("ok\n", output)
         }
         Action::Describe(choice) => write_result(describe_input(alloc, choice, input), output),
-        Action::Draw(choice) => write_result(draw_input(alloc, choice, input), output),
+        Action::Draw(choice, names) => {
+            write_result(draw_input(alloc, choice, names, input), output)
+        },
         Action::Change(change, choice) => write_result(
             change_input(alloc, change, choice, input),
             output,

@@ -1,12 +1,13 @@
 //! Help, and reports of an invalid command line.
-ghost use Rattle.std.specs.Prelude.{◌≡◌, ◌≢◌, ◌⊎◌, ◌||◌, [], false, map, string_bytes, true, IfOk, IsTrue, List, ℕ};
+ghost use Rattle.std.specs.Prelude.{◌≡◌, ◌≢◌, ◌⊎◌, ◌||◌, ◌&&◌, [], false, map, nat_le, nat_lt, string_bytes, true};
+ghost use Rattle.std.specs.Prelude.{IfOk, IsTrue, List, ℕ};
 ghost use Rattle.std.specs.Char.{is_control};
-ghost use Rattle.std.specs.List.{list_any};
+ghost use Rattle.std.specs.List.{list_all, list_any};
 ghost use Rattle.std.specs.Str.{chars};
 ghost use Rattle.moc_devices.specs.Devices.{Accepts, AcceptsNone};
 ghost use Rattle.clap.specs.Words.{kind_of};
 ghost use Rattle.moc_cli.specs.Explanations.{IsUsageErrorText, control_text, has_control};
-ghost use Rattle.moc_cli.specs.Endings.{AcceptsSome, ReportsUsageError};
+ghost use Rattle.moc_cli.specs.Endings.{AcceptsSome, HasInvalidName, ReportsUsageError, is_name as is_name_text};
 ghost use Rattle.moc_cli.specs.Endings.{IsUsageError, RunsOutOfMemory, ReportsErrorOf};
 ghost use Rattle.moc_cli.specs.Statuses.{IsErrorCode, code_of};
 
@@ -18,6 +19,12 @@ use moc_command_line::suggest;
 use moc_devices::{Sink, write_all};
 use std::alloc::{AllocError, Global};
 use std::convert::AsStr;
+
+/// The maximal number of bytes of a name.
+const MAX_NAME_BYTES: usize = 40;
+
+/// The text for a command line with a control character.
+const CONTROL_TEXT: &str = "error: a word of the command line has a control character\n";
 
 /// Reports why there are no matches: writes help to the output, and errors to `errors`.
 pub(crate) fn explain<S: AsStr, W: Sink, E: Sink>(
@@ -78,10 +85,7 @@ fn explanation<S: AsStr>(
         → IsUsageErrorText (map S.text arguments.now) (string_bytes text)) }
 {
     if error.use_stderr() && has_control_character(arguments) {
-        return String::from_str(
-            alloc,
-            "error: a word of the command line has a control character\n",
-        );
+        return String::from_str(alloc, CONTROL_TEXT);
     }
     if error.kind() == ErrorKind::InvalidSubcommand
         && let Some(name) = subcommand_name(arguments)
@@ -116,6 +120,72 @@ fn subcommand_name<S: AsStr>(arguments: &[S]) -> Option<&str> {
         [name, ..] => Some(name.as_str()),
         [] => None,
     }
+}
+
+/// Returns whether an argument of `draw` after the format is not a name.
+pub(crate) fn has_invalid_name<S: AsStr>(arguments: &[S]) -> bool
+    ensures invalid { result ≡ true → HasInvalidName (map S.text arguments.now) }
+    ensures valid { HasInvalidName (map S.text arguments.now) → result ≡ true }
+{
+    if arguments.len() <= 2 {
+        return false;
+    }
+    if arguments[0].as_str() != "draw" {
+        return false;
+    }
+    !are_names(&arguments[2..])
+}
+
+/// Returns whether all arguments are names.
+fn are_names<S: AsStr>(arguments: &[S]) -> bool
+    ensures { result ≡ list_all is_name_text (map S.text arguments.now) }
+{
+    for argument in arguments {
+        if !is_name(argument.as_str().as_bytes()) {
+            return false;
+        }
+    }
+    true
+}
+
+/// Returns whether a text is a name.
+fn is_name(text: &[u8]) -> bool
+    ensures { result ≡ is_name_text text.now }
+{
+    !text.is_empty() && text.len() <= MAX_NAME_BYTES && is_printable(text)
+}
+
+/// Returns whether all bytes are printable ASCII.
+fn is_printable(text: &[u8]) -> bool
+    ensures { result ≡ list_all (λ b. nat_le 32 b && nat_lt b 127) text.now }
+{
+    for byte in text {
+        if !(b' '..=b'~').contains(byte) {
+            return false;
+        }
+    }
+    true
+}
+
+/// Reports that an argument is not a name. Does not quote an argument.
+pub(crate) fn report_invalid_name<S: AsStr, E: Sink>(arguments: &[S], errors: &mut E) -> Status
+    ensures status { result ≡ Status.BadCommandLine }
+    ensures explained { ReportsUsageError (map S.text arguments.now)
+        (E.mark errors.old || E.mark errors.new) (E.writing errors.old) (E.writing errors.new) }
+{
+    let _ = write_all(invalid_name_text(arguments).as_bytes(), errors);
+    Status::BadCommandLine
+}
+
+/// Returns the text for an argument that is not a name.
+fn invalid_name_text<S: AsStr>(arguments: &[S]) -> &'static str
+    ensures { IsUsageErrorText (map S.text arguments.now) result.now }
+{
+    if has_control_character(arguments) {
+        return CONTROL_TEXT;
+    }
+    "error: a name is not 1 to 40 bytes of printable ASCII\n\nUsage: moc draw <FORM> [FIRST] [SECOND]\n\n\
+     For more information, try '--help'.\n"
 }
 
 /// Returns whether an argument has a control character.

@@ -4,11 +4,15 @@ use Rattle.std.specs.Borrow.{Bor}
 use Rattle.clap.specs.Words.{App, Rule, Shape, Text, new_rule}
 use Rattle.clap.specs.Simple.{new_shape}
 use Rattle.clap.specs.declared.builder.value_parser.ValueParser.{ValueParser}
-use Rattle.clap.specs.declared.builder.value_parser.ValueParser.TheVariants.{Signed, Unsigned, Names}
+use Rattle.clap.specs.declared.builder.value_parser.ValueParser.TheVariants.{Signed, Unsigned, Names, String}
 
 -- a required argument with this name, whose value the parser accepts
 abbrev pub required_rule : Text → ValueParser → Rule
 required_rule name parser = record (new_rule name) { required = true; parser = Some parser }
+
+-- an argument with this name and any value, which may be left out
+abbrev pub optional_rule : Text → Rule
+optional_rule name = record (new_rule name) { parser = Some String }
 
 -- a required order, 0 to 29
 abbrev pub order_rule : Rule
@@ -55,7 +59,7 @@ subcommand_shapes parsers =
     ∷ subcommand_shape (codes "combine") (required_rule (codes "OP") parsers.operation ∷ choice ∷ [])
     ∷ subcommand_shape (codes "degrade") (order_rule ∷ choice ∷ [])
     ∷ subcommand_shape (codes "complement") (choice ∷ [])
-    ∷ subcommand_shape (codes "draw") (choice ∷ [])
+    ∷ subcommand_shape (codes "draw") (choice ∷ optional_rule (codes "FIRST") ∷ optional_rule (codes "SECOND") ∷ [])
     ∷ subcommand_shape (codes "run") []
     ∷ subcommand_shape (codes "play") []
     ∷ subcommand_shape (codes "crew") (required_rule (codes "N") (Signed (pos 1) (pos 64)) ∷ [])

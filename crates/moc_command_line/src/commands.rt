@@ -11,7 +11,7 @@ use crate::subcommands::{Argument, Subcommand, subcommands};
 use clap::{Arg, Command};
 use std::alloc::{AllocError, Global};
 
-/// Returns the command line of the program for `clap`: one level of subcommands, all arguments positional and required.
+/// Returns the command line of the program for `clap`: one level of subcommands, all arguments positional.
 ///
 /// # Errors
 /// Fails with `AllocError` if an allocation fails.
@@ -57,18 +57,18 @@ fn command<'a>(alloc: Global, word: &Subcommand) -> Result<Command<'a>, AllocErr
         .about(word.about)
         .after_help(word.topic.text());
     for argument in word.arguments {
-        command = command.arg(required_argument(alloc, argument))?;
+        command = command.arg(positional_argument(alloc, argument))?;
     }
     Ok(command)
 }
 
-/// Returns a required argument of a subcommand.
-fn required_argument<'a>(alloc: Global, argument: &Argument) -> Arg<'a>
+/// Returns an argument of a subcommand.
+fn positional_argument<'a>(alloc: Global, argument: &Argument) -> Arg<'a>
     ensures rule { rule_of result ≡ rule_of_argument argument.now }
     ensures local { result.global ≡ false }
 {
     Arg::new(alloc, argument.name)
-        .required(true)
+        .required(argument.required)
         .value_parser(argument.values)
         .help(argument.help)
 }

@@ -250,10 +250,11 @@ writes to standard error
 /// The text of `moc describe --help` below the usage line.
 const STATISTICS: &str = "\
 Prints one line each for the deepest order that the text names, the number of
-pixels (cells of order 29), their share of the sky with twelve digits, the
-number of ranges of pixels, the number of cells, and the number of cells of each
-order. `auto` reads a text that begins with `{` as json, any other text as
-ascii.
+pixels (cells of order 29), their share of the sky, their area in square
+degrees, the number of ranges of pixels, the number of cells, and the number of
+cells of each order. Share and area have twelve digits after the point, or 24 if
+the twelve are all 0. `auto` reads a text that begins with `{` as json, any
+other text as ascii.
 
 Example:
   echo '1/0-3 2/20' | moc describe ascii
@@ -261,6 +262,7 @@ prints
   deepest 2
   pixels 306244774661193728
   share 0.088541666666
+  area 3652.605943958997
   ranges 2
   cells 2
   order 0 1
@@ -337,16 +339,18 @@ const PICTURE: &str = "\
 Prints an SVG picture in the HEALPix projection: north is up and east is left,
 as on sky charts; longitude 0 is at both edges, 180 in the middle. The sky is
 grey, with outlines and numbers of the base pixels. Cells of order 7 and coarser
-are drawn whole; a deeper cell is drawn as its cell of order 7. One coverage has
-four shades, by how much of that cell is covered. Two coverages are separated by
-`;`: blue is in the first only, orange in the second only, black in both. `auto`
-reads a text that begins with `{` as json, any other text as ascii.
+are drawn whole; deeper cells are drawn as their cell of order 7, in one of four
+shades, by how much of it is covered. Two coverages are separated by `;`: blue
+is in the first only, orange in the second only, black in both; a cell that has
+several of them has the colour of the most pixels. FIRST and SECOND are names of
+the coverages in the legend. `auto` reads a text that begins with `{` as json,
+any other text as ascii.
 
 Example:
   echo '1/0-3 2/20' | moc draw ascii > sky.svg
 
 Two coverages:
-  { cat a.moc; echo ';'; cat b.moc; } | moc draw ascii > both.svg";
+  { cat a.moc; echo ';'; cat b.moc; } | moc draw ascii A B > both.svg";
 
 /// The text of `moc renumber --help` below the usage line.
 const RENUMBERING: &str = "\

@@ -13,11 +13,12 @@ pub struct Subcommand {
     pub arguments: &'static [Argument],
 }
 
-/// A required argument of a subcommand.
+/// A positional argument of a subcommand.
 pub struct Argument {
     pub name: &'static str,
     pub help: &'static str,
     pub values: ValueParser<'static>,
+    pub required: bool,
 }
 
 /// Returns the subcommands of the program, in the order of the help.
@@ -68,7 +69,7 @@ static SUBCOMMANDS: [Subcommand; 17] = [
         name: "draw",
         about: "Draws one or two coverages as an SVG picture",
         topic: Topic::Picture,
-        arguments: &[FORMAT],
+        arguments: &[FORMAT, FIRST_NAME, SECOND_NAME],
     },
     Subcommand {
         name: "run",
@@ -137,6 +138,7 @@ const LANES: Argument = Argument {
     name: "N",
     help: "Number of threads, 1 to 64",
     values: ValueParser::Signed(1, 64),
+    required: true,
 };
 
 /// An order.
@@ -144,6 +146,7 @@ const ORDER: Argument = Argument {
     name: "ORDER",
     help: "Order of the cell, 0 to 29; order k has 12 times 4^k cells",
     values: ValueParser::Signed(0, 29),
+    required: true,
 };
 
 /// The order that a coverage is degraded to.
@@ -158,6 +161,7 @@ const CELL: Argument = Argument {
     name: "CELL",
     help: "Number of the cell in the nested scheme, below 12 times 4^ORDER",
     values: NUMBERS,
+    required: true,
 };
 
 /// A ring number.
@@ -165,6 +169,7 @@ const RING: Argument = Argument {
     name: "RING",
     help: "Ring number of the cell, from the north, below 12 times 4^ORDER",
     values: NUMBERS,
+    required: true,
 };
 
 /// A NUNIQ number.
@@ -172,6 +177,7 @@ const UNIQ: Argument = Argument {
     name: "UNIQ",
     help: "NUNIQ number of the cell, which is 4^(ORDER+1) + CELL",
     values: NUMBERS,
+    required: true,
 };
 
 /// An operation on sets.
@@ -179,6 +185,7 @@ const OPERATION: Argument = Argument {
     name: "OP",
     help: "Operator",
     values: ValueParser::Names(&["union", "intersection", "difference", "symmetric"]),
+    required: true,
 };
 
 /// The text format of an input, or `auto`.
@@ -186,6 +193,22 @@ const FORMAT: Argument = Argument {
     name: "FORM",
     help: "Format of a text",
     values: ValueParser::Names(&["ascii", "json", "uniq", "auto"]),
+    required: true,
+};
+
+/// The name of the first coverage of a picture.
+const FIRST_NAME: Argument = Argument {
+    name: "FIRST",
+    help: "Name of the first coverage in the legend, 1 to 40 bytes of ASCII",
+    values: ValueParser::String,
+    required: false,
+};
+
+/// The name of the second coverage of a picture.
+const SECOND_NAME: Argument = Argument {
+    name: "SECOND",
+    help: "Name of the second coverage",
+    ..FIRST_NAME
 };
 
 /// The text format of the input.
@@ -193,6 +216,7 @@ const FROM_FORMAT: Argument = Argument {
     name: "FROM",
     help: "Format of the input",
     values: ValueParser::Names(&["ascii", "json", "uniq"]),
+    required: true,
 };
 
 /// The text format of the output.
@@ -207,6 +231,7 @@ const FROM_NUMBERING: Argument = Argument {
     name: "FROM",
     help: "Numbering of the input",
     values: ValueParser::Names(&["nest", "ring", "uniq"]),
+    required: true,
 };
 
 /// The numbering of the output.

@@ -1,5 +1,6 @@
 -- Coverages of an input: converted, described, drawn, changed, checked.
 use Rattle.std.specs.Prelude.{◌≡◌, ℕ, ◌<◌, ◌≤◌, ◌⊎◌, if◌then◌else◌, List, length, Option, None, Some}
+use Rattle.std.specs.Prelude.{option_map}
 use Rattle.std.specs.List.{after_first, before_first}
 use Rattle.moc_devices.specs.Devices.{SourceState, Delivers, IsEnded}
 use Rattle.moc_forms.specs.Changing.{changed_order, changed_set}
@@ -15,6 +16,7 @@ use Rattle.moc_forms.specs.declared.changing.Change.{Change}
 use Rattle.moc_forms.specs.declared.finding.FormatChoice.{FormatChoice}
 use Rattle.moc_forms.specs.declared.finding.FormatChoice.TheVariants.{Named}
 use Rattle.moc_forms.specs.declared.format.Format.{Format}
+use Rattle.moc_forms.specs.declared.legend.PictureNames.{PictureNames}
 use Rattle.moc_forms.specs.declared.format.FormatError.{FormatError}
 use Rattle.moc_forms.specs.declared.diagnostic.Diagnostic.{Diagnostic}
 use Rattle.moc_conversion.specs.declared.error.InputError.{InputError}
@@ -74,19 +76,20 @@ second_text bytes =
     let following = after_first is_semicolon bytes in
     if are_blanks following then None else Some following
 
--- the picture of the coverage of one text, or of the coverages of two texts
-abbrev pub IsPictureOf : FormatChoice → List ℕ → Option (List ℕ) → List ℕ → Type 0
-IsPictureOf choice first None picture =
-    (parsed : ParsedCoverage) × TextRepresents choice first parsed × (picture ≡ picture_of parsed.set)
-IsPictureOf choice first (Some second) picture =
+-- the picture of the coverage of one text, with the first name, or of the coverages of two texts, with both names
+abbrev pub IsPictureOf : FormatChoice → PictureNames → List ℕ → Option (List ℕ) → List ℕ → Type 0
+IsPictureOf choice names first None picture =
+    (parsed : ParsedCoverage) × TextRepresents choice first parsed
+    × (picture ≡ picture_of parsed.set (option_map (λ name. name.now) names.first))
+IsPictureOf choice names first (Some second) picture =
     (one other : ParsedCoverage) × TextRepresents choice first one × TextRepresents choice second other
-    × (picture ≡ picture_of_two one.set other.set)
+    × (picture ≡ picture_of_two one.set other.set names)
 
 -- the picture of the texts of the input: the bytes before its first semicolon, or all, and the second text
-abbrev pub DrawsAll : FormatChoice → SourceState → SourceState → List ℕ → Type 0
-DrawsAll choice source source' picture =
+abbrev pub DrawsAll : FormatChoice → PictureNames → SourceState → SourceState → List ℕ → Type 0
+DrawsAll choice names source source' picture =
     IsAll input_limit (λ text.
-    IsPictureOf choice (before_first is_semicolon text) (second_text text) picture) source source'
+    IsPictureOf choice names (before_first is_semicolon text) (second_text text) picture) source source'
 
 -- the error is the first one of a text, with the number of the text if texts are counted, its position, a quote, the
 -- order of the cells there, and what else the text looks like

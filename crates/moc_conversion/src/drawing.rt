@@ -10,10 +10,11 @@ use crate::error::InputError;
 use crate::parsing::parse_or_diagnose;
 use crate::reading::{INPUT_LIMIT, read_whole, split_at_semicolon};
 use moc_devices::Source;
-use moc_forms::{FormatChoice, draw, draw_two, is_blank};
+use moc_forms::{FormatChoice, PictureNames, draw, draw_two, is_blank};
 use std::alloc::Global;
 
-/// Returns the picture of the coverage of the input, or of the two coverages that its first semicolon separates.
+/// Returns the picture of the coverage of the input, or of the two coverages that its first semicolon separates, with
+/// names of the coverages. One coverage has the first name, and the second name is not used.
 ///
 /// Requires that no call of the input has failed before. Reads the input to its end.
 ///
@@ -29,33 +30,40 @@ use std::alloc::Global;
 pub fn draw_input<R: Source>(
     alloc: Global,
     choice: FormatChoice,
+    names: PictureNames<'_>,
     input: &mut R,
 ) -> Result<String, InputError>
     requires { R.mark input.old ≡ false }
     ensures read { IsErrOf result InputError.Read ↔ IsTrue (R.mark input.new) }
     ensures error { IfErr result (IsNotDrawn choice (R.reading input.old) (R.reading input.new)) }
-    ensures draws { IfOk result (λ t. DrawsAll choice (R.reading input.old) (R.reading input.new) (string_bytes t)) }
+    ensures draws { IfOk result (λ t.
+        DrawsAll choice names.entry (R.reading input.old) (R.reading input.new) (string_bytes t)) }
 {
     let text = read_whole(alloc, INPUT_LIMIT, input)?;
-    draw_texts(alloc, choice, &text)
+    draw_texts(alloc, choice, names, &text)
 }
 
 /// Returns the picture of one text, or of two. Fails with the first error of the first invalid text.
-fn draw_texts(alloc: Global, choice: FormatChoice, text: &[u8]) -> Result<String, InputError>
+fn draw_texts(
+    alloc: Global,
+    choice: FormatChoice,
+    names: PictureNames<'_>,
+    text: &[u8],
+) -> Result<String, InputError>
     ensures device { IfErr result (λ e. e ≢ InputError.Read) }
     ensures error { IfErr result (λ e. (e ≡ InputError.Memory)
         ⊎ ReportsFirstOfTexts choice (before_first is_semicolon text.now) (second_text text.now) e) }
     ensures picture { IfOk result (λ t.
-        IsPictureOf choice (before_first is_semicolon text.now) (second_text text.now) (string_bytes t)) }
+        IsPictureOf choice names.entry (before_first is_semicolon text.now) (second_text text.now) (string_bytes t)) }
 {
     let (first, second) = picture_texts(text);
     let Some(second) = second else {
         let parsed = parse_or_diagnose(alloc, choice, first, None)?;
-        return Ok(draw(alloc, &parsed.set)?);
+        return Ok(draw(alloc, &parsed.set, names.first)?);
     };
     let one = parse_or_diagnose(alloc, choice, first, Some(1))?;
     let other = parse_or_diagnose(alloc, choice, second, Some(2))?;
-    Ok(draw_two(alloc, &one.set, &other.set)?)
+    Ok(draw_two(alloc, &one.set, &other.set, names)?)
 }
 
 /// Returns the text, or the two texts that its first semicolon separates. Blanks after the semicolon do not count as a

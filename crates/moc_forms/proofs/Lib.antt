@@ -1,6 +1,7 @@
 pub mod Ends
 pub mod Half
 pub mod Orders
-pub mod Partial
+pub mod Mixed
+pub mod LeadingZeros
 pub mod Pieces
 pub mod Ranges

@@ -1,22 +1,34 @@
 //! Statistics of a coverage.
-ghost use Rattle.std.specs.Prelude.{◌≡◌, ◌<◌, IfOk, slice_index, sum};
+ghost use Rattle.std.specs.Prelude.{◌≡◌, ◌++◌, ◌∷◌, ◌<◌, [], IfOk, slice_index, sum};
 ghost use Rattle.std.specs.Fmt.{WritesOnOk};
 ghost use Rattle.std.specs.String.{string_bytes};
 ghost use Rattle.moc_ranges.specs.CellCounts.{uniq_end};
-ghost use Rattle.moc_forms.specs.Describing.{AreStatistics, Describes, moc_order_line, order_line};
-ghost use Rattle.moc_forms.specs.Describing.{order_lines_below, share_line, share_of};
+ghost use Rattle.moc_lists.specs.RangeList.{pixel_count};
+ghost use Rattle.moc_forms.specs.Describing.{AreStatistics, Describes, area_line, decimal_fraction, moc_order_line};
+ghost use Rattle.moc_forms.specs.Describing.{order_line, order_lines_below, part_of, share_line, share_of};
+ghost use Rattle.moc_forms.specs.Describing.{sky_area};
 
 use moc_ranges::{Coverage, Memory, PIXEL_COUNT};
 use moc_sphere::Order;
 use std::alloc::Global;
 use std::fmt;
 
-/// The denominator of the share of the sky: 10^12.
-const SHARE_DENOMINATOR: u64 = 1_000_000_000_000;
+/// The whole sky in parts of 10^12.
+const SKY: u64 = 1_000_000_000_000;
+
+/// The whole sky in parts of 10^24.
+const FINE_SKY: u128 = 1_000_000_000_000_000_000_000_000;
+
+/// The area of the sky, 129600/π square degrees, in units of 10^-12 square degrees.
+const SKY_AREA: u64 = 41_252_961_249_419_271;
+
+/// The area of the sky in units of 10^-24 square degrees.
+const FINE_SKY_AREA: u128 = 41_252_961_249_419_271_031_294_671_466;
 
 /// The statistics of a coverage. `Display` writes them one a line. The first lines are the MOC order that its text
-/// states, or `none`, the number of pixels of order 29, and their share of the sky, truncated to twelve digits. Then
-/// come the number of ranges, the number of cells, and the number of cells of each order that has any.
+/// states, or `none`, the number of pixels of order 29, their share of the sky, and their area in square degrees. Share
+/// and area are truncated to twelve digits after the point; if these are all zero and there is a pixel, to 24 digits.
+/// Then come the number of ranges, the number of cells, and the number of cells of each order that has any.
 #[derive(Clone, Copy, Debug, PartialEq, Eq)]
 pub struct Statistics {
     moc_order: Option<Order>,
@@ -82,10 +94,25 @@ impl Statistics {
     pub fn share(&self) -> u64
         ensures { result ≡ share_of self.now.pixels }
     {
-        let parts = u128::from(self.pixels) * u128::from(SHARE_DENOMINATOR)
-            / u128::from(PIXEL_COUNT);
-        parts as u64
+        part(self.pixels, SKY)
     }
+
+    /// Returns the area in units of 10^-12 square degrees, rounded down: 41252961249419271 for the whole sky. O(1);
+    /// allocates nothing.
+    pub fn area(&self) -> u64
+        ensures { result ≡ part_of sky_area self.now.pixels }
+    {
+        part(self.pixels, SKY_AREA)
+    }
+}
+
+/// Returns the part of a quantity of the whole sky that belongs to a number of pixels.
+fn part(pixels: u64, whole: u64) -> u64
+    requires { whole < pixel_count }
+    ensures { result ≡ part_of whole pixels }
+{
+    let parts = u128::from(pixels) * u128::from(whole) / u128::from(PIXEL_COUNT);
+    parts as u64
 }
 
 impl fmt::Display for Statistics {
@@ -97,7 +124,7 @@ impl fmt::Display for Statistics {
     fn fmt<W: fmt::Write>(&self, f: &mut fmt::Formatter<W>) -> fmt::Result {
         write_moc_order(f, self.moc_order)?;
         writeln!(f, "pixels {}", self.pixels)?;
-        write_share(f, self.share())?;
+        write_sky(f, self.pixels)?;
         writeln!(f, "ranges {}", self.ranges)?;
         writeln!(f, "cells {}", self.cells)?;
         write_orders(f, &self.orders)
@@ -117,16 +144,50 @@ fn write_moc_order<W: fmt::Write>(
     }
 }
 
-/// Writes the line of a share of the sky, given in parts of 10^12.
-fn write_share<W: fmt::Write>(f: &mut fmt::Formatter<W>, parts: u64) -> fmt::Result
-    ensures { WritesOnOk W.write_str_gives f.old result (share_line parts) f.new }
+/// Writes the lines of the share of the sky and of the area of a number of pixels.
+fn write_sky<W: fmt::Write>(f: &mut fmt::Formatter<W>, pixels: u64) -> fmt::Result
+    ensures { WritesOnOk W.write_str_gives f.old result (share_line pixels ++ area_line pixels) f.new }
 {
-    writeln!(
-        f,
-        "share {}.{:012}",
-        parts / SHARE_DENOMINATOR,
-        parts % SHARE_DENOMINATOR
-    )
+    write_share(f, pixels)?;
+    write_area(f, pixels)
+}
+
+/// Writes the line of the share of the sky of a number of pixels.
+fn write_share<W: fmt::Write>(f: &mut fmt::Formatter<W>, pixels: u64) -> fmt::Result
+    ensures { WritesOnOk W.write_str_gives f.old result (share_line pixels) f.new }
+{
+    let parts = part(pixels, SKY);
+    if parts == 0 && pixels > 0 {
+        let fine = u128::from(pixels) * FINE_SKY / u128::from(PIXEL_COUNT);
+        return write_fine(f, "share ", fine);
+    }
+    write_parts(f, "share ", parts)
+}
+
+/// Writes the line of the area of a number of pixels.
+fn write_area<W: fmt::Write>(f: &mut fmt::Formatter<W>, pixels: u64) -> fmt::Result
+    ensures { WritesOnOk W.write_str_gives f.old result (area_line pixels) f.new }
+{
+    let parts = part(pixels, SKY_AREA);
+    if parts == 0 && pixels > 0 {
+        let fine = u128::from(pixels) * FINE_SKY_AREA / u128::from(PIXEL_COUNT);
+        return write_fine(f, "area ", fine);
+    }
+    write_parts(f, "area ", parts)
+}
+
+/// Writes a line with a word and a number of parts of 10^12.
+fn write_parts<W: fmt::Write>(f: &mut fmt::Formatter<W>, word: &str, parts: u64) -> fmt::Result
+    ensures { WritesOnOk W.write_str_gives f.old result (word.now ++ decimal_fraction 12 parts ++ 10 ∷ []) f.new }
+{
+    writeln!(f, "{word}{}.{:012}", parts / SKY, parts % SKY)
+}
+
+/// Writes a line with a word and a number of parts of 10^24.
+fn write_fine<W: fmt::Write>(f: &mut fmt::Formatter<W>, word: &str, parts: u128) -> fmt::Result
+    ensures { WritesOnOk W.write_str_gives f.old result (word.now ++ decimal_fraction 24 parts ++ 10 ∷ []) f.new }
+{
+    writeln!(f, "{word}{}.{:024}", parts / FINE_SKY, parts % FINE_SKY)
 }
 
 /// Writes a line for each order that has cells.

@@ -68,7 +68,8 @@ fn expect_report(rt: &impl Abort, alloc: Global, call: InputCall, text: &str, re
 fn texts_of_inputs(rt: HostRuntime) {
     let choice = FormatChoice::Named(Format::Ascii);
     let statistics =
-        "deepest 1\npixels 72057594037927936\nshare 0.020833333333\nranges 1\ncells 1\norder 1 1\n";
+        "deepest 1\npixels 72057594037927936\nshare 0.020833333333\narea 859.436692696234\n\
+         ranges 1\ncells 1\norder 1 1\n";
     for (call, text, output) in [
         (
             InputCall::Convert(Format::Ascii, Format::Json),

@@ -14,14 +14,19 @@ fn picture<T: Abort + Threads + Wait + Sync>(
     format: &str,
     input: &str,
 ) -> Vec<u8> {
-    let program_end = run_program(
-        rt,
-        alloc,
-        &["draw", format],
-        &mut OverReader::new(input.as_bytes()),
-    );
-    assert_eq!(rt; program_end.status, 0, "{format}");
-    assert!(rt; program_end.error_output.is_empty(), "{format}");
+    picture_with(rt, alloc, &["draw", format], input)
+}
+
+/// Returns the picture of a text with these arguments.
+fn picture_with<T: Abort + Threads + Wait + Sync>(
+    rt: &T,
+    alloc: Global,
+    arguments: &[&str],
+    input: &str,
+) -> Vec<u8> {
+    let program_end = run_program(rt, alloc, arguments, &mut OverReader::new(input.as_bytes()));
+    assert_eq!(rt; program_end.status, 0, "{arguments:?}");
+    assert!(rt; program_end.error_output.is_empty(), "{arguments:?}");
     program_end.written
 }
 
@@ -61,4 +66,46 @@ fn pictures_of_two(rt: HostRuntime) {
     let report = "fault BadByte\ntext 2, byte 3, line 1, byte 3 of it: `0/1;0/2`\n\
         words look like 3/, 10, 12-14 or 3/10\n";
     expect(&rt, rt.alloc(), &arguments, "0/0;0/1;0/2", 1, "", report);
+}
+
+/// A name replaces the default text of the legend, and an invalid name is an invalid command line.
+#[test]
+fn pictures_with_names(rt: HostRuntime) {
+    let texts = "0/0;0/1";
+    let none = picture(&rt, rt.alloc(), "ascii", texts);
+    let same = picture_with(
+        &rt,
+        rt.alloc(),
+        &["draw", "ascii", "first only", "second only"],
+        texts,
+    );
+    let named = picture_with(
+        &rt,
+        rt.alloc(),
+        &["draw", "ascii", "A", "second only"],
+        texts,
+    );
+    assert_eq!(rt; same.as_slice(), none.as_slice());
+    assert_eq!(rt; named.len() + 9, none.len());
+    let report = "error: a name is not 1 to 40 bytes of printable ASCII\n\n\
+                  Usage: moc draw <FORM> [FIRST] [SECOND]\n\nFor more information, try '--help'.\n";
+    expect(
+        &rt,
+        rt.alloc(),
+        &["draw", "ascii", "A", ""],
+        texts,
+        2,
+        "",
+        report,
+    );
+    let control = "error: a word of the command line has a control character\n";
+    expect(
+        &rt,
+        rt.alloc(),
+        &["draw", "ascii", "\t", "B"],
+        texts,
+        2,
+        "",
+        control,
+    );
 }

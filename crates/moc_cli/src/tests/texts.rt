@@ -142,7 +142,8 @@ fn hints_of_checks(rt: HostRuntime) {
 #[test]
 fn statistics(rt: HostRuntime) {
     let lines =
-        "deepest 2\npixels 306244774661193728\nshare 0.088541666666\nranges 2\ncells 2\norder 0 1\norder 2 1\n";
+        "deepest 2\npixels 306244774661193728\nshare 0.088541666666\narea 3652.605943958997\n\
+         ranges 2\ncells 2\norder 0 1\norder 2 1\n";
     for (arguments, input) in [
         (["describe", "ascii"], "1/0-3 2/20"),
         (["describe", "json"], "{\"0\":[0],\"2\":[20]}"),

@@ -8,7 +8,7 @@ use Rattle.moc_command_line.specs.declared.subcommands.Subcommand.{Subcommand}
 
 -- the rule of an argument
 abbrev pub rule_of_argument : Argument → Rule
-rule_of_argument a = required_rule a.name.now a.values
+rule_of_argument a = record (required_rule a.name.now a.values) { required = a.required }
 
 -- a subcommand with this name and these arguments
 abbrev pub app_with : Text → List Argument → App

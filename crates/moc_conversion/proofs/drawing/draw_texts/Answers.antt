@@ -48,7 +48,7 @@ returns-in_err-parsed-clause-error c =
 
 pub returns-in_default-clause-picture : goal.returns-in_default-clause-picture
 returns-in_default-clause-picture c =
-    of_texts (λ x y. IsPictureOf c.args.choice x y (string_bytes c.in_ok-draw.field-0)) c.args.text.now c.picture_texts.result.0.now None c.picture_texts.result.1
+    of_texts (λ x y. IsPictureOf c.args.choice c.args.names x y (string_bytes c.in_ok-draw.field-0)) c.args.text.now c.picture_texts.result.0.now None c.picture_texts.result.1
     c.picture_texts.ensures.first c.picture_texts.ensures.second (ap bytes_of c.in_default.is)
     (c.in_ok-parsed.parsed, c.in_ok-parsed.ensures.represents, c.in_ok-draw.ensures)
 
@@ -71,7 +71,7 @@ returns-in_err-other-clause-error c =
 
 pub returns-clause-picture : goal.returns-clause-picture
 returns-clause-picture c =
-    of_texts (λ x y. IsPictureOf c.args.choice x y (string_bytes c.in_ok-draw_two.field-0)) c.args.text.now c.picture_texts.result.0.now (Some c.in-Some.second.now) c.picture_texts.result.1
+    of_texts (λ x y. IsPictureOf c.args.choice c.args.names x y (string_bytes c.in_ok-draw_two.field-0)) c.args.text.now c.picture_texts.result.0.now (Some c.in-Some.second.now) c.picture_texts.result.1
     c.picture_texts.ensures.first c.picture_texts.ensures.second (ap bytes_of c.in-Some.is) (
       c.in_ok-one.one,
       c.in_ok-other.other,
