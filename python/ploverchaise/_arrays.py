@@ -187,6 +187,16 @@ def _first_outside(numbers: list[SupportsIndex], start: int = 0) -> tuple[int, .
     return next((pair for pair in values if not 0 <= pair[1] < INVALID_NUMBER), ())
 
 
+def _array_of(numbers: list[Any], start: int = 0) -> tuple[array[int], tuple[int, ...]]:
+    """Returns numbers as an array, and what `_first_outside` returns for them. Raises TypeError if a number is not an integer."""
+    try:
+        elements = array("Q", numbers)
+    except OverflowError:
+        elements = array("Q", map(_to_uint64, numbers))
+    # A search of bytes takes a fifth of the time of a search of numbers.
+    return elements, _first_outside(numbers, start) if _INVALID_BYTES in elements.tobytes() else ()
+
+
 def _flatten_pairs(pairs: Iterable[Any]) -> Iterator[SupportsIndex]:
     """Returns an iterator over the numbers of pairs. Raises ValueError or TypeError, with its position, for an item that is not a pair."""
     for position, pair in enumerate(pairs):
@@ -221,24 +231,17 @@ class PlainInput(Input):
     def of(cls, numbers: Any, width: int = 1) -> PlainInput:
         """Returns an int or the ints of an iterable. Raises TypeError if a number is not an integer."""
         if not hasattr(numbers, "__iter__"):
-            return cls(array("Q", [_to_uint64(numbers)]), True, outside=_first_outside([numbers]))
+            number = _to_uint64(numbers)
+            return cls(array("Q", [number]), True, outside=_first_outside([numbers]) if number == INVALID_NUMBER else ())
+        if type(numbers) is list and len(numbers) <= PIECE_LENGTH:
+            whole, first = _array_of(numbers)
+            return cls(whole, width=width, outside=first)
         elements, iterator = array("Q"), iter(numbers)
         outside: tuple[int, ...] = ()
-        is_last = False
-        while not is_last:
-            piece: Any = list(islice(iterator, PIECE_LENGTH))
-            is_last = len(piece) < PIECE_LENGTH
-            try:
-                part = array("Q", piece)
-            except OverflowError:
-                part = array("Q", map(_to_uint64, piece))
-            # A search of bytes takes a fifth of the time of a search of numbers.
-            if not outside and _INVALID_BYTES in part.tobytes():
-                outside = _first_outside(piece, len(elements))
-            if elements:
-                elements += part
-            else:
-                elements = part
+        while piece := list(islice(iterator, PIECE_LENGTH)):
+            part, first = _array_of(piece, len(elements))
+            elements += part
+            outside = outside or first
         return cls(elements, width=width, outside=outside)
 
     def __len__(self) -> int:

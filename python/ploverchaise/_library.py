@@ -134,7 +134,7 @@ def open_store(range_bound: int | None = None) -> StoreHandle:
     """Returns a new store. Its calls are brief if its coverages have few ranges together.
 
     Raises MemoryError if an allocation fails."""
-    store = StoreHandle() if range_bound is None else new_handle(range_bound)
+    store = BriefStoreHandle() if range_bound is not None and range_bound <= MAX_BRIEF_RANGES else StoreHandle()
     if not _store_open(store):
         raise MemoryError("no memory is left for a coverage")
     return store
