@@ -173,8 +173,8 @@ DEFECTS = [
            "            raise errors[min(errors)]", "            raise errors[max(errors)]", "package"),
     Defect("pickles_always_have_ranges", "", "python/ploverchaise/moc.py",
            "has_few_cells = sum(self.cell_count_by_order()) < 2 * self.range_count()", "has_few_cells = False", "package"),
-    Defect("several_numbers_on_a_line_have_no_hint", "", "python/ploverchaise/_diagnostics.py",
-           'return _EXPECTED_NUMBERS if _SEVERAL_NUMBERS.fullmatch(line) else ""', 'return ""', "package"),
+    Defect("errors_do_not_state_what_is_expected", "", "python/ploverchaise/_diagnostics.py",
+           'return _EXPECTED.get((format, error.name), "")', 'return ""', "package"),
     # the part of the library for C that is not proved
     Defect("forked_child_keeps_the_locks", "moc_c", "c/handles.c",
            "pthread_atfork(before_fork, after_fork, after_fork_in_child)", "pthread_atfork(before_fork, after_fork, NULL)", "library"),
