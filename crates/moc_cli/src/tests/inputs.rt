@@ -4,7 +4,7 @@ use moc_conversion::{
     draw_input, report_error,
 };
 use moc_devices::{OverReader, OverWriter};
-use moc_forms::{Change, Format, FormatChoice, Operation};
+use moc_forms::{Change, Format, FormatChoice, Operation, PictureNames};
 use moc_sphere::Order;
 use std::alloc::Global;
 use std::io::{self, Read};
@@ -12,6 +12,12 @@ use std::process::Abort;
 
 /// The maximal number of bytes of a text that is converted.
 const CONVERSION_LIMIT: usize = 16_777_216;
+
+/// A picture without names.
+const NO_NAMES: PictureNames<'static> = PictureNames {
+    first: None,
+    second: None,
+};
 
 /// The call that processes an input.
 #[derive(Clone, Copy)]
@@ -35,7 +41,7 @@ impl InputCall {
                 Err(error) => Err(error),
             },
             InputCall::Describe(choice) => describe_input(alloc, choice, input),
-            InputCall::Draw(choice) => draw_input(alloc, choice, input),
+            InputCall::Draw(choice) => draw_input(alloc, choice, NO_NAMES, input),
             InputCall::Change(change) => change_input(alloc, change, FormatChoice::Auto, input),
             InputCall::Combine(operation) => combine_input(
                 alloc,
