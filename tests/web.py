@@ -4,10 +4,13 @@
 usage: tests/web.py
 
 The C files run on Linux under the address and undefined-behaviour sanitizers, and without them. The heap meets a memory that grows, one
-that is soon full, and one that cannot grow. The last line printed is `N passed, M failed`."""
+that is soon full, and one that cannot grow. Then the toolchain compiles the C files for WebAssembly, and node runs the module after it got
+32-bit addresses. If node or the toolchain is not installed, the script reports this, and leaves its tests out. The last line printed is
+`N passed, M failed`."""
 from __future__ import annotations
 
 import os
+import shutil
 import subprocess
 import sys
 import tempfile
@@ -24,6 +27,12 @@ HEAP_BASE = "extern byte __heap_base;\n"
 # The maximal numbers of pages of 64 KiB.
 PAGE_LIMITS = (20_000, 400, 40, 3)
 STEPS = 100_000
+# How the toolchain compiles and links the C files. The module may have 4 MiB of memory.
+WASM_OPTIONS = ["--no-default-config", "--target=wasm64-unknown-unknown", "-mcpu=lime1", "-O3", "-fwrapv", "-ffreestanding", "-nostdinc",
+                "-Wall", "-Wextra", "-Werror", "-c"]
+LINK_OPTIONS = ["-flavor", "wasm", "-mwasm64", "--no-entry", "--stack-first", "-z", "stack-size=65536", f"--max-memory={4 * 2**20}",
+                "--gc-sections", "--strip-all"]
+EXPORTS = ["rattle_alloc", "rattle_realloc", "rattle_dealloc", "__multi3", "__ashlti3", "__lshrti3", "__ashrti3"]
 
 
 def compile_test(name: str, folder: str, options: list[str]) -> str | None:
@@ -57,11 +66,45 @@ def test_c_files(tally: Tally, folder: str) -> None:
         run_test(tally, numbers)
 
 
+def toolchain() -> str | None:
+    """Returns the folder of the programs of the toolchain, or None if it is not installed."""
+    if shutil.which("rt") is None:
+        return None
+    page = subprocess.run(["rt", "doc"], check=True, stdout=subprocess.PIPE, text=True).stdout.strip()
+    return os.path.join(os.path.dirname(page), "toolchain", "bin")
+
+
+def make_module(programs: str, folder: str) -> str | None:
+    """Returns the path of the module of the C files with 32-bit addresses, or None if a command fails."""
+    objects, wide, module = [], os.path.join(folder, "wide.wasm"), os.path.join(folder, "module.wasm")
+    commands = []
+    for name in ("heap", "wide_numbers"):
+        objects.append(os.path.join(folder, f"{name}.o"))
+        commands.append([os.path.join(programs, "clang"), *WASM_OPTIONS, os.path.join(WEB, f"{name}.c"), "-o", objects[-1]])
+    commands += [[os.path.join(programs, "ld.lld"), *LINK_OPTIONS, *(f"--export={name}" for name in EXPORTS), "-o", wide, *objects],
+                 [sys.executable, os.path.join(WEB, "lower.py"), wide, module]]
+    return module if all(subprocess.run(command).returncode == 0 for command in commands) else None
+
+
+def test_module(tally: Tally, folder: str) -> None:
+    """Runs the module of the C files in node."""
+    programs = toolchain()
+    if programs is None or shutil.which("node") is None:
+        print("the toolchain or node is not installed: the module is not tested")
+        return
+    module = make_module(programs, folder)
+    if tally.check(module is not None, "the module is made") and module is not None:
+        command = ["node", os.path.join(WEB, "tests", "module_test.mjs"), module]
+        result = subprocess.run(command, timeout=TIME_LIMIT, stdout=subprocess.PIPE, text=True)
+        tally.add_summary("module_test.mjs", result.returncode, result.stdout)
+
+
 def main() -> int:
     """Runs all tests."""
     tally = Tally()
     with tempfile.TemporaryDirectory() as folder:
         test_c_files(tally, folder)
+        test_module(tally, folder)
     lower_test = os.path.join(WEB, "tests", "lower_test.py")
     result = subprocess.run([sys.executable, lower_test], timeout=TIME_LIMIT, stdout=subprocess.PIPE, text=True)
     tally.add_summary("lower_test.py", result.returncode, result.stdout)
