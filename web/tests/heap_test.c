@@ -4,8 +4,8 @@
 //
 // LIMIT is the maximal number of pages. Each block is filled with a byte that a table has, and must keep it. After some steps, and at the
 // end, the blocks must fill the memory, the sizes before each block must be right, no two free blocks may be neighbours, and the lists must
-// have exactly the free blocks. If an allocation fails, there may be no free block that surely suffices. At the end all blocks are freed,
-// and one free block must be left.
+// have exactly the free blocks. If an allocation fails, no free block may be surely large enough, and the memory must be near its limit. At
+// the end all blocks are freed, and one free block must be left.
 #include <stdint.h>
 #include <stdio.h>
 #include <stdlib.h>
@@ -102,10 +102,13 @@ static unsigned long check_blocks(void) {
     return largest;
 }
 
-// Checks that no free block surely suffices for an allocation that failed.
+// Checks that an allocation failed for a reason.
 static void check_failure(Allocation result, unsigned long size) {
     require(result.address != 0, "the address of a failed allocation is not null");
-    require(size > MAX_SIZE || check_blocks() < size + size / 8 + 16, "an allocation fails only if memory is out");
+    if (size > MAX_SIZE)
+        return;
+    require(check_blocks() < size + size / 8 + 16, "an allocation fails only if no block is large enough");
+    require(page_count + (size + size / 8) / WASM_PAGE + 2 > page_limit, "an allocation fails only if the memory cannot grow");
 }
 
 static void fill(Slot *slot, unsigned long size) {
