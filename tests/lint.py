@@ -27,7 +27,7 @@ MORE_OPTIONS = {"examples": ["--allow-untyped-calls"]}
 # some modules of different folders have the same names.
 PYTHON_FOLDERS: list[tuple[str, list[str]]] = [
     ("tests", ["tools"]), ("tests/package", ["python"]), ("tools", []), ("bench", ["python"]), ("examples", ["python"]),
-    ("python/ploverchaise", [])]
+    ("web", []), ("web/tests", ["tests", "web"]), ("python/ploverchaise", [])]
 
 
 def check_command(tally: Tally, name: str, command: list[str], folder: str = TOP, environment: dict[str, str] | None = None) -> None:

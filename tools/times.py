@@ -29,7 +29,8 @@ STEPS = {
     "first-command": "the first command", "library-build": "`./moc library`", "try": "`./moc try`", "mutants": "`tests/mutants.py`",
     **{name: f"`tests/{name}.py --of-the-day`" for name in ("plants", "always_failing")},
     **{name: f"`tests/{name}.py`" for name in (
-        "definitions", "reference", "texts", "language", "lint", "program", "crews", "bench", "library", "python", "pages", "install")}}
+        "definitions", "reference", "texts", "language", "lint", "program", "crews", "bench", "web", "library", "python", "pages",
+        "install")}}
 STEP_COLUMNS = ("Step", "Elapsed time", "Processor time")
 CRATE_COLUMNS = ("Crate", "Proved after, in `rt ci`", "Its tests proved after", "Check in the first command")
 # A line of a log with a time, and a report of the first command.
