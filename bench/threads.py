@@ -99,7 +99,7 @@ def ready_time() -> float:
 
 def measure(calls: list[Callable[[], object]], count: int) -> Round:
     """Makes a round with this number of threads."""
-    barrier, rates, ready = threading.Barrier(count), [0.0] * count, [0.0] * count
+    barrier, rates, ready = threading.Barrier(count, timeout=600), [0.0] * count, [0.0] * count
 
     def work(number: int) -> None:
         call, made = calls[number], 0

@@ -663,7 +663,7 @@ def check_answers_without_memory(failing: FailingAllocations) -> None:
 
 
 def check_errors_without_memory(failing: FailingAllocations) -> None:
-    """Checks subcommands that write everything or nothing, while allocations fail: crews, help, and the two lines of an error."""
+    """Checks subcommands that write everything or nothing, while allocations fail: crews, help, and the lines of an error."""
     failing.check_failure("crew", ["crew", "2"], CREW_SCRIPT, (0, CREW_ANSWERS, b""), {OUT_OF_MEMORY, NO_THREAD}, OUT_OF_MEMORY)
     error = (1, b"", b"fault CellTooLarge\norder 2, number 1: `192`" + cells(2) + b"\n")
     for subcommand in ["check", "describe", "draw", "complement"]:

@@ -303,7 +303,7 @@ def check_times() -> Iterator[Check]:
     yield f"{times.PAGE}: the tables of times have the form of tools/times.py; wrong: {wrong}", not wrong
     report = "moc: 7 functions checked, 9% of the time"
     logs = [f"{report}, 0:10: moc_text, moc_ranges (reading its libraries)\n{report}, 2:00: moc_text\ntime: python 70.04 60.5 0.25\n"
-            "time: moc_text 3000\ntime: tests-of-map_tests 61\ntime: whole 5400 12m0.500s 1m0.000s\n",
+            "time: moc_text 3000\ntime: tests-of-map_tests 61\ntime: whole 5400 12m0,500s 1m0,000s\n",
             "time: python 600.2 1m2.3s 0m0.000s\ntime: moc_text 3600\n"]
     made = times.page_with(page, times.cells_of(logs))
     for row in ("| `.ci/run`, whole | 90 min | 13 min |", "| `tests/python.py` | 70 s to 10 min | 61 to 62 s |", "| `tests/pages.py` | | |",
@@ -313,7 +313,11 @@ def check_times() -> Iterator[Check]:
     yield "tools/times.py keeps the times of the page without logs", made == times.page_with(made)
     for old, new in (("| 90 min |", "| about 90 min |"), ("| `rt ci` |", "| rt ci |"), ("Elapsed time |", "Time |"),
                      ("<!-- end of times -->", "")):
-        yield f"{new!r} in place of {old!r} is found as a wrong form", len(times.failures(made.replace(old, new))) == 1
+        yield f"{new!r} in place of {old!r} is found as a wrong form", len(times.failures(made.replace(old, new, 1))) == 1
+    passed = "time: whole 5400 12m0.500s 1m0.000s\n3 passed, 0 failed\n"
+    for log, is_whole in ((passed, True), (f"rt: moc_text is kept: an earlier run on this machine proved it\n{passed}", False),
+                          (passed.replace("0 failed", "1 failed"), False), ("3 passed, 0 failed\n", False)):
+        yield f"tools/times.py knows whether a run was whole: {log!r}", times.is_whole(log) is is_whole
 
 
 def check_versions() -> Iterator[Check]:

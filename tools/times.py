@@ -34,7 +34,7 @@ STEPS = {
 STEP_COLUMNS = ("Step", "Elapsed time", "Processor time")
 CRATE_COLUMNS = ("Crate", "Proved after, in `rt ci`", "Its tests proved after", "Check in the first command")
 # A line of a log with a time, and a report of the first command.
-TIME_LINE = re.compile(r"^time: (\S+) ([\d.]+)(?: (\S+) (\S+))?$", re.MULTILINE)
+TIME_LINE = re.compile(r"^time: (\S+) ([\d.,]+)(?: (\S+) (\S+))?$", re.MULTILINE)
 PROGRESS_LINE = re.compile(r"^moc: \d+ functions checked, \d+% of the time, (\d+):(\d\d): (.*)$", re.MULTILINE)
 # The seconds between two reports of the first command.
 PROGRESS_INTERVAL = 10
@@ -61,6 +61,11 @@ class Table(NamedTuple):
         """Returns the lines before and after the table."""
         return f"<!-- times of {self.name}, written by tools/times.py -->\n", "<!-- end of times -->\n"
 
+    def is_marked(self, page: str) -> bool:
+        """Returns whether the table is between its markers, before another table."""
+        start, end = self.markers()
+        return page.count(start) == 1 and end in page.partition(start)[2].partition("<!-- times of")[0]
+
     def cells_of(self, page: str) -> dict[tuple[str, str], str]:
         """Returns the cells of the page, by column and text of the row."""
         start, end = self.markers()
@@ -82,8 +87,8 @@ def tables() -> list[Table]:
 
 
 def seconds_of(time: str) -> float:
-    """Returns the seconds of a time such as `3.5` or `12m3.500s`."""
-    minutes, _, seconds = time.rpartition("m")
+    """Returns the seconds of a time such as `3.5`, or `12m3,500s` in a locale with a decimal comma."""
+    minutes, _, seconds = time.replace(",", ".").rpartition("m")
     return 60 * float(minutes or 0) + float(seconds.removesuffix("s"))
 
 
@@ -130,10 +135,10 @@ def times_of(logs: Iterable[str]) -> Times:
     for log in logs:
         for name, elapsed, user, system in TIME_LINE.findall(log):
             if user:
-                add(STEP_COLUMNS[1], name, float(elapsed))
+                add(STEP_COLUMNS[1], name, seconds_of(elapsed))
                 add(STEP_COLUMNS[2], name, seconds_of(user) + seconds_of(system))
             else:
-                add(CRATE_COLUMNS[1 + name.startswith(TESTS)], name.removeprefix(TESTS), float(elapsed))
+                add(CRATE_COLUMNS[1 + name.startswith(TESTS)], name.removeprefix(TESTS), seconds_of(elapsed))
         for name, seconds in check_times(log).items():
             add(CRATE_COLUMNS[3], name, seconds)
     return times
@@ -148,6 +153,8 @@ def page_with(page: str, cells: dict[tuple[str, str], str] | None = None) -> str
     """Returns the page with these cells in its tables, or with its own cells."""
     for table in tables():
         start, end = table.markers()
+        if not table.is_marked(page):
+            raise SystemExit(f"{PAGE}: the table of {table.name} is not between its markers")
         before, _, rest = page.partition(start)
         _, _, after = rest.partition(end)
         page = f"{before}{start}{table.text(table.cells_of(page) if cells is None else cells)}{end}{after}"
@@ -157,12 +164,17 @@ def page_with(page: str, cells: dict[tuple[str, str], str] | None = None) -> str
 def failures(page: str) -> list[str]:
     """Returns what is wrong with the form of the tables of the page."""
     for table in tables():
-        start, end = table.markers()
-        if page.count(start) != 1 or end not in page.partition(start)[2]:
+        if not table.is_marked(page):
             return [f"{PAGE}: the table of {table.name} is not between its markers"]
     if page_with(page) != page:
         return [f"{PAGE}: a table of times differs from what tools/times.py writes"]
     return [f"{PAGE}: {cell!r} is not a time" for table in tables() for cell in table.cells_of(page).values() if not CELL.fullmatch(cell)]
+
+
+def is_whole(log: str) -> bool:
+    """Returns whether a log is that of a whole run that passed, and that reused no proof of an earlier run."""
+    has_passed = log.rstrip().endswith(" passed, 0 failed") and re.search(r"^time: whole ", log, re.MULTILINE) is not None
+    return has_passed and " is kept: an earlier run" not in log
 
 
 def main() -> int:
@@ -177,7 +189,7 @@ def main() -> int:
             logs.append(file.read())
     page = page_with(read(PAGE), cells_of(logs) if logs else None)
     wrong = failures(page) + [f"unknown step or crate: {name}" for name in times_of(logs).unknown]
-    wrong += [f"{name}: no line has the time of a step" for name, log in zip(options.logs, logs) if not TIME_LINE.search(log)]
+    wrong += [f"{name}: not a whole run that passed and proved all crates" for name, log in zip(options.logs, logs) if not is_whole(log)]
     for failure in wrong:
         print(failure, file=sys.stderr)
     if not options.write:

@@ -1,5 +1,5 @@
 // The heap of the library as a module of WebAssembly, which has no C library. The proved code calls `rattle_alloc`, `rattle_realloc` and
-// `rattle_dealloc`. This file is tested, not proved. It owes what malloc, realloc and free owe: blocks that do not overlap, that are aligned
+// `rattle_dealloc`. This file is tested, not proved. It guarantees what malloc, realloc and free guarantee: blocks that do not overlap, that are aligned
 // to 16 bytes, and that keep their bytes. The module has one thread.
 //
 // The blocks follow each other from `__heap_base` on. A block is a header of 16 bytes, and its content. The free blocks are in lists by
@@ -108,7 +108,7 @@ static void release(Block *block) {
     insert_free(block);
 }
 
-// Makes a block in use of memory, with a size of its content, and a last block after it. The memory has room for both headers.
+// Makes a block in use of memory, with a size of its content, and a last block after it. The memory has space for both headers.
 static void append_block(Block *block, size_t size) {
     block->size_and_flag = size | IN_USE;
     last_block = next_of(block);
@@ -116,7 +116,7 @@ static void append_block(Block *block, size_t size) {
     last_block->size_and_flag = IN_USE;
 }
 
-// Frees the content of a block in use beyond a size, if it has room for a block.
+// Frees the content of a block in use beyond a size, if it has space for a block.
 static void shrink(Block *block, size_t size) {
     size_t rest = size_of(block) - size;
     if (rest < HEADER_SIZE + ALIGNMENT)
@@ -242,6 +242,6 @@ Allocation rattle_realloc(void *content, size_t kept, size_t bytes, size_t align
 
 void rattle_dealloc(void *content) { deallocate(content); }
 
-// The functions that the page calls for the arguments that it passes. `page_room` returns null if the memory cannot grow.
-__attribute__((export_name("page_room"))) void *page_room(size_t bytes) { return allocate(bytes); }
+// The functions that the page calls for the arguments that it passes. `page_alloc` returns null if the memory cannot grow.
+__attribute__((export_name("page_alloc"))) void *page_alloc(size_t bytes) { return allocate(bytes); }
 __attribute__((export_name("page_free"))) void page_free(void *content) { deallocate(content); }

@@ -38,6 +38,8 @@ PLAIN = {0x00, 0x01, 0x05, END, 0x0F, 0x1A, 0x1B, *range(0x45, 0xC5)}
 WITH_NUMBER = {0x0C, 0x0D, 0x10, LOCAL_GET, LOCAL_SET, 0x22, 0x23, 0x24, I32_CONST, I64_CONST, BLOCK, LOOP, IF}
 FLOAT_SIZES = {F32_CONST: 4, F64_CONST: 8}
 MAX_32_BITS = 2**32
+# The maximal number of pages of a memory with 32-bit addresses.
+MAX_LIMIT = 65536
 
 
 class UnknownModule(ValueError):
@@ -245,11 +247,13 @@ def lower_limits(section: bytes, start: int) -> tuple[bytes, int]:
     if flags & ~(HAS_MAXIMUM | HAS_64_BITS):
         raise UnknownModule("a memory or a table is shared")
     minimum, end = read_unsigned(section, start + 1)
-    output = bytes([flags & HAS_MAXIMUM]) + write_unsigned(minimum)
+    limits = [minimum]
     if flags & HAS_MAXIMUM:
         maximum, end = read_unsigned(section, end)
-        output += write_unsigned(maximum)
-    return output, end
+        limits.append(maximum)
+    if max(limits) > MAX_LIMIT:
+        raise UnknownModule("a memory or a table has a limit above 65536")
+    return bytes([flags & HAS_MAXIMUM]) + b"".join(map(write_unsigned, limits)), end
 
 
 def lower_memory(section: bytes) -> bytes:

@@ -17,7 +17,7 @@ from collections.abc import Callable, Iterable, Iterator
 from contextlib import contextmanager
 from typing import Any, NamedTuple
 
-from ._diagnostics import expectation_of, position_of, quote
+from ._diagnostics import expectation_of, likely_content, position_of, quote
 from ._files import FORMATS, CoverageFile, FileError, TextError, format_of_name, parse, read_file, serialize, write_file
 from .errors import MocError
 from .moc import MOC
@@ -61,8 +61,9 @@ class CommandError(Exception):
 def error_of(error: Exception, file: str, name: str) -> CommandError:
     """Returns the end of a command for an error of a file. `name` is the name of an error of the system, `Read` or `Write`."""
     if isinstance(error, TextError):
-        text = error.data, error.format, error.error
-        return CommandError(INVALID, file, f"fault {error.error.name}", position_of(*text), expectation_of(*text))
+        text, content = (error.data, error.format, error.error), likely_content(error.data, error.format)
+        return CommandError(INVALID, file, f"fault {error.error.name}", position_of(*text), expectation_of(*text),
+                            f"this looks like {content}" if content else "")
     if isinstance(error, FileError):
         return CommandError(INVALID, file, f"fault {error.name}", error.detail)
     if isinstance(error, MocError):

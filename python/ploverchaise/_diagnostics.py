@@ -52,10 +52,11 @@ def expectation_of(text: bytes, format: str, error: MocError) -> str:
     if error.name != "CellTooLarge":
         return _EXPECTED.get((format, error.name), "")
     if format == "ascii":
-        order = re.findall(rb"([0-9]+)/", text[:error.place[0]])[-1]
+        before = text[:text.rindex(b"/", 0, error.place[0])]
+        order = _order_of(before[len(before.rstrip(b"0123456789")):])
     else:
-        order = _sorted_names(json.loads(text))[error.place[0]]
-    return f"cells of order {int(order)} go up to {12 * 4**int(order) - 1}"
+        order = _order_of(_sorted_names(json.loads(text))[error.place[0]].encode())
+    return f"cells of order {order} go up to {12 * 4**order - 1}"
 
 
 def quote(part: bytes, at: int = 0) -> str:
@@ -105,6 +106,11 @@ def _word_bounds(data: bytes, place: int) -> tuple[int, int]:
     return start, min((end for end in (data.find(separator, place) for separator in _SEPARATORS) if end >= 0), default=len(data))
 
 
+def _order_of(digits: bytes) -> int:
+    """Returns the order that digits denote. Python limits the number of digits of an integer, and leading zeros are allowed."""
+    return int(digits.lstrip(b"0") or b"0")
+
+
 def _sorted_names(content: dict[str, Any]) -> list[str]:
     """Returns the names of a JSON object in byte order."""
     return sorted(content, key=str.encode)
@@ -124,6 +130,6 @@ def _position_in_json(data: bytes, error: MocError) -> tuple[str, str]:
     if error.name == "BadOrder":
         return f"name {error.place[0]}", quote(name.encode())
     if error.name == "NotArray":
-        return f"order {int(name)}", quote(name.encode())
+        return f"order {_order_of(name.encode())}", quote(name.encode())
     item = json.dumps(content[name][error.place[1]], separators=(",", ":"), ensure_ascii=False)
-    return f"order {int(name)}, number {error.place[1]}", quote(item.encode())
+    return f"order {_order_of(name.encode())}, number {error.place[1]}", quote(item.encode())

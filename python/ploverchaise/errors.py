@@ -26,7 +26,7 @@ class MocError(ValueError):
         - For `NoSuchOrder` it is the order, and for `Busy` the base pixel and the number of the other client.
 
     detail : str
-        The value and its bounds, the quoted part of a text, or what a text looks like. Empty for some errors.
+        The value and its bounds, the quoted part of a text with what must be there, or what a text looks like. Empty for some errors.
 
     Examples
     --------

@@ -77,7 +77,7 @@ class Examples(TestCase):
         cells = random_cells(9, 333)
         self.assertEqual(MOC.union_all(MOC.from_healpix_cells(cell, 9) for cell in cells), MOC.from_healpix_cells(cells, 9))
         self.assertEqual((MOC.union_all([]), MOC.union_all([MOC.full()])), (MOC(), MOC.full()))
-        # Small sets, sets that are united in pairs, and more ranges than are sorted at once.
+        # Small and large sets, and many sets.
         counts = (3, 50_000, 900, 40_000, 20, 30_000, *[9000] * 40)
         sets = [set(random_cells(9, count)) for count in counts]
         self.assertEqual(MOC.union_all(MOC.from_healpix_cells(each, 9) for each in sets), MOC.from_healpix_cells(set().union(*sets), 9))
@@ -151,7 +151,8 @@ class Examples(TestCase):
             ("x", "ascii", f"`x`: {words}"), ("0/1 5/7x", "ascii", f"`5/7x`: {words}"), ("5/7-", "ascii", f"`5/7-`: {words}"),
             ("s", "json", 'a text is one object, as in {"3":[10,12]}'), ("9:1,5", "json", 'a text is one object, as in {"3":[10,12]}'),
             ("12 13\n3/4", "ascii", "`12`: an order comes first, as in 3/"), ("30/1", "ascii", "`30/1`: orders go up to 29"),
-            ("0/3 001/48", "ascii", f"`001/48`: {cells}"), ('{"0":[3],"1":[5,48]}', "json", f"`48`: {cells}"),
+            ("0/3 001/48", "ascii", f"`001/48`: {cells}"), (f"{'0' * 5000}1/ 48", "ascii", f"`48`: {cells}"),
+            (f'{{"{"0" * 5000}1":[48]}}', "json", f"`48`: {cells}"), ('{"0":[3],"1":[5,48]}', "json", f"`48`: {cells}"),
             ("2/7-5", "ascii", "`2/7-5`: a range goes from its first cell to its last"),
             ('{"x":[]}', "json", "`x`: names are orders from 0 to 29"),
             ('{"1":3}', "json", '`1`: the value of an order is an array, as in {"3":[10,12]}'),

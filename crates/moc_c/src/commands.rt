@@ -138,8 +138,8 @@ impl ClientState {
         self.answer_set_of_cells(alloc, verb, order, cells)
     }
 
-    /// As `answer_cells`, but makes the set of the cells. The function is separate, because each call initializes the
-    /// stack of a whole function: a command on one cell needs less of it.
+    /// Executes a command as `answer_cells` does, but makes the set of the cells. The function is separate, because each
+    /// call initializes the stack of a whole function, and a command on one cell needs less of it.
     #[inline(never)]
     fn answer_set_of_cells(
         &mut self,

@@ -253,7 +253,7 @@ Prints one line each for the deepest order that the text names, the number of
 pixels (cells of order 29), their share of the sky, their area in square
 degrees, the number of ranges of pixels, the number of cells, and the number of
 cells of each order. Share and area have twelve digits after the point, or 24 if
-the twelve are all 0. `auto` reads a text that begins with `{` as json, any
+all digits would be 0. `auto` reads a text that begins with `{` as json, any
 other text as ascii.
 
 Example:

@@ -37,7 +37,7 @@ abbrev pub decimal_fraction : ℕ → ℕ → List ℕ
 decimal_fraction d n = decimal (n / 10 ^ d) ++ 46 ∷ digits_with_zeros d (n % 10 ^ d)
 
 -- The part of a quantity of the sky that belongs to a number of pixels: with twelve digits after the point; with 24 if
--- the twelve are all 0 and there is a pixel. The whole sky has `whole` units of 10^-12 and `fine` units of 10^-24.
+-- this would be 0 and there is a pixel. The whole sky has `whole` units of 10^-12 and `fine` units of 10^-24.
 abbrev pub part_text : ℕ → ℕ → ℕ → List ℕ
 part_text whole fine count =
     if part_of whole count == 0 && not (count == 0)

@@ -69,7 +69,7 @@ is_mixed l i =
 abbrev pub count_in : NumberSet → ℕ → ℕ
 count_in a i = set.len (set.intersection a (span 7 i))
 
--- the colour of most pixels; of colours with as many pixels, the last
+-- the colour of most pixels; of colours with equally many pixels, the last of blue, orange and black
 unfoldable pub main_colour : ℕ → ℕ → ℕ → ℕ
 main_colour first second both =
     if nat_le first both && nat_le second both then black else if nat_le first second then orange else blue

@@ -60,8 +60,8 @@ pub fn draw(alloc: Global, set: &Coverage, name: Option<&str>) -> Result<String,
 /// Returns a picture of two sets as SVG, in the projection of `draw`, with four shades of each of three colours: blue
 /// for the pixels of the first set only, orange for the second only, and black for both. Each cell of one colour of
 /// order 7 or less is a diamond of the darkest shade. Any other cell of order 7 with pixels has the colour of most of
-/// its pixels. Of colours with as many pixels, it has black, then orange. It has the shade of its share that is in any
-/// of the sets. A legend explains colours and shades, and has the names of the sets, if there are any.
+/// its pixels. Of colours with equally many pixels, it has black, then orange. It has the shade of its share that is in
+/// any of the sets. A legend explains colours and shades, and has the names of the sets, if there are any.
 ///
 /// # Errors
 /// Fails with `Memory` if an allocation fails.

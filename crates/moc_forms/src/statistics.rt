@@ -27,7 +27,7 @@ const FINE_SKY_AREA: u128 = 41_252_961_249_419_271_031_294_671_466;
 
 /// The statistics of a coverage. `Display` writes them one a line. The first lines are the MOC order that its text
 /// states, or `none`, the number of pixels of order 29, their share of the sky, and their area in square degrees. Share
-/// and area are truncated to twelve digits after the point; if these are all zero and there is a pixel, to 24 digits.
+/// and area are truncated to twelve digits after the point; if the result is zero and there is a pixel, to 24 digits.
 /// Then come the number of ranges, the number of cells, and the number of cells of each order that has any.
 #[derive(Clone, Copy, Debug, PartialEq, Eq)]
 pub struct Statistics {

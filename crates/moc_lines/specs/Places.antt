@@ -29,7 +29,7 @@ offset_in_piece (Coverage error) piece =
     length piece - length text + min (unwrap_or (error_byte error) 0) (length text)
 offset_in_piece error piece = prefix_len is_line_blank piece
 
--- the place of the error of a line: the number of its command, and its offset after the commands and semicolons before
+-- the place of the error of a line: the number of its command, and the offset of the error in the line
 abbrev pub error_place : LineError → List ℕ → LinePlace
 error_place error line =
     let pieces = pieces_of line in
