@@ -167,7 +167,7 @@ int main(int count, char **arguments) {
         }
     unsigned long left = check_blocks();
     require(listed_blocks() == 1, "one free block is left");
-    void *all = page_room(left - left / 8);
+    void *all = page_alloc(left - left / 8);
     require(all != 0, "the memory can be allocated again");
     printf("%lu steps, %lu failed, %lu pages\n", steps, failures, page_count);
     return 0;

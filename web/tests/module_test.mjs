@@ -32,7 +32,7 @@ const randomBelow = (bound) => Number(randomBits(32) % BigInt(bound));
 const bytes = () => new Uint8Array(exported.memory.buffer);
 const numbers = () => new BigUint64Array(exported.memory.buffer);
 
-const result = exported.page_room(32n);
+const result = exported.page_alloc(32n);
 
 // Returns the address that a function of the heap writes, or 0n if it fails.
 function allocate(call, ...values) {
@@ -80,8 +80,8 @@ function testHeap() {
   check(failures > 10 && failures < STEPS / 2, `some allocations fail: ${failures}`);
   check(exported.memory.buffer.byteLength === MAX_MEMORY, "the memory has grown to its limit");
   for (const slot of slots.filter(Boolean)) exported.page_free(slot.address);
-  check(exported.page_room(BigInt(MAX_MEMORY)) === 0n, "a block as large as the memory fails");
-  check(exported.page_room(BigInt(MAX_MEMORY / 2)) !== 0n, "the freed blocks are one block");
+  check(exported.page_alloc(BigInt(MAX_MEMORY)) === 0n, "a block as large as the memory fails");
+  check(exported.page_alloc(BigInt(MAX_MEMORY / 2)) !== 0n, "the freed blocks are one block");
   check(allocate(exported.rattle_alloc, 16n, 32n) === 0n, "an alignment above 16 fails");
 }
 

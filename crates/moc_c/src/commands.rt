@@ -138,7 +138,7 @@ impl ClientState {
         self.answer_set_of_cells(alloc, verb, order, cells)
     }
 
-    /// Executes a command as `answer_cells` does, but makes the set of the cells. The function is separate, because each
+    /// Executes a command as `answer_cells` does, but makes the set of the cells. The function is separate because each
     /// call initializes the stack of a whole function, and a command on one cell needs less of it.
     #[inline(never)]
     fn answer_set_of_cells(
