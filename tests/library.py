@@ -327,16 +327,38 @@ def check_page(tally: Tally, folder: str) -> None:
     """Checks that the programs of `docs/C.md`, in C and C++, print what the page says."""
     page = read_text(TOP, "docs", "C.md")
     in_c = re.search(r"^```c\n(.*?)^```\n\nIt writes `(.*?)`", page, re.MULTILINE | re.DOTALL)
-    in_cxx = re.search(r"^```cpp\n(.*?)^```\n\n```text\n(.*?)\n```", page, re.MULTILINE | re.DOTALL)
-    for shown, compiler, name in ((in_c, [CC, "-std=c99"], "page.c"), (in_cxx, [CXX, "-std=c++17"], "page.cc")):
+    in_cxx = list(re.finditer(r"^```cpp\n(.*?)^```\n\n```text\n(.*?)\n```", page, re.MULTILINE | re.DOTALL))
+    tally.check_equal("the number of programs in C++ in docs/C.md", len(in_cxx), len(re.findall(r"^```cpp$", page, re.MULTILINE)))
+    programs = [(in_c, [CC, "-std=c99"], "page.c"),
+                *((shown, [CXX, "-std=c++17"], f"page{number}.cc") for number, shown in enumerate(in_cxx))]
+    tally.check(len(programs) > 2, "docs/C.md has a program in C, and two in C++")
+    for shown, compiler, name in programs:
         if not tally.check(shown is not None, f"docs/C.md has no program with its output for {name}") or shown is None:
             continue
         program = os.path.join(folder, name)
         write_text(program, shown[1])
-        result = run([*compiler, *WARNINGS, f"-I{folder}", program, os.path.join(folder, linking.STATIC), "-o", program + ".out"])
+        result = run([*compiler, *WARNINGS, f"-I{folder}", program, os.path.join(folder, linking.STATIC), "-pthread",
+                      "-o", program + ".out"])
         if tally.check(result.returncode == 0, f"{name} of docs/C.md does not compile\n{result.stderr}"):
             result = run([program + ".out"])
             tally.check_equal(f"the output of {name}", (result.returncode, result.stdout), (0, shown[2] + "\n"))
+
+
+def check_readme(tally: Tally, folder: str) -> None:
+    """Checks that the C++ lines of `README.md` print what their comments begin with."""
+    shown = re.search(r"^```cpp\n(.*?)^```", read_text(TOP, "README.md"), re.MULTILINE | re.DOTALL)
+    if not tally.check(shown is not None, "README.md has no lines in C++") or shown is None:
+        return
+    expected = re.findall(r"^std::cout .*// ([^,\n]*)", shown[1], re.MULTILINE)
+    tally.check_equal("the number of lines in C++ that print", len(expected), 2)
+    program = os.path.join(folder, "readme.cc")
+    write_text(program, f'#include "ploverchaise.hpp"\n#include <iostream>\nint main() {{\n{shown[1]}}}\n')
+    result = run([CXX, "-std=c++17", *WARNINGS, f"-I{folder}", program, os.path.join(folder, linking.STATIC), "-pthread",
+                  "-o", program + ".out"])
+    if tally.check(result.returncode == 0, f"the lines in C++ of README.md do not compile\n{result.stderr}"):
+        result = run([program + ".out"])
+        tally.check_equal("the output of the lines in C++ of README.md", (result.returncode, result.stdout),
+                          (0, "".join(f"{line}\n" for line in expected)))
 
 
 def check_archive(tally: Tally, folder: str) -> None:
@@ -388,6 +410,7 @@ def main() -> int:
             check_empty_arrays(tally, folder)
             check_locks(tally, folder)
             check_page(tally, folder)
+            check_readme(tally, folder)
             check_archive(tally, folder)
             check_failing_allocations(tally, folder)
             check_stack_and_unloading(tally, folder)

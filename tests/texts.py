@@ -12,6 +12,7 @@
 - The records of docs/DECISIONS.md have the numbers from 1, each once, and parts with fixed names.
 - Each line of the program in README.md is in the crate `example_library`, which CI proves and runs.
 - The output that README.md shows for its first command is the output that CI compares with the program's.
+- The size of the proof base in docs/ASSURANCE.md is that which `tools/sizes.py` counts.
 - The tables of docs/GATE.md with the times of CI have the form that `tools/times.py` writes. Their numbers are not checked.
 - Each file that repeats the version of the project has the version of `ploverchaise.h`.
 
@@ -38,6 +39,7 @@ import codes  # noqa: E402
 import diagrams  # noqa: E402
 import pictures  # noqa: E402
 import signatures  # noqa: E402
+import sizes  # noqa: E402
 import sky_pictures  # noqa: E402
 import times  # noqa: E402
 import version  # noqa: E402
@@ -296,6 +298,12 @@ def check_first_output() -> Iterator[Check]:
     yield "README.md: the output of the first example is that of moc_cli/stdout", f"\n\n{shown}\n" in read_file("README.md")
 
 
+def check_sizes() -> Iterator[Check]:
+    """Checks that the size of the proof base is that which `tools/sizes.py` counts."""
+    for path, text in sizes.make_files().items():
+        yield f"{path} is as tools/sizes.py makes it", read_file(path) == text
+
+
 def check_times() -> Iterator[Check]:
     """Checks the form of the tables of times, that of the times of two logs, and that a wrong form would be found."""
     page = read_file(times.PAGE)
@@ -349,7 +357,7 @@ def main() -> int:
                              *check_pictures(), *check_numberings(), *check_crate_table(),
                              *check_line_lengths(), *check_cell_lengths(), *check_links(), *check_names_of_pages(),
                              *check_paths_of_pages(), *check_decisions(),
-                             *check_shown_program(), *check_first_output(), *check_times(), *check_versions()):
+                             *check_shown_program(), *check_first_output(), *check_times(), *check_sizes(), *check_versions()):
         tally.check(holds, f"does not hold: {statement}")
     return tally.finish()
 

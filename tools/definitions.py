@@ -222,7 +222,7 @@ def sentence(text: str) -> str:
 def wrapped(text: str, first: str, rest: str) -> str:
     """Returns a paragraph or an item of a list, in lines that Markdown takes for no other construct."""
     lines = textwrap.wrap(text, COLUMNS - 1, initial_indent=first, subsequent_indent=rest, break_long_words=False, break_on_hyphens=False)
-    escaped = [re.sub(r"^(\s*)([-+*#>]|\d+[.)])(?= |$)", r"\1\\\2", line) for line in lines[1:]]
+    escaped = [re.sub(r"^(\s*)(\d+)([.)])(?= |$)", r"\1\2\\\3", re.sub(r"^(\s*)([-+*#>])(?= |$)", r"\1\\\2", line)) for line in lines[1:]]
     return "\n".join([*lines[:1], *escaped])
 
 

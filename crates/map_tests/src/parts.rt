@@ -5,7 +5,7 @@ ghost use Rattle.moc_parts.specs.Commands.{IsPlain};
 
 use crate::shown::is_shown;
 use moc_parts::{
-    Batch, BatchError, CellAction, CellCommand, Command, Map, Operand, Part, PartSet, PartCommand,
+    Batch, BatchError, CellAction, CellCommand, Command, Map, Operand, Part, PartCommand, PartSet,
     Replies, Reply, merge_parts, prepare, prepare_changes, reply_of, split_by_base_pixel,
 };
 use moc_ranges::Coverage;
