@@ -5,8 +5,8 @@ usage: tools/times.py [--write] [LOG..]
 
 A LOG is the output of a whole run of `.ci/run`. Before its last line it has a line `time: STEP ELAPSED USER SYSTEM` in seconds for each
 step, and `time: CRATE ELAPSED` for each crate that `rt ci` proved. The first command reports every ten seconds which crates it checks. If
-there are several logs, a cell has the least and the greatest time. A cell is empty if no log has its time. Without a log, the tool keeps
-the times of the page, and writes a row for each step and crate.
+there are several logs, a cell has the least and the greatest time. A cell is empty if no log has its time, and a row without a time is left
+out. Without a log, the tool keeps the times of the page.
 
 Without `--write` the tool prints the page. `tests/texts.py` checks that the tables have the form that the tool writes. The exit status is 1
 if the form is wrong or a line of a log is unknown."""
@@ -74,9 +74,9 @@ class Table(NamedTuple):
         return {(column, row[0]): cell for row in rows for column, cell in zip(self.columns[1:], row[1:])}
 
     def text(self, cells: dict[tuple[str, str], str]) -> str:
-        """Returns the table with these cells. Other cells are empty."""
+        """Returns the table with these cells. Other cells are empty, and a row without a time is left out."""
         rows = [[shown, *(cells.get((column, shown), "") for column in self.columns[1:])] for shown in self.rows.values()]
-        lines = [f"| {' | '.join(row)} |" for row in (self.columns, *rows)]
+        lines = [f"| {' | '.join(row)} |" for row in (self.columns, *(row for row in rows if any(row[1:])))]
         lines.insert(1, "|---" * len(self.columns) + "|")
         return "".join(re.sub(" +", " ", line) + "\n" for line in lines)
 
