@@ -12,6 +12,7 @@
 - The records of docs/DECISIONS.md have the numbers from 1, each once, and parts with fixed names.
 - Each line of the program in README.md is in the crate `example_library`, which CI proves and runs.
 - The output that README.md shows for its first command is the output that CI compares with the program's.
+- The reference of the Python package is that which `tools/python_reference.py` makes from the docstrings.
 - The size of the proof base in docs/ASSURANCE.md is that which `tools/sizes.py` counts.
 - The tables of docs/GATE.md with the times of CI have the form that `tools/times.py` writes. Their numbers are not checked.
 - Each file that repeats the version of the project has the version of `ploverchaise.h`.
@@ -39,6 +40,7 @@ import codes  # noqa: E402
 import diagrams  # noqa: E402
 import pictures  # noqa: E402
 import signatures  # noqa: E402
+import python_reference  # noqa: E402
 import sizes  # noqa: E402
 import sky_pictures  # noqa: E402
 import times  # noqa: E402
@@ -304,6 +306,17 @@ def check_sizes() -> Iterator[Check]:
         yield f"{path} is as tools/sizes.py makes it", read_file(path) == text
 
 
+def check_python_reference() -> Iterator[Check]:
+    """Checks that the reference of the Python package is that which `tools/python_reference.py` makes, with all public names."""
+    for path, text in python_reference.make_files().items():
+        yield f"{path} is as tools/python_reference.py makes it", read_file(path) == text
+        headings = re.findall(r"^#{2,3} `([\w.]+)`$", text, re.MULTILINE)
+        yield "each exported name of the Python package has a heading", set(python_reference.exported_names()) <= set(headings)
+        yield "each heading of the reference of the Python package is there once", len(headings) == len(set(headings)) > 60
+    missing = python_reference.find_failures()
+    yield f"all that the Python package exports has a docstring; not: {missing}", not missing
+
+
 def check_times() -> Iterator[Check]:
     """Checks the form of the tables of times, that of the times of two logs, and that a wrong form would be found."""
     page = read_file(times.PAGE)
@@ -358,7 +371,8 @@ def main() -> int:
                              *check_pictures(), *check_numberings(), *check_crate_table(),
                              *check_line_lengths(), *check_cell_lengths(), *check_links(), *check_names_of_pages(),
                              *check_paths_of_pages(), *check_decisions(),
-                             *check_shown_program(), *check_first_output(), *check_times(), *check_sizes(), *check_versions()):
+                             *check_shown_program(), *check_first_output(), *check_times(), *check_sizes(), *check_python_reference(),
+                             *check_versions()):
         tally.check(holds, f"does not hold: {statement}")
     return tally.finish()
 

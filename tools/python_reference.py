@@ -1,0 +1,168 @@
+#!/usr/bin/env python3
+"""Writes docs/PYTHON_API.md, the reference of the Python package, from its docstrings.
+
+usage: tools/python_reference.py [--write]
+
+The page has each name of `ploverchaise.__all__`, and each public method, property and attribute of its classes, with its signature and its
+docstring in numpydoc. Without `--write` the tool prints the page. The exit status is 1 if something public has no docstring.
+`tests/texts.py` compares the page in CI."""
+from __future__ import annotations
+
+import ast
+import os
+import re
+import sys
+import textwrap
+from typing import NamedTuple, Union
+
+from generated import read, write_or_print
+
+PACKAGE = os.path.join("python", "ploverchaise")
+PAGE = os.path.join("docs", "PYTHON_API.md")
+HEAD = """\
+# Python API
+
+This page is the reference of the Python package `ploverchaise`, for Python programmers. [Python](PYTHON.md) introduces the package, and has
+examples by task. `tools/python_reference.py --write` takes the text from the docstrings, and CI compares the page and runs the examples.
+
+A **MOC** (Multi-Order Coverage map, [MOC 2.0](https://www.ivoa.net/documents/MOC/)) is a set of
+[HEALPix](https://healpix.sourceforge.io/) cells. A **pixel** is a cell of order 29, by its nested number. n is the number of ranges of a
+MOC.
+
+## Contents
+
+"""
+COLUMNS = 140
+# A heading of a section of a docstring, and the sections whose entries are indented descriptions.
+SECTION = re.compile(r"^(\w[\w ]*)\n-+\n", re.MULTILINE)
+WITH_ENTRIES = frozenset(["Parameters", "Returns", "Yields", "Raises", "Attributes"])
+Function = Union[ast.FunctionDef, ast.AsyncFunctionDef]
+
+
+class Entry(NamedTuple):
+    """Something public: its name, its signature or nothing, the level of its heading, and its docstring."""
+
+    name: str
+    signature: str
+    level: int
+    docstring: str
+
+
+def decorators_of(function: Function) -> list[str]:
+    """Returns the names of the decorators of a function."""
+    return [ast.unparse(decorator).split("(")[0].split(".")[-1] for decorator in function.decorator_list]
+
+
+def signature_of(name: str, function: Function) -> str:
+    """Returns the name and the arguments of a function, without `self` and types."""
+    kinds = decorators_of(function)
+    if "property" in kinds:
+        return name
+    arguments = function.args
+    is_bound = "." in name and "staticmethod" not in kinds
+    for argument in (*arguments.posonlyargs, *arguments.args, *arguments.kwonlyargs, arguments.vararg, arguments.kwarg):
+        if argument is not None:
+            argument.annotation = None
+    if is_bound:
+        (arguments.posonlyargs or arguments.args).pop(0)
+    return f"{name}({ast.unparse(arguments)})"
+
+
+def members_of(name: str, nodes: list[ast.stmt]) -> dict[str, Function]:
+    """Returns the public functions of a class or a module. The last one of each name counts, after its overloads."""
+    functions = [node for node in nodes if isinstance(node, (ast.FunctionDef, ast.AsyncFunctionDef))]
+    return {f"{name}{node.name}": node for node in functions if not node.name.startswith("_") and "setter" not in decorators_of(node)}
+
+
+def exported_names() -> dict[str, str]:
+    """Returns the module of each name of `__all__`, in the order of the package's imports."""
+    tree = ast.parse(read(os.path.join(PACKAGE, "__init__.py")))
+    modules = {alias.name: node.module or "" for node in tree.body if isinstance(node, ast.ImportFrom) for alias in node.names}
+    exported = next(ast.literal_eval(node.value) for node in tree.body
+                    if isinstance(node, ast.Assign) and ast.unparse(node.targets[0]) == "__all__")
+    return {name: modules[name] for name in exported}
+
+
+def entries() -> list[Entry]:
+    """Returns what is public: classes with their members, and then functions."""
+    classes, functions = [], []
+    for name, module in exported_names().items():
+        body = ast.parse(read(os.path.join(PACKAGE, f"{module}.py"))).body
+        definition = next((node for node in body if isinstance(node, ast.ClassDef) and node.name == name), None)
+        if definition is None:
+            function = members_of("", body)[name]
+            functions.append(Entry(name, signature_of(name, function), 2, ast.get_docstring(function) or ""))
+            continue
+        classes.append(Entry(name, "", 2, ast.get_docstring(definition) or ""))
+        members = members_of(f"{name}.", definition.body)
+        classes += [Entry(path, signature_of(path, node), 3, ast.get_docstring(node) or "") for path, node in members.items()]
+    return [*classes, *functions]
+
+
+def entry_lines(text: str) -> list[str]:
+    """Returns the entries of a section, each with its description, as a list."""
+    lines: list[str] = []
+    for line in text.strip("\n").splitlines():
+        if line.startswith(" ") or not line:
+            lines.append(f"  {line.strip()}" if line else "")
+        else:
+            name, separator, kind = line.partition(" : ")
+            lines.append(f"- `{name}`: {kind}. " if separator else f"- {line}: ")
+    joined = re.sub(r"(: |\. )\n  ", r"\1", "\n".join(lines))
+    items = re.split(r"(?m)^(?=- )", joined)
+    wrapped = []
+    for item in filter(None, items):
+        parts = item.strip("\n").split("\n\n")
+        wrapped += textwrap.wrap(" ".join(parts[0].split()), COLUMNS, subsequent_indent="  ", break_long_words=False,
+                                 break_on_hyphens=False)
+        for part in parts[1:]:
+            wrapped += ["", *(f"  {line.strip()}" for line in part.splitlines())]
+    return wrapped
+
+
+def docstring_lines(docstring: str) -> list[str]:
+    """Returns a docstring in numpydoc as Markdown."""
+    introduction, *sections = SECTION.split(docstring)
+    lines = [introduction.strip("\n")]
+    for title, text in zip(sections[::2], sections[1::2]):
+        lines += ["", f"**{title}**", ""]
+        if title in WITH_ENTRIES:
+            lines += entry_lines(text)
+        elif ">>>" in text:
+            lines += ["```pycon", text.strip("\n"), "```"]
+        else:
+            lines.append(text.strip("\n"))
+    return lines
+
+
+def anchor_of(heading: str) -> str:
+    """Returns the anchor of a heading, by the rules of GitHub."""
+    return re.sub(r"[^\w\- ]", "", heading.lower()).replace(" ", "-")
+
+
+def make_files() -> dict[str, str]:
+    """Returns the page."""
+    lines = []
+    contents = []
+    for entry in entries():
+        indent = "  " * (entry.level - 2)
+        contents.append(f"{indent}- [`{entry.name}`](#{anchor_of(entry.name)})")
+        lines += ["", f"{'#' * entry.level} `{entry.name}`", ""]
+        if entry.signature:
+            lines += ["```text", *textwrap.wrap(entry.signature, COLUMNS, subsequent_indent="    "), "```", ""]
+        lines += docstring_lines(entry.docstring)
+    return {PAGE: HEAD + "\n".join([*contents, *lines]) + "\n"}
+
+
+def find_failures() -> list[str]:
+    """Returns what has no docstring."""
+    return [f"{entry.name} has no docstring" for entry in entries() if not entry.docstring]
+
+
+def main() -> int:
+    """Prints or writes the page."""
+    return write_or_print("Makes the reference of the Python package.", make_files, find_failures)
+
+
+if __name__ == "__main__":
+    sys.exit(main())
