@@ -809,6 +809,9 @@ static void timeouts(void)
     CHECK(pthread_create(&thread, NULL, invert_always, &holder) == 0);
     unsigned busy = 0, failed_calls = 0;
     for (int i = 0; i < 100; i++) {
+        /* After a call that has waited, the holder skips tries for a while. It needs the pause to hold the parts again. */
+        struct timespec pause = {0, i % 2 ? 0 : 3000000};
+        nanosleep(&pause, NULL);
         moc_result result = moc_map_busy_timeout(&client, i % 2 ? 20000 : 0);
         CHECK(result.code == MOC_OK);
         result = moc_map_count_coverage(&client, &store, start);
