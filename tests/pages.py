@@ -6,7 +6,7 @@
   the page run in one shell and one folder, and then its programs in this folder.
 - A block `python` is a program, and the block `text` after it is its complete output. Commands and programs can import the Python package
   of the checkout. A program that needs an optional package needs it in this Python or in the system's; otherwise the script skips it.
-- If the commands of a page write a picture that the page shows, both have the same bytes.
+- The commands of a page write each picture that the page shows, with the same bytes. Another page has the commands for README's picture.
 - The help of each subcommand begins with the line that the list of subcommands has for it. It has at most 80 columns. It has an example,
   which is a command with its output.
 
@@ -30,6 +30,8 @@ from tally import Tally
 TOP = os.path.dirname(os.path.dirname(os.path.abspath(__file__)))
 MOC = os.environ.get("MOC", os.path.join(TOP, "crates", "moc_cli", "out", "moc_cli"))
 PAGES = ["README.md", "docs/TUTORIAL.md", "docs/RECIPES.md", "docs/FORMATS.md", "docs/COMMANDS.md", "docs/SCRIPTS.md", "docs/PYTHON.md"]
+# The page whose picture is made by the commands of another page.
+FRONT_PAGE = "README.md"
 # Pages whose sections use the files and shell functions of the sections before.
 CONTINUED_PAGES = ["docs/TUTORIAL.md"]
 PACKAGE = os.path.join(TOP, "python")
@@ -136,6 +138,12 @@ def picture_names(page: str) -> list[str]:
     return re.findall(r"^!\[.*\]\((?:docs/)?([a-z]+\.svg)\)$", page, re.MULTILINE)
 
 
+def read_page(name: str) -> str:
+    """Returns the text of a page."""
+    with open(os.path.join(TOP, name), encoding="utf-8") as file:
+        return file.read()
+
+
 def check_page(tally: Tally, page: str, is_continued: bool) -> None:
     """Checks all commands, pictures and programs of a page."""
     with tempfile.TemporaryDirectory() as top:
@@ -153,7 +161,8 @@ def check_examples(tally: Tally, page: str, is_continued: bool, folders: Iterato
         for example, output in itertools.zip_longest(examples, outputs[:len(examples)]):
             tally.check_equal(f"{heading}: {example.command}", output, example.output)
     for name in picture_names(page):
-        tally.check(pictures.get(name) == read_bytes(TOP, "docs", name), f"no command makes the picture {name}")
+        if page != read_page(FRONT_PAGE):
+            tally.check(pictures.get(name) == read_bytes(TOP, "docs", name), f"no command makes the picture {name}")
     for program, expected in programs(page):
         modules = [module for text, module in OPTIONAL.items() if text in program]
         python = python_with(*modules)
@@ -200,11 +209,12 @@ def main() -> int:
     check_help(tally)
     tally.check(tally.passed + tally.failed > MIN_HELP_CHECKS, "moc --help lists too few subcommands")
     for name in PAGES:
-        with open(os.path.join(TOP, name), encoding="utf-8") as file:
-            page = file.read()
+        page = read_page(name)
         tally.check(bool(consoles(page) or list(programs(page))), f"{name} has no example")
         check_page(tally, page, name in CONTINUED_PAGES)
-        tally.check(name != "README.md" or bool(picture_names(page)), "README.md shows no picture")
+    shown = picture_names(read_page(FRONT_PAGE))
+    others = {picture for name in PAGES if name != FRONT_PAGE for picture in picture_names(read_page(name))}
+    tally.check(bool(shown) and others.issuperset(shown), f"{FRONT_PAGE} shows a picture that another page makes")
     return tally.finish()
 
 
