@@ -221,8 +221,8 @@ class Errors(TestCase):
         with self.assertRaises(MocError) as caught:
             MOC.from_json('{"1":[0,48]}')
         error = caught.exception
-        self.assertEqual(str(error), "CellTooLarge: an item is not the number of a cell of its order (name 0, item 1): `48`: cells of order "
-                                     "1 go up to 47")
+        self.assertEqual(str(error), "CellTooLarge: an item is not the number of a cell of its order (name 0, item 1): `48`: "
+                                     "cells of order 1 go up to 47")
         copy = pickle.loads(pickle.dumps(error))
         self.assertIsInstance(copy, MocError)
         self.assertEqual((copy.code, copy.name, copy.place, str(copy)), (error.code, error.name, error.place, str(error)))
