@@ -327,11 +327,12 @@ def check_page(tally: Tally, folder: str) -> None:
     """Checks that the programs of `docs/C.md`, in C and C++, print what the page says."""
     page = read_text(TOP, "docs", "C.md")
     in_c = re.search(r"^```c\n(.*?)^```\n\nIt writes `(.*?)`", page, re.MULTILINE | re.DOTALL)
+    with_text = re.search(r"^```c\n((?:(?!```)[^\n]*\n)*)```\n\n```text\n(.*?)\n```", page, re.MULTILINE | re.DOTALL)
     in_cxx = list(re.finditer(r"^```cpp\n(.*?)^```\n\n```text\n(.*?)\n```", page, re.MULTILINE | re.DOTALL))
     tally.check_equal("the number of programs in C++ in docs/C.md", len(in_cxx), len(re.findall(r"^```cpp$", page, re.MULTILINE)))
-    programs = [(in_c, [CC, "-std=c99"], "page.c"),
+    programs = [(in_c, [CC, "-std=c99"], "page.c"), (with_text, [CC, "-std=c99"], "page_of_map.c"),
                 *((shown, [CXX, "-std=c++17"], f"page{number}.cc") for number, shown in enumerate(in_cxx))]
-    tally.check(len(programs) > 2, "docs/C.md has a program in C, and two in C++")
+    tally.check(len(programs) > 3, "docs/C.md has two programs in C, and two in C++")
     for shown, compiler, name in programs:
         if not tally.check(shown is not None, f"docs/C.md has no program with its output for {name}") or shown is None:
             continue

@@ -26,8 +26,8 @@ This page is the reference of the Python package `ploverchaise`, for Python prog
 examples by task. `tools/python_reference.py --write` takes the text from the docstrings, and CI compares the page and runs the examples.
 
 A **MOC** (Multi-Order Coverage map, [MOC 2.0](https://www.ivoa.net/documents/MOC/)) is a set of
-[HEALPix](https://healpix.sourceforge.io/) cells. A **pixel** is a cell of order 29, by its nested number. n is the number of ranges of a
-MOC.
+[HEALPix](https://healpix.sourceforge.io/) cells. A **pixel** is a cell of order 29, by its nested number. If a description does not state
+otherwise, n is the number of ranges of the MOC.
 
 ## Contents
 
@@ -93,7 +93,11 @@ def entries() -> list[Entry]:
             function = members_of("", body)[name]
             functions.append(Entry(name, signature_of(name, function), 2, ast.get_docstring(function) or ""))
             continue
-        classes.append(Entry(name, "", 2, ast.get_docstring(definition) or ""))
+        docstring = ast.get_docstring(definition) or ""
+        constructors = [node for node in definition.body if isinstance(node, ast.FunctionDef) and node.name == "__init__"]
+        has_arguments = "\nParameters\n" in docstring
+        signature = signature_of(f"{name}.__init__", constructors[0]).replace(".__init__", "") if has_arguments else ""
+        classes.append(Entry(name, signature, 2, docstring))
         members = members_of(f"{name}.", definition.body)
         classes += [Entry(path, signature_of(path, node), 3, ast.get_docstring(node) or "") for path, node in members.items()]
     return [*classes, *functions]
