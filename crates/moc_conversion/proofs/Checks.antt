@@ -9,7 +9,10 @@ use Rattle.moc_forms.specs.declared.finding.FormatChoice.{FormatChoice}
 use Rattle.moc_forms.specs.declared.format.Format.{Format}
 use Rattle.moc_forms.specs.declared.format.Format.TheVariants.{Ascii, Json, Uniq}
 use Rattle.moc_forms.specs.declared.format.FormatError.{FormatError}
-use Rattle.moc_conversion.specs.Conversion.{IsAll, IsNotConverted, FailsParsing, ReportsError, conversion_limit, input_limit}
+use Rattle.moc_forms.specs.Combining.{TextRepresents}
+use Rattle.moc_forms.specs.declared.combining.ParsedCoverage.{ParsedCoverage}
+use Rattle.moc_conversion.specs.Conversion.{IsAll, IsNotConverted, FailsParsing, FailsText, MakesFromInput, MakesFromText, ReportsError}
+use Rattle.moc_conversion.specs.Conversion.{conversion_limit, input_limit}
 use Rattle.moc_conversion.specs.declared.error.InputError.{InputError}
 use Rattle.moc_conversion.specs.declared.error.InputError.TheVariants.{ConvertedText, Memory}
 
@@ -32,6 +35,12 @@ pub of_input : (choice : FormatChoice) (source source' : SourceState) (given : L
 of_input choice source source' given e whole (inl memory) = inl (inr (inr memory))
 of_input choice source source' given e whole (inr reports) = inr (all_of input_limit (λ text. ReportsError (format_for choice text) text None e) source source' given whole reports)
 
+-- what is made from the text is made from the input
+pub made_from_input : (limit : ℕ) (makes : ParsedCoverage → List ℕ → Type 0) (choice : FormatChoice) (source source' : SourceState) (given text : List ℕ)
+    → IsWhole limit source source' given → MakesFromText makes choice given text → MakesFromInput limit makes choice source source' text
+made_from_input limit makes choice source source' given text whole (parsed, represents, is) =
+    (parsed, all_of limit (λ bytes. TextRepresents choice bytes parsed) source source' given whole represents, is)
+
 -- the error of a text is the reason that its input is not converted
 pub not_read : (format : Format) (source source' : SourceState) (given : List ℕ) (error : FormatError) (e : InputError) → IsWhole conversion_limit source source' given
     → (IsTrue (is_memory error) → e ≡ Memory) → (e ≡ Memory) ⊎ (e ≡ ConvertedText error) → FormatFails format given error → IsNotConverted format source source' e
@@ -50,6 +59,12 @@ pub no_memory : {T : Type 0} (r : Result T InputError) (choice : FormatChoice) (
     → IsErrAnd r (λ e. e ≡ Memory) → IfErr r (FailsParsing choice source source')
 no_memory (Ok v) choice source source' memory = tt
 no_memory (Err e) choice source source' memory = inl (inr (inr memory))
+
+-- an allocation failure for what is made from a text
+pub no_memory_of_text : {T : Type 0} (r : Result T InputError) (choice : FormatChoice) (text : List ℕ)
+    → IsErrAnd r (λ e. e ≡ Memory) → IfErr r (FailsText choice text)
+no_memory_of_text (Ok v) choice text memory = tt
+no_memory_of_text (Err e) choice text memory = inl memory
 
 -- an allocation failure for what is converted from an input
 pub no_memory_converting : {T : Type 0} (r : Result T InputError) (format : Format) (source source' : SourceState)

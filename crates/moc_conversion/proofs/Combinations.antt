@@ -1,6 +1,6 @@
 -- How a combination changes with the bytes that it processes.
-use Rattle.std.proofs.Common.{◌≡◌, ◌≤◌, ◌<◌, ◌+◌, ◌-◌, ◌∙◌, ◌⊎◌, inl, inr, ℕ, zero, suc, Bool, true, false, List, [], ◌∷◌, ◌++◌, Option, None, Some, arith, length, refl, sym, ap, subst, append_assoc, append-nil, length-append}
-use Rattle.std.specs.Prelude.{if◌then◌else◌, slice_index_or}
+use Rattle.std.proofs.Common.{◌≡◌, ◌≤◌, ◌<◌, ◌+◌, ◌-◌, ◌∙◌, ◌⊎◌, inl, inr, ℕ, zero, suc, Bool, true, false, List, [], ◌∷◌, ◌++◌, Option, None, Some, Result, Ok, Err, arith, length, refl, sym, ap, subst, append_assoc, append-nil, length-append}
+use Rattle.std.specs.Prelude.{if◌then◌else◌, slice_index_or, IfErr, IsErrAnd}
 use Rattle.std.specs.List.{AllByRecursion, onto_first}
 use Rattle.std.proofs.lemmas.List.Elements.{All-append, All-head, All-tail}
 use Rattle.std.proofs.lemmas.List.Splits.{slice_split-cons_no, slice_split_at, slice_split_none, length-slice_split}
@@ -13,7 +13,7 @@ use Rattle.moc_text.specs.Lines.{is_semicolon, pieces_of}
 use Rattle.moc_forms.specs.Finding.{format_for}
 use Rattle.moc_forms.specs.declared.combining.Operation.{Operation}
 use Rattle.moc_forms.specs.declared.finding.FormatChoice.{FormatChoice}
-use Rattle.moc_conversion.specs.Combining.{IsLongPiece, IsNotCombined, count_limit, FailsReadingTexts, IsInputCombination, ReportsFirstError}
+use Rattle.moc_conversion.specs.Combining.{FailsCombining, IsLongPiece, IsNotCombined, count_limit, FailsReadingTexts, IsInputCombination, ReportsFirstError}
 use Rattle.moc_conversion.specs.Private.Pieces.{ReadsPiece, HasNoSemicolon, semicolon}
 use Rattle.moc_conversion.specs.Conversion.{ReportsError, input_limit}
 use Rattle.moc_conversion.specs.Private.Running.{AreRejected, BeginsCombination, EndsCombination, FailsCombination, FailsWithin, IsLong, IsOpen, Processes, CombinesNext, RunsTo, TextsCombine, texts_after}
@@ -308,6 +308,28 @@ module _ (operation : Operation) (choice : FormatChoice) (c : Combination) (begi
       subst (λ n. ReportsFirstError n choice (texts_of bytes) error) begins.number
       (subst (λ f. ReportsFirstError c.number f (texts_of bytes) error) begins.chooses
       (subst (λ texts. ReportsFirstError c.number c.choice texts error) (begins_texts bytes) fails))
+
+-- why a combination of all bytes failed
+module _ (operation : Operation) (choice : FormatChoice) (c : Combination) (begins : BeginsCombination operation choice c) (bytes : List ℕ) where
+  -- while the bytes were processed
+  pub fails_processing : (error : InputError) → AreRejected c bytes error ⊎ FailsWithin c bytes error → FailsCombining choice bytes error
+  fails_processing error (inl (inl memory)) = inl memory
+  fails_processing error (inl (inr (number, reports, long))) =
+      inr (inl (number, reports, longer_from_1 operation choice c begins bytes number (subst (λ all. IsLong c all number) (append-nil bytes) (long []))))
+  fails_processing error (inr fails) =
+      inr (inr (subst (λ all. ReportsFirstError 1 choice (texts_of all) error) (append-nil bytes) (fails_from_1 operation choice c begins (bytes ++ []) error (fails []))))
+
+  -- after the last byte
+  pub fails_finishing : (d : Combination) (error : InputError) → Processes c bytes d → (error ≡ Memory) ⊎ FailsCombination d [] error → FailsCombining choice bytes error
+  fails_finishing d error processes (inl memory) = inl memory
+  fails_finishing d error processes (inr fails) =
+      inr (inr (subst (λ all. ReportsFirstError 1 choice (texts_of all) error) (append-nil bytes) (fails_from_1 operation choice c begins (bytes ++ []) error (processes.fails [] error fails))))
+
+-- an allocation failure for what is made from the texts of bytes
+pub no_memory_combining : {T : Type 0} (r : Result T InputError) (choice : FormatChoice) (bytes : List ℕ)
+    → IsErrAnd r (λ e. e ≡ Memory) → IfErr r (FailsCombining choice bytes)
+no_memory_combining (Ok v) choice bytes memory = tt
+no_memory_combining (Err e) choice bytes memory = inl memory
 
 -- the piece that was read into an empty buffer
 module _ (source source' : SourceState) (old new : List ℕ) (some : Bool) (bare : old ≡ []) (brings : ReadsPiece source old source' new some) where

@@ -9,7 +9,7 @@ use Rattle.moc_text.specs.Lemmas.Depths.{HasMaxOrder, not_too_coarse, ascii_dept
 use Rattle.moc_text.specs.Lemmas.Depths.{intersection_depth}
 use Rattle.moc_text.specs.Lemmas.Depths.{difference_depth, symmetric_depth, complement_depth, degrade_depth}
 use Rattle.moc_forms.specs.Changing.{changed_order, changed_set}
-use Rattle.moc_forms.specs.Combining.{CombinesTexts, TextRepresents, set_of_two, combine_next, texts_of}
+use Rattle.moc_forms.specs.Combining.{Combines, CombinesTexts, TextRepresents, set_of_two, combine_next, texts_of}
 use Rattle.moc_forms.specs.declared.combining.ParsedCoverage.{ParsedCoverage}
 use Rattle.std.specs.Option.{option_map_or}
 use Rattle.moc_forms.specs.Finding.{first_nonblank_byte}
@@ -23,7 +23,6 @@ use Rattle.moc_forms.specs.declared.finding.FormatChoice.TheVariants.{Auto, Name
 use Rattle.moc_forms.specs.declared.format.Format.{Format}
 use Rattle.moc_forms.specs.declared.format.Format.TheVariants.{Ascii, Json, Uniq}
 use Rattle.moc_conversion.specs.Combining.{IsInputCombination}
-use Rattle.moc_conversion.specs.Conversion.{InputRepresents, input_limit}
 
 -- a set has its depth, or states no order, as a NUNIQ list
 abbrev IsFit : Format → NumberSet → Option ℕ → Type 0
@@ -59,9 +58,9 @@ change_fit Complement Json a k fit = complement_depth a k fit
 change_fit Complement Uniq a k fit = fit
 
 -- and so can a change of it
-pub change_written : (change : Change) (choice : FormatChoice) (source source' : SourceState) (parsed : ParsedCoverage)
-    → InputRepresents input_limit choice source source' parsed → IsTooCoarse (changed_set change parsed.set) (changed_order change parsed.moc_order) → ⊥
-change_written change choice source source' parsed (text, delivers, (end, within, represents)) =
+pub change_written : (change : Change) (choice : FormatChoice) (text : List ℕ) (parsed : ParsedCoverage)
+    → TextRepresents choice text parsed → IsTooCoarse (changed_set change parsed.set) (changed_order change parsed.moc_order) → ⊥
+change_written change choice text parsed represents =
     fit_written parsed.format _ _ (change_fit change parsed.format parsed.set parsed.moc_order (text_fit parsed.format text parsed.set parsed.moc_order represents.0))
 
 -- ---- texts together
@@ -128,8 +127,14 @@ format_fits_set : (choice : FormatChoice) (parsed : ParsedCoverage) → AreFit c
 format_fits_set Auto parsed fit = not_too_coarse parsed.set parsed.moc_order fit
 format_fits_set (Named format) parsed fit = fit_written format parsed.set parsed.moc_order fit
 
--- the combination of texts can be written
+-- the combination of the texts of bytes can be written
+pub combined_written : (operation : Operation) (choice : FormatChoice) (bytes : List ℕ) (parsed : ParsedCoverage)
+    → Combines operation choice bytes parsed → IsTooCoarse parsed.set parsed.moc_order → ⊥
+combined_written operation choice bytes parsed combines =
+    format_fits_set choice parsed (texts_fit operation choice None (texts_of bytes) (Some parsed) tt combines)
+
+-- and so can that of the texts of an input
 pub together_written : (operation : Operation) (choice : FormatChoice) (source source' : SourceState) (parsed : ParsedCoverage)
     → IsInputCombination operation choice source source' parsed → IsTooCoarse parsed.set parsed.moc_order → ⊥
 together_written operation choice source source' parsed (given, consumed, (at_end, within, combines)) =
-    format_fits_set choice parsed (texts_fit operation choice None (texts_of given) (Some parsed) tt combines)
+    combined_written operation choice given parsed combines

@@ -26,6 +26,12 @@ CombinesAll operation choice source source' text =
     (parsed : ParsedCoverage) × IsInputCombination operation choice source source' parsed
     × (text ≡ format_text parsed.format parsed.set parsed.moc_order)
 
+-- the text of the combination of the texts of bytes, in the format of the first, with the deepest of their MOC orders
+abbrev pub CombinesTextsOf : Operation → FormatChoice → List ℕ → List ℕ → Type 0
+CombinesTextsOf operation choice bytes text =
+    (parsed : ParsedCoverage) × Combines operation choice bytes parsed
+    × (text ≡ format_text parsed.format parsed.set parsed.moc_order)
+
 -- of texts that are counted from a number on, the error is that of the first invalid one, with its number
 pub record ReportsFirstError (number : ℕ) (choice : FormatChoice) (texts : List (List ℕ)) (e : InputError)
     : Type 0 where
@@ -61,3 +67,11 @@ FailsReadingTexts source source' e =
 abbrev pub IsNotCombined : FormatChoice → SourceState → SourceState → InputError → Type 0
 IsNotCombined choice source source' e =
     FailsReadingTexts source source' e ⊎ ReportsInvalidText choice source source' e
+
+-- why the texts of bytes were not combined: an allocation failed; or the text whose number is reported is too long, or
+-- there are at least `count_limit` bytes; or a text is invalid, and its error is reported
+abbrev pub FailsCombining : FormatChoice → List ℕ → InputError → Type 0
+FailsCombining choice bytes e =
+    (e ≡ input.Memory)
+    ⊎ ((number : ℕ) × (e ≡ input.TooLong (Some number)) × (IsLongPiece number bytes ⊎ (count_limit ≤ length bytes)))
+    ⊎ ReportsFirstError 1 choice (texts_of bytes) e

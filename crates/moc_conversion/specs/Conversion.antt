@@ -54,17 +54,27 @@ abbrev pub MakesFromInput :
 MakesFromInput limit makes choice source source' text =
     (parsed : ParsedCoverage) × InputRepresents limit choice source source' parsed × makes parsed text
 
+-- the text is made from the coverage that bytes represent in the chosen format
+abbrev pub MakesFromText : (ParsedCoverage → List ℕ → Type 0) → FormatChoice → List ℕ → List ℕ → Type 0
+MakesFromText makes choice bytes text =
+    (parsed : ParsedCoverage) × TextRepresents choice bytes parsed × makes parsed text
+
+-- the text of a coverage in a format, with the MOC order that it states
+abbrev pub IsConversion : Format → ParsedCoverage → List ℕ → Type 0
+IsConversion to parsed text = text ≡ format_text to parsed.set parsed.moc_order
+
+-- the text, in the same format, of a change of a coverage, with the MOC order that is stated for the result
+abbrev pub IsChange : Change → ParsedCoverage → List ℕ → Type 0
+IsChange change parsed text =
+    text ≡ format_text parsed.format (changed_set change parsed.set) (changed_order change parsed.moc_order)
+
 -- the text in one format of the coverage that the input is in the other, with the MOC order that it states
 abbrev pub ConvertsAll : Format → Format → SourceState → SourceState → List ℕ → Type 0
-ConvertsAll from to =
-    MakesFromInput conversion_limit (λ parsed text. text ≡ format_text to parsed.set parsed.moc_order) (Named from)
+ConvertsAll from to = MakesFromInput conversion_limit (IsConversion to) (Named from)
 
--- the text, in the same format, of a change of the coverage of the input, with the MOC order that is stated for the
--- result
+-- the text, in the same format, of a change of the coverage of the input
 abbrev pub ChangesAll : Change → FormatChoice → SourceState → SourceState → List ℕ → Type 0
-ChangesAll change =
-    MakesFromInput input_limit (λ parsed text.
-    text ≡ format_text parsed.format (changed_set change parsed.set) (changed_order change parsed.moc_order))
+ChangesAll change = MakesFromInput input_limit (IsChange change)
 
 -- the text has the statistics of the coverage of the input
 abbrev pub DescribesAll : FormatChoice → SourceState → SourceState → List ℕ → Type 0
@@ -99,6 +109,10 @@ pub record ReportsError (format : Format) (text : List ℕ) (number : Option ℕ
   pub diagnostic : Diagnostic
   pub diagnoses : Diagnoses format text error diagnostic
   pub reported : e ≡ input.Text number diagnostic
+
+-- why bytes are not a coverage in the chosen format: an allocation failed, or they have this error at this position
+abbrev pub FailsText : FormatChoice → List ℕ → InputError → Type 0
+FailsText choice text e = (e ≡ input.Memory) ⊎ ReportsError (format_for choice text) text None e
 
 -- the input was not read to its end: the reader failed, or the input is longer than a limit, or an allocation failed
 abbrev pub FailsReading : ℕ → SourceState → SourceState → InputError → Type 0

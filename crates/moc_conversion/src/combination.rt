@@ -2,7 +2,8 @@
 ghost use Rattle.std.specs.Prelude.{◌≡◌, ◌≢◌, ◌↔◌, ◌⊎◌, [], false, IfErr, IfOk, IsErrOf, IsTrue, OnOk, Some};
 ghost use Rattle.std.specs.String.{string_bytes};
 ghost use Rattle.moc_forms.specs.Finding.{format_for};
-ghost use Rattle.moc_conversion.specs.Combining.{CombinesAll, IsInputCombination, IsNotCombined};
+ghost use Rattle.moc_conversion.specs.Combining.{CombinesAll, CombinesTextsOf, FailsCombining};
+ghost use Rattle.moc_conversion.specs.Combining.{IsInputCombination, IsNotCombined};
 ghost use Rattle.moc_conversion.specs.Conversion.{ReportsError};
 ghost use Rattle.moc_conversion.specs.Private.Pieces.{HasNoSemicolon, semicolon};
 ghost use Rattle.moc_conversion.specs.Private.Running.{AreRejected, BeginsCombination, EndsCombination};
@@ -10,7 +11,7 @@ ghost use Rattle.moc_conversion.specs.Private.Running.{FailsCombination, FailsWi
 ghost use Rattle.moc_conversion.specs.Private.Running.{CombinesNext};
 
 use crate::error::InputError;
-use crate::parsing::{parse_or_diagnose, text_of};
+use crate::parsing::{parse_text, text_of};
 use crate::reading::{INPUT_LIMIT, buffer, read_chunk, split_at_semicolon};
 use moc_devices::Source;
 use moc_forms::{FormatChoice, Operation, ParsedCoverage, is_blank};
@@ -80,7 +81,7 @@ impl Combination {
             ⊎ ReportsError (format_for self.now.choice self.now.text.items) self.now.text.items
             (Some self.now.number) e) }
     {
-        let parsed = parse_or_diagnose(alloc, self.choice, &self.text, Some(self.number))?;
+        let parsed = parse_text(alloc, self.choice, &self.text, Some(self.number))?;
         Ok(self.operation.combine(alloc, before, parsed)?)
     }
 
@@ -192,5 +193,30 @@ pub fn combine_input<R: Source>(
         CombinesAll operation choice (R.reading input.old) (R.reading input.new) (string_bytes t)) }
 {
     let parsed = read_texts(alloc, operation, choice, input)?;
+    Ok(text_of(alloc, parsed.format, &parsed.set, parsed.moc_order)?)
+}
+
+/// Combines the texts that the semicolons of a text separate, as [`combine_input`] does.
+///
+/// # Errors
+/// Fails with `TooLong` if one of them has more than 1 GiB, with the first error of a text, or with `Memory`.
+///
+/// # Complexity
+/// As `combine_input`.
+///
+/// # Memory
+/// As `combine_input`.
+pub fn combine_texts(
+    alloc: Global,
+    operation: Operation,
+    choice: FormatChoice,
+    text: &[u8],
+) -> Result<String, InputError>
+    ensures error { IfErr result (FailsCombining choice text.now) }
+    ensures combines { IfOk result (λ t. CombinesTextsOf operation choice text.now (string_bytes t)) }
+{
+    let mut texts = Combination::new(alloc, operation, choice);
+    texts.push_bytes(alloc, text)?;
+    let parsed = texts.finish(alloc)?;
     Ok(text_of(alloc, parsed.format, &parsed.set, parsed.moc_order)?)
 }

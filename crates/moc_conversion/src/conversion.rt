@@ -1,12 +1,13 @@
-//! Conversion, description, change and check of the coverage of an input.
-ghost use Rattle.std.specs.Prelude.{◌≡◌, ◌↔◌, false, IfErr, IfOk, IsErrOf, IsTrue, OnOk};
+//! Conversion, description, change and check of the coverage of an input or a text.
+ghost use Rattle.std.specs.Prelude.{◌≡◌, ◌≢◌, ◌↔◌, false, IfErr, IfOk, IsErrOf, IsTrue, OnOk};
 ghost use Rattle.std.specs.String.{string_bytes};
-ghost use Rattle.moc_conversion.specs.Conversion.{ChangesAll, ConvertsAll, DescribesAll};
-ghost use Rattle.moc_conversion.specs.Conversion.{IsNotConverted, FailsParsing, IsValidInput};
+ghost use Rattle.moc_conversion.specs.Conversion.{ChangesAll, ConvertsAll, DescribesAll, FailsText, IsChange};
+ghost use Rattle.moc_conversion.specs.Conversion.{IsConversion, IsNotConverted, FailsParsing, IsValidInput};
+ghost use Rattle.moc_conversion.specs.Conversion.{MakesFromText};
 
 use crate::error::InputError;
-use crate::parsing::{parse_input, text_of};
-use crate::reading::{CONVERSION_LIMIT, read_whole};
+use crate::parsing::{parse_input, parse_text, text_of};
+use crate::reading::{CONVERSION_LIMIT, INPUT_LIMIT, read_whole};
 use moc_devices::Source;
 use moc_forms::{Change, Format, FormatChoice, describe};
 use std::alloc::Global;
@@ -43,6 +44,29 @@ pub fn convert_input<R: Source>(
         Ok((set, moc_order)) => Ok(text_of(alloc, to, &set, moc_order)?),
         Err(error) => Err(InputError::of_conversion(error)),
     }
+}
+
+/// Converts the coverage of a text to another format. States the MOC order that the text states.
+///
+/// # Errors
+/// Fails with the first error of the text and its position, or with `Memory`.
+///
+/// # Complexity
+/// As `convert_input`.
+///
+/// # Memory
+/// Linear in the length of the text and the output.
+pub fn convert_text(
+    alloc: Global,
+    choice: FormatChoice,
+    to: Format,
+    text: &[u8],
+) -> Result<String, InputError>
+    ensures error { IfErr result (FailsText choice text.now) }
+    ensures converts { IfOk result (λ t. MakesFromText (IsConversion to) choice text.now (string_bytes t)) }
+{
+    let parsed = parse_text(alloc, choice, text, None)?;
+    Ok(text_of(alloc, to, &parsed.set, parsed.moc_order)?)
 }
 
 /// Returns the statistics of the coverage of the input.
@@ -99,7 +123,32 @@ pub fn change_input<R: Source>(
     ensures changes { IfOk result (λ t.
         ChangesAll change choice (R.reading input.old) (R.reading input.new) (string_bytes t)) }
 {
-    let parsed = parse_input(alloc, choice, input)?;
+    let text = read_whole(alloc, INPUT_LIMIT, input)?;
+    change_text(alloc, change, choice, &text)
+}
+
+/// Changes the coverage of a text. Returns the text of the result in the format in which the text was read, with the
+/// MOC order that `Change::order_to_state` returns.
+///
+/// # Errors
+/// Fails with the first error of the text and its position, or with `Memory`.
+///
+/// # Complexity
+/// As `change_input`.
+///
+/// # Memory
+/// Linear in the length of the text and the output.
+pub fn change_text(
+    alloc: Global,
+    change: Change,
+    choice: FormatChoice,
+    text: &[u8],
+) -> Result<String, InputError>
+    ensures device { IfErr result (λ e. e ≢ InputError.Read) }
+    ensures error { IfErr result (FailsText choice text.now) }
+    ensures changes { IfOk result (λ t. MakesFromText (IsChange change) choice text.now (string_bytes t)) }
+{
+    let parsed = parse_text(alloc, choice, text, None)?;
     let after = change.apply(alloc, &parsed.set)?;
     Ok(text_of(
         alloc,

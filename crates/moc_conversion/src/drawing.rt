@@ -7,7 +7,7 @@ ghost use Rattle.moc_conversion.specs.Conversion.{DrawsAll, IsNotDrawn};
 ghost use Rattle.moc_conversion.specs.Conversion.{IsPictureOf, ReportsFirstOfTexts, second_text};
 
 use crate::error::InputError;
-use crate::parsing::parse_or_diagnose;
+use crate::parsing::parse_text;
 use crate::reading::{INPUT_LIMIT, read_whole, split_at_semicolon};
 use moc_devices::Source;
 use moc_forms::{FormatChoice, PictureNames, draw, draw_two, is_blank};
@@ -43,8 +43,18 @@ pub fn draw_input<R: Source>(
     draw_texts(alloc, choice, names, &text)
 }
 
-/// Returns the picture of one text, or of two. Fails with the first error of the first invalid text.
-fn draw_texts(
+/// Returns the picture of the coverage of a text, or of the two coverages that its first semicolon separates, with names
+/// of the coverages as for [`draw_input`].
+///
+/// # Errors
+/// Fails with the first error of the first invalid text, or with `Memory`.
+///
+/// # Complexity
+/// As `draw_input`.
+///
+/// # Memory
+/// Linear in the length of the text and the output.
+pub fn draw_texts(
     alloc: Global,
     choice: FormatChoice,
     names: PictureNames<'_>,
@@ -58,11 +68,11 @@ fn draw_texts(
 {
     let (first, second) = picture_texts(text);
     let Some(second) = second else {
-        let parsed = parse_or_diagnose(alloc, choice, first, None)?;
+        let parsed = parse_text(alloc, choice, first, None)?;
         return Ok(draw(alloc, &parsed.set, names.first)?);
     };
-    let one = parse_or_diagnose(alloc, choice, first, Some(1))?;
-    let other = parse_or_diagnose(alloc, choice, second, Some(2))?;
+    let one = parse_text(alloc, choice, first, Some(1))?;
+    let other = parse_text(alloc, choice, second, Some(2))?;
     Ok(draw_two(alloc, &one.set, &other.set, names)?)
 }
 

@@ -16,9 +16,18 @@ use moc_sphere::Order;
 use moc_text::WriteError;
 use std::alloc::Global;
 
-/// Parses a text in the chosen format. Fails with a diagnostic of the first error and its position. If texts are
-/// counted, `number` is the number of this text and the error states it.
-pub(crate) fn parse_or_diagnose(
+/// Parses a text in the chosen format. If the caller counts texts, `number` is the number of this text, and an error
+/// states it.
+///
+/// # Errors
+/// Fails with the first error of the text and its position, or with `Memory`.
+///
+/// # Complexity
+/// Time of the format's reader, and of `Diagnostic::new` for an error.
+///
+/// # Memory
+/// Linear in the length of the text.
+pub fn parse_text(
     alloc: Global,
     choice: FormatChoice,
     text: &[u8],
@@ -72,5 +81,5 @@ pub(crate) fn parse_input<R: Source>(
     ensures represents { IfOk result (InputRepresents input_limit choice (R.reading input.old) (R.reading input.new)) }
 {
     let text = read_whole(alloc, INPUT_LIMIT, input)?;
-    parse_or_diagnose(alloc, choice, &text, None)
+    parse_text(alloc, choice, &text, None)
 }

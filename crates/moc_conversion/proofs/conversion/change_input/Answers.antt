@@ -1,26 +1,16 @@
-use Rattle.std.proofs.Common.{◌∙◌, ℕ, Option, ap₂, subst₂}
-use Rattle.moc_lists.specs.RangeList.{NumberSet}
-use Rattle.moc_text.specs.AsciiText.{IsTooCoarse}
-use Rattle.moc_forms.specs.Formats.{format_text}
-use Rattle.moc_conversion.proofs.Checks.{no_memory}
-use Rattle.moc_conversion.proofs.Depths.{change_written}
+use Rattle.std.proofs.Common.{ℕ, List, subst}
+use Rattle.std.specs.Prelude.{string_bytes}
+use Rattle.std.proofs.lemmas.Result.{IfErr-weaker, IfOk-weaker}
+use Rattle.moc_conversion.specs.Conversion.{FailsText, IsChange, MakesFromText, input_limit}
+use Rattle.moc_conversion.proofs.Checks.{made_from_input, of_input}
 use Rattle.moc_conversion.proofs.conversion.change_input.Goals as goal
 
-pub text_of-requires : goal.text_of-requires
-text_of-requires g c = record {
-  fits = λ coarse.
-      change_written c.args.change c.args.choice _ _ c.in_ok-parsed.parsed
-      c.in_ok-parsed.ensures.represents
-      (subst₂ (λ (a : NumberSet) (k : Option ℕ). IsTooCoarse a k) c.in_ok-after.ensures.set c.order_to_state.ensures.order coarse);
-}
-
 pub returns-clause-changes : goal.returns-clause-changes
-returns-clause-changes g c = (
-  c.in_ok-parsed.parsed,
-  c.in_ok-parsed.ensures.represents,
-  c.in_ok-text_of.ensures.text ∙ ap₂ (format_text c.in_ok-parsed.parsed.format) c.in_ok-after.ensures.set c.order_to_state.ensures.order,
-)
+returns-clause-changes g c = IfOk-weaker c.change_text.result _ _ (λ t changes.
+    made_from_input input_limit (IsChange c.args.change) c.args.choice _ _ c.in_ok-text.text.items (string_bytes t) c.in_ok-text.ensures.whole
+    (subst (λ (bytes : List ℕ). MakesFromText (IsChange c.args.change) c.args.choice bytes (string_bytes t)) c.deref.ensures.value changes)) c.change_text.ensures.changes
 
-pub returns-in_err-text_of-clause-error : goal.returns-in_err-text_of-clause-error
-returns-in_err-text_of-clause-error g c =
-    no_memory c.from_residual-in_err-text_of.result c.args.choice _ _ c.from_residual-in_err-text_of.ensures.1
+pub returns-clause-error : goal.returns-clause-error
+returns-clause-error g c = IfErr-weaker c.change_text.result _ _ (λ e fails.
+    of_input c.args.choice _ _ c.in_ok-text.text.items e c.in_ok-text.ensures.whole
+    (subst (λ (bytes : List ℕ). FailsText c.args.choice bytes e) c.deref.ensures.value fails)) c.change_text.ensures.error
