@@ -3,8 +3,9 @@ ghost use Rattle.std.specs.Prelude.{◌≡◌, IfOk};
 ghost use Rattle.moc_conversion.specs.Errors.{input_error_text};
 ghost use Rattle.moc_web.specs.Results.{Fills, Finishes, IsReported, bad_number, done, job_result};
 
+use crate::text_sink::TextSink;
 use moc_conversion::InputError;
-use moc_devices::{DeviceFault, OverWriter};
+use moc_devices::DeviceFault;
 use std::alloc::Global;
 
 /// The output is in the buffer.
@@ -97,7 +98,8 @@ pub(crate) fn fill_report(report: Result<Vec<u8>, DeviceFault>, buffer: &mut [u8
 fn report_of(alloc: Global, error: &InputError) -> Result<Vec<u8>, DeviceFault>
     ensures { IfOk result (λ text. text.items ≡ input_error_text error.now) }
 {
-    let mut text = Vec::new(alloc);
-    error.report(&mut OverWriter::new(&mut text))?;
+    let mut sink = TextSink::new(alloc);
+    error.report(&mut sink)?;
+    let TextSink { text, .. } = sink;
     Ok(text)
 }

@@ -36,12 +36,7 @@ pub extern "C" fn web_examine(
 /// Writes the picture of a text, or of the two texts that its first semicolon separates.
 #[unsafe(no_mangle)]
 #[tactic(auto, using(crate::proofs::Outputs::outputs))]
-pub extern "C" fn web_draw(
-    alloc: Global,
-    format: u32,
-    text: &[u8],
-    buffer: &mut [u8],
-) -> JobResult
+pub extern "C" fn web_draw(alloc: Global, format: u32, text: &[u8], buffer: &mut [u8]) -> JobResult
     ensures { ForMeaning (choice_with_number format)
         (λ choice. Outputs (Draws choice text.now) (FailsDrawing choice text.now)) buffer.old buffer.new result }
 {

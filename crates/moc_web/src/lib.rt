@@ -13,3 +13,4 @@ mod job_result;
 mod jobs;
 mod measuring;
 mod scripts;
+mod text_sink;

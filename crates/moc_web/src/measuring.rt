@@ -1,18 +1,20 @@
 //! A cell, and the part of it that a coverage has.
-ghost use Rattle.std.specs.Prelude.{◌≡◌, ◌∷◌, ◌≤◌, [], IfErr, IfOk};
+ghost use Rattle.std.specs.Prelude.{◌≡◌, codes, IfErr, IfOk};
+ghost use Rattle.std.specs.Fmt.{WritesOnOk};
 ghost use Rattle.std.specs.String.{string_bytes};
-ghost use Rattle.moc_sphere.specs.CellNumber.{CellNumber, cell_size};
 ghost use Rattle.moc_conversion.specs.Conversion.{FailsText, MakesFromText};
-ghost use Rattle.moc_web.specs.Jobs.{Measures, cell_lines, cell_with_numbers, share_of_cell};
+ghost use Rattle.moc_forms.specs.Describing.{decimal_fraction};
+ghost use Rattle.moc_web.specs.Jobs.{Measures, cell_with_numbers, number_line, share_of_cell};
 
 use crate::choices::order_of;
 use moc_conversion::{InputError, parse_text};
 use moc_forms::FormatChoice;
 use moc_sphere::{Cell, Order};
-use std::alloc::{AllocError, Global};
+use std::alloc::Global;
+use std::fmt;
 
 /// A whole cell in parts of 10^12.
-const WHOLE: u64 = 1_000_000_000_000;
+const WHOLE: u128 = 1_000_000_000_000;
 
 /// Returns the cell with an order and an index, or `None` if there is none.
 pub(crate) fn cell_of(order: u32, index: u64) -> Option<Cell>
@@ -32,26 +34,45 @@ pub(crate) fn measure(
     ensures measures { IfOk result (λ t. MakesFromText (Measures cell) choice text.now (string_bytes t)) }
 {
     let parsed = parse_text(alloc, choice, text, None)?;
-    Ok(lines_of(alloc, cell, parsed.set.count_cell(cell))?)
+    let part = CellPart {
+        cell,
+        pixels: parsed.set.count_cell(cell),
+    };
+    Ok(format!(in alloc; "{part}")?)
 }
 
-/// Returns the lines of a cell and of a number of its pixels.
-fn lines_of(alloc: Global, cell: Cell, pixels: u64) -> Result<String, AllocError>
-    requires { pixels ≤ cell_size cell.order }
-    ensures { IfOk result (λ t. string_bytes t ≡ cell_lines cell pixels) }
+/// A cell, and the number of its pixels in a coverage. `Display` writes the ring number of the cell, this number, and
+/// their share of the cell with twelve digits after the point, one a line.
+#[derive(Clone, Copy)]
+struct CellPart {
+    cell: Cell,
+    pixels: u64,
+}
+
+impl fmt::Display for CellPart {
+    ghost use Rattle.std.specs.Prelude.{Some};
+    ghost use Rattle.moc_web.specs.Jobs.{cell_lines};
+
+    ghost output = { λ part. Some (cell_lines part.cell part.pixels) };
+
+    fn fmt<W: fmt::Write>(&self, f: &mut fmt::Formatter<W>) -> fmt::Result {
+        writeln!(f, "ring {}", self.cell.ring())?;
+        writeln!(f, "pixels {}", self.pixels)?;
+        write_share(f, share_of(self.cell.order(), self.pixels))
+    }
+}
+
+/// Writes the line of a share in parts of 10^12.
+fn write_share<W: fmt::Write>(f: &mut fmt::Formatter<W>, parts: u128) -> fmt::Result
+    ensures { WritesOnOk W.write_str_gives f.old result
+        (number_line (codes "share ") (decimal_fraction 12 parts)) f.new }
 {
-    let share = share_of(cell.order(), pixels);
-    format!(
-        in alloc;
-        "ring {}\npixels {pixels}\nshare {}.{:012}\n", cell.ring(), share / WHOLE, share % WHOLE
-    )
+    writeln!(f, "share {}.{:012}", parts / WHOLE, parts % WHOLE)
 }
 
 /// Returns the share of a cell of an order that a number of its pixels is, in parts of 10^12, rounded down.
-fn share_of(order: Order, pixels: u64) -> u64
-    requires { pixels ≤ cell_size order }
+fn share_of(order: Order, pixels: u64) -> u128
     ensures { result ≡ share_of_cell order pixels }
 {
-    let parts = u128::from(pixels) * u128::from(WHOLE) / u128::from(order.cell_size());
-    parts as u64
+    u128::from(pixels) * WHOLE / u128::from(order.cell_size())
 }

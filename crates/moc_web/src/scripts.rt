@@ -5,8 +5,9 @@ ghost use Rattle.moc_text.specs.Names.{fault_report};
 ghost use Rattle.moc_web.specs.Jobs.{FailsRunning, RunsScript};
 
 use crate::job_result::{JobResult, fill_done, fill_report};
+use crate::text_sink::TextSink;
 use moc_conversion::report_error;
-use moc_devices::{DeviceFault, OverReader, OverWriter};
+use moc_devices::{DeviceFault, OverReader};
 use moc_lines::{RunError, run};
 use std::alloc::Global;
 
@@ -29,12 +30,9 @@ fn replies(alloc: Global, script: &[u8]) -> Result<Vec<u8>, RunError>
     ensures replies { IfOk result (λ text. text.items ≡ answers_of script.now) }
     ensures error { IfErr result (FailsRunning script.now) }
 {
-    let mut text = Vec::new(alloc);
-    run(
-        alloc,
-        &mut OverReader::new(script),
-        &mut OverWriter::new(&mut text),
-    )?;
+    let mut sink = TextSink::new(alloc);
+    run(alloc, &mut OverReader::new(script), &mut sink)?;
+    let TextSink { text, .. } = sink;
     Ok(text)
 }
 
@@ -42,7 +40,8 @@ fn replies(alloc: Global, script: &[u8]) -> Result<Vec<u8>, RunError>
 fn report_of_run(alloc: Global, error: RunError) -> Result<Vec<u8>, DeviceFault>
     ensures { IfOk result (λ text. text.items ≡ fault_report (name_of_run_error error)) }
 {
-    let mut text = Vec::new(alloc);
-    report_error(error.name(), &mut OverWriter::new(&mut text))?;
+    let mut sink = TextSink::new(alloc);
+    report_error(error.name(), &mut sink)?;
+    let TextSink { text, .. } = sink;
     Ok(text)
 }
