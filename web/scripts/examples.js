@@ -12,7 +12,7 @@ const CAP_ROWS = 5;
 export const EXAMPLES = Object.freeze({
   footprints: {
     label: "Two overlapping footprints (ASCII)",
-    coverages: [{ text: "2/97-100 102-104\n3/380 382 386 420 424 426\n4/1685 1687 1708-1711" },
+    coverages: [{ text: "2/97-100 102-104\n3/420 424 426\n4/1685 1687" },
       { text: "2/99 102 105 107-109\n3/404 405 416-419\n4/1732-1735 1740" },],
     settings: { operation: "intersection", output: "ASCII", shown: "coverages" },
   },
