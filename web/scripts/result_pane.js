@@ -99,7 +99,7 @@ export class ResultPane {
     const bytes = this.result?.bytes ?? new Uint8Array();
     setText(this.#text, new TextDecoder().decode(bytes.subarray(0, MAX_RESULT_SHOWN)));
     this.#status.className = `status ${kind}`;
-    const note = bytes.length > MAX_RESULT_SHOWN ? ` The first ${groupDigits(MAX_SHOWN_BYTES)} bytes are shown.` : "";
+    const note = bytes.length > MAX_RESULT_SHOWN ? ` The first ${groupDigits(MAX_RESULT_SHOWN)} bytes are shown.` : "";
     setText(this.#status, message + note);
   }
 

@@ -54,14 +54,13 @@ export class LatestTask {
 
   async #run() {
     this.#isRunning = true;
-    while (this.#isRequested) {
-      this.#isRequested = false;
-      try {
-        await this.#work();
-      } finally {
-        this.#activity.end();
-      }
+    this.#isRequested = false;
+    try {
+      await this.#work();
+    } finally {
+      this.#isRunning = false;
+      if (this.#isRequested) this.#run();
+      this.#activity.end();
     }
-    this.#isRunning = false;
   }
 }

@@ -5,7 +5,7 @@ import { tmpdir } from "node:os";
 import { join } from "node:path";
 
 const OPTIONS = ["--headless=new", "--no-sandbox", "--disable-gpu", "--hide-scrollbars", "--remote-debugging-pipe", "--no-first-run",
-  "--disable-component-update", "--disable-background-networking"];
+  "--disable-component-update", "--disable-background-networking", "--disable-features=LocalNetworkAccessChecks"];
 const POLL_INTERVAL = 20;
 const TIME_LIMIT = 20_000;
 const MODIFIERS = { Alt: 1, Control: 2, Shift: 8 };

@@ -5,7 +5,10 @@
 // PAGE is the output of web/bundle.py. The environment variable CHROMIUM may name the browser. The last line printed is
 // `N passed, M failed`.
 import { spawnSync } from "node:child_process";
+import { mkdtempSync, readFileSync, rmSync, writeFileSync } from "node:fs";
 import { createServer } from "node:http";
+import { tmpdir } from "node:os";
+import { join } from "node:path";
 import { pathToFileURL } from "node:url";
 import { cellOfNumber, centre, neighbour } from "../scripts/projection.js";
 import { Browser } from "./browser.mjs";
@@ -455,31 +458,51 @@ async function testScripts() {
 
 // ---- connections
 
+// The ways to reach a server that the test tries in a page. Each has the result "sent" or "rejected".
+const CONNECTIONS = {
+  fetch: (address) => `fetch(${quote(address)}).then(() => "sent", () => "rejected")`,
+  image: (address) => connectBy("img", "src", address),
+  script: (address) => connectBy("script", "src", address),
+  frame: (address) => `(() => { const frame = document.createElement("iframe"); frame.src = ${quote(address)};
+    document.body.append(frame); return new Promise((resolve) => setTimeout(() => resolve("unknown"), 500)); })()`,
+  beacon: (address) => `(() => { navigator.sendBeacon(${quote(address)}, "text");
+    return new Promise((resolve) => setTimeout(() => resolve("unknown"), 500)); })()`,
+};
+
+function connectBy(tag, attribute, address) {
+  return `new Promise((resolve) => { const element = document.createElement("${tag}");
+    element.onload = () => resolve("sent"); element.onerror = () => resolve("rejected");
+    element.${attribute} = ${quote(address)}; document.body.append(element); })`;
+}
+
+const ANSWERS = { image: ["image/svg+xml", '<svg xmlns="http://www.w3.org/2000/svg" width="1" height="1"/>'], script: ["text/javascript", ""] };
+
+// A copy of the page without the policy must reach the server, so that the tests of the page can fail.
 async function testPolicy() {
-  let received = 0;
+  const received = new Set();
   const server = createServer((request, response) => {
-    received += 1;
-    response.setHeader("Access-Control-Allow-Origin", "*");
-    response.end("received");
+    const name = request.url.slice(1), [type, text] = ANSWERS[name] ?? ["text/plain", "received"];
+    received.add(name);
+    response.writeHead(200, { "Content-Type": type, "Access-Control-Allow-Origin": "*" }).end(text);
   });
   await new Promise((resolve) => { server.listen(0, "127.0.0.1", resolve); });
-  const address = `http://127.0.0.1:${server.address().port}/`;
-  const attempt = `fetch(${quote(address)}).then(() => "sent", () => "rejected")`;
-  await browser.goTo("data:text/html,<title>no policy</title>");
-  checkEqual([await browser.run(attempt), received], ["sent", 1], "a request without the policy");
-  await load(URL_OF_PAGE);
-  received = 0;
-  checkEqual(await browser.run(attempt), "rejected", "a request of the page");
-  const element = (tag, source) => `new Promise((resolve) => { const element = document.createElement("${tag}");
-    element.onload = () => resolve("loaded"); element.onerror = () => resolve("rejected"); element.${source} = ${quote(address)};
-    document.body.append(element); })`;
-  for (const [tag, source] of [["img", "src"], ["script", "src"]]) {
-    checkEqual(await browser.run(element(tag, source)), "rejected", `an element ${tag} of the page`);
-  }
-  const beacon = await browser.run(`(() => { navigator.sendBeacon(${quote(address)}, "text");
-    return new Promise((resolve) => setTimeout(() => resolve("done"), 300)); })()`);
-  checkEqual([beacon, received], ["done", 0], "the requests that the server received");
+  const attempt = async (url) => {
+    await load(url);
+    received.clear();
+    const results = [];
+    for (const [name, connect] of Object.entries(CONNECTIONS)) {
+      results.push(await browser.run(connect(`http://127.0.0.1:${server.address().port}/${name}`)));
+    }
+    return results;
+  };
+  const folder = mkdtempSync(join(tmpdir(), "page-test-")), copy = join(folder, "page.html");
+  writeFileSync(copy, readFileSync(PAGE, "utf8").replace(/<meta http-equiv="Content-Security-Policy"[^>]*>/, ""));
+  checkEqual(await attempt(pathToFileURL(copy).href), ["sent", "sent", "sent", "unknown", "unknown"], "the results without the policy");
+  checkEqual([...received].sort(), Object.keys(CONNECTIONS).sort(), "the requests that the server receives without the policy");
+  checkEqual(await attempt(URL_OF_PAGE), ["rejected", "rejected", "rejected", "unknown", "unknown"], "the results in the page");
+  checkEqual([...received], [], "the requests that the server receives from the page");
   server.close();
+  rmSync(folder, { recursive: true });
 }
 
 // ---- large texts
