@@ -47,7 +47,8 @@ export class CoveragePane {
     this.#client = client;
     this.#listener = listener;
     this.root = document.getElementById("coverage-template").content.cloneNode(true).firstElementChild;
-    this.#parts = Object.fromEntries([...this.root.querySelectorAll("[data-part]")].map((part) => [part.dataset.part, part]));
+    const parts = [...this.root.querySelectorAll("[data-part]")];
+    this.#parts = Object.fromEntries(parts.map((part) => [part.dataset.part, part]));
     this.#task = new LatestTask(activity, EXAMINATION_DELAY, () => this.#examine());
     this.#label();
     this.#listen();
@@ -126,7 +127,8 @@ export class CoveragePane {
   }
 
   #typed() {
-    if (this.#parts.text.value.length > MAX_SHOWN) this.content = textContent(this.#parts.text.value, this.content.format);
+    const { text, format } = this.content;
+    if (text.length > MAX_SHOWN) this.content = textContent(text, format);
     else this.#contentChanged();
   }
 
@@ -207,7 +209,8 @@ export class CoveragePane {
 
   #showExcerpt({ line, before, marked, after }) {
     const { excerpt: place } = this.#parts;
-    place.replaceChildren(create("span", { class: "line" }, `From line ${line}:`), "\n", before, create("mark", {}, marked), after);
+    const heading = create("span", { class: "line" }, `From line ${line}:`);
+    place.replaceChildren(heading, "\n", before, create("mark", {}, marked), after);
     place.hidden = false;
   }
 

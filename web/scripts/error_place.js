@@ -1,5 +1,5 @@
-// Finds the part of a text that the position of an error report is about. All positions are positions of bytes. The functions search a
-// string that has one character for each byte.
+// Finds the part of a text that the position of an error report is about. All positions are positions of bytes. The
+// functions search a string that has one character for each byte.
 
 /** @typedef {[number, number]} Range the first position, and the position after the last one */
 
@@ -75,7 +75,7 @@ function wholeCharacter(text, at) {
   return [from, Math.min(to, text.length)];
 }
 
-const CONTINUATION = new Set(Array.from({ length: 64 }, (_, at) => new TextDecoder("latin1").decode(new Uint8Array([128 + at]))));
+const CONTINUATION = new Set(new TextDecoder("latin1").decode(Uint8Array.from({ length: 64 }, (_, at) => 128 + at)));
 
 function isContinuation(text, at) {
   return CONTINUATION.has(text[at]);
@@ -122,9 +122,10 @@ function valueNameRange(text, bytes, order) {
   return (candidates.find(({ value }) => text[value[0]] !== "[") ?? candidates[0])?.range ?? null;
 }
 
-// The item of the array of an order. Two names such as "9" and "09" may spell it: the error is in the first invalid item.
+// The item of the array of an order. If two names such as "9" and "09" spell the order, it is the first invalid item.
 function itemRange(text, bytes, order, index) {
-  const ranges = membersOfOrder(text, bytes, order).map(({ value }) => arrayItem(text, value[0], index)).filter(Boolean);
+  const arrays = membersOfOrder(text, bytes, order);
+  const ranges = arrays.map(({ value }) => arrayItem(text, value[0], index)).filter(Boolean);
   return ranges.find((range) => !isCell(text.slice(...range), order)) ?? ranges[0] ?? null;
 }
 
@@ -184,16 +185,18 @@ const BYTES_AROUND = 160;
  * Returns the lines around a place of a long text, cut if they are long.
  * @param {Uint8Array} bytes
  * @param {Range} range
- * @returns {{ line: number, before: string, marked: string, after: string }} line is the number of the first line, from 1
+ * @returns {{ line: number, before: string, marked: string, after: string }} with the number of the first line, from 1
  */
 export function excerpt(bytes, [from, to]) {
   const start = startOfLines(bytes, from), end = endOfLines(bytes, to);
   let line = 1;
   for (let at = 0; at < start; at += 1) if (bytes[at] === LINE_FEED) line += 1;
   const markEnd = Math.min(to, from + BYTES_AROUND);
-  const parts = [[start, from], [from, markEnd], [markEnd, end]].map(([first, last]) => utf8.decode(bytes.subarray(first, last)));
+  const parts = [[start, from], [from, markEnd], [markEnd, end]]
+    .map(([first, last]) => utf8.decode(bytes.subarray(first, last)));
   const isCut = start > 0 && bytes[start - 1] !== LINE_FEED;
-  return { line, before: (isCut ? "…" : "") + parts[0], marked: parts[1], after: parts[2] + (end < bytes.length ? "…" : "") };
+  const [before, marked, after] = parts;
+  return { line, before: (isCut ? "…" : "") + before, marked, after: after + (end < bytes.length ? "…" : "") };
 }
 
 const LINE_FEED = 0x0a;

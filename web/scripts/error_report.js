@@ -2,7 +2,8 @@ import { Format } from "./formats.js";
 import { Status } from "./module.js";
 
 /**
- * The report of an error: its name, its position with a quotation, what the text must have there, and what it looks like.
+ * The report of an error: its name, its position with a quotation, what the text must have there, and what it looks
+ * like.
  * @typedef {{ name: string, position: string, expected: string, hint: string }} ErrorReport
  */
 

@@ -1,5 +1,12 @@
 /** How a job ended. TRAPPED is not a status of the module: the call threw an exception. */
-export const Status = Object.freeze({ DONE: 0, ERROR: 1, SHORT_BUFFER: 2, BAD_NUMBER: 3, OUT_OF_MEMORY: 4, TRAPPED: 5 });
+export const Status = Object.freeze({
+  DONE: 0,
+  ERROR: 1,
+  SHORT_BUFFER: 2,
+  BAD_NUMBER: 3,
+  OUT_OF_MEMORY: 4,
+  TRAPPED: 5,
+});
 
 /**
  * The result of a job. The output is a report if the status is ERROR, and empty if it is neither ERROR nor DONE.

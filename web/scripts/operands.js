@@ -1,5 +1,5 @@
 import { Format } from "./formats.js";
-import { Status } from "./module.js";
+import { Status, emptyResult } from "./module.js";
 
 const SEPARATOR = ";".charCodeAt(0);
 
@@ -9,8 +9,8 @@ const SEPARATOR = ";".charCodeAt(0);
  */
 
 /**
- * Returns one text of all operands, for `web_combine` and `web_draw`. A NUNIQ list is never detected, so it is converted to ASCII if the
- * formats differ.
+ * Returns one text of all operands, for `web_combine` and `web_draw`. A NUNIQ list is never detected, so it is
+ * converted to ASCII if the formats differ.
  * @param {import("./worker_client.js").WorkerClient} client
  * @param {Operand[]} operands
  * @returns {Promise<{ status: number, format: number, text: Uint8Array, output: Uint8Array }>}
@@ -27,7 +27,8 @@ export async function joinOperands(client, operands) {
     if (result.status !== Status.DONE) return result;
     texts.push(result.output);
   }
-  return { status: Status.DONE, format: areLists ? Format.NUNIQ : Format.DETECT, text: separate(texts), output: new Uint8Array() };
+  const format = areLists ? Format.NUNIQ : Format.DETECT;
+  return { ...emptyResult(Status.DONE), format, text: separate(texts) };
 }
 
 function separate(texts) {

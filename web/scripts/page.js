@@ -17,9 +17,10 @@ const LEAST_PANES = 2;
 const START_EXAMPLE = "footprints";
 
 /**
- * What the page has: contents of coverages, values of the settings by name, and the script. A change that can be undone keeps the parts that
- * it replaces.
- * @typedef {{ coverages?: import("./content.js").Content[], settings?: Record<string, string>, script?: string }} PageState
+ * What the page has: contents of coverages, values of the settings by name, and the script. A change that can be undone
+ * keeps the parts that it replaces.
+ * @typedef {import("./content.js").Content} Content
+ * @typedef {{ coverages?: Content[], settings?: Record<string, string>, script?: string }} PageState
  */
 
 /** The controls whose values are settings. */
@@ -91,7 +92,9 @@ class Page {
 
   #restore({ coverages, settings, script }) {
     if (coverages) this.#restoreCoverages(coverages);
-    for (const [name, value] of Object.entries(settings ?? {})) if (name in SETTINGS) setValue(byId(SETTINGS[name]), value);
+    for (const [name, id] of Object.entries(SETTINGS)) {
+      if (settings && Object.hasOwn(settings, name)) setValue(byId(id), settings[name]);
+    }
     if (script !== undefined) this.#script.script = script;
     this.#showHistory();
     this.#updateTask.request();
@@ -214,8 +217,8 @@ function setValue(control, value) {
 
 function toggleTheme() {
   const root = document.documentElement;
-  const isDark = root.dataset.theme ? root.dataset.theme === "dark" : matchMedia("(prefers-color-scheme: dark)").matches;
-  root.dataset.theme = isDark ? "light" : "dark";
+  const theme = root.dataset.theme ?? (matchMedia("(prefers-color-scheme: dark)").matches ? "dark" : "light");
+  root.dataset.theme = theme === "dark" ? "light" : "dark";
 }
 
 async function startPage() {

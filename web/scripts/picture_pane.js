@@ -10,6 +10,7 @@ import { LatestTask } from "./tasks.js";
 const MEASUREMENT_DELAY = 40;
 const DEFAULT_GRID_ORDER = 3;
 const DIRECTIONS = Object.freeze({ ArrowUp: "north", ArrowDown: "south", ArrowLeft: "east", ArrowRight: "west" });
+const DIRECTIONS_NOTE = "North is up, east is left.";
 const SVG_NAMESPACE = "http://www.w3.org/2000/svg";
 const VIEW_BOX = /viewBox="(-?\d+) (-?\d+) (\d+) (\d+)"/;
 const MAX_HEAD = 300;
@@ -66,25 +67,19 @@ export class PicturePane {
   }
 
   async #draw(panes, result) {
-    if (this.#shown.value === "result") {
-      if (!result) return { picture: null, message: "There is no result to draw.", measured: null };
-      return { picture: result.picture, message: "The result. North is up, east is left.", measured: { name: "the result", ...result } };
-    }
+    if (this.#shown.value === "result") return drawResult(result);
     const [first, second] = panes;
     if (first.isValid && second.isValid) return this.#drawTwo(first, second);
-    const [only] = panes.slice(0, 2).filter(({ isValid }) => isValid);
-    if (!only) return { picture: null, message: "There is no valid coverage to draw.", measured: null };
-    const other = panes.slice(0, 2).find((pane) => pane !== only);
-    const reason = other.state === PaneState.INVALID ? ` ${other.name} has an error and is not drawn.` : "";
-    return { picture: only.examination.picture, message: `${only.name}. North is up, east is left.${reason}`, measured: measuredPane(only) };
+    return drawOne([first, second]);
   }
 
   async #drawTwo(first, second) {
-    const joined = await joinOperands(this.#client, [first.operand, second.operand]);
-    const result = joined.status === Status.DONE ? await this.#client.call("draw", [joined.format], joined.text) : joined;
-    if (result.status !== Status.DONE) return { picture: null, message: describeFailure(result), measured: measuredPane(first) };
-    const message = `The first is coverage ${first.letter}, the second is coverage ${second.letter}. North is up, east is left.`;
-    return { picture: result.output, message, measured: measuredPane(first) };
+    const measured = measuredPane(first), joined = await joinOperands(this.#client, [first.operand, second.operand]);
+    if (joined.status !== Status.DONE) return { picture: null, message: describeFailure(joined), measured };
+    const result = await this.#client.call("draw", [joined.format], joined.text);
+    if (result.status !== Status.DONE) return { picture: null, message: describeFailure(result), measured };
+    const message = `The first is coverage ${first.letter}, the second is coverage ${second.letter}.`;
+    return { picture: result.output, message: `${message} ${DIRECTIONS_NOTE}`, measured };
   }
 
   async #show(picture) {
@@ -164,6 +159,21 @@ export class PicturePane {
     setText(byId("cell-share"), values.share ?? "–");
     setText(byId("cell-pixels"), values.pixels ? groupDigits(values.pixels) : "–");
   }
+}
+
+function drawResult(result) {
+  if (!result) return { picture: null, message: "There is no result to draw.", measured: null };
+  const measured = { name: "the result", ...result };
+  return { picture: result.picture, message: `The result. ${DIRECTIONS_NOTE}`, measured };
+}
+
+// The picture of the only valid one of two coverages, if there is one.
+function drawOne(panes) {
+  const pane = panes.find(({ isValid }) => isValid), invalid = panes.find(({ state }) => state === PaneState.INVALID);
+  if (!pane) return { picture: null, message: "There is no valid coverage to draw.", measured: null };
+  const note = invalid ? ` ${invalid.name} has an error and is not drawn.` : "";
+  const message = `${pane.name}. ${DIRECTIONS_NOTE}${note}`;
+  return { picture: pane.examination.picture, message, measured: measuredPane(pane) };
 }
 
 /** @returns {MeasuredCoverage} */

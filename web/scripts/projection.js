@@ -1,6 +1,6 @@
-// The HEALPix projection as `draw` writes it: the sky is 1024 units wide and 512 high, north is up, east is left, and longitude 0 is at
-// both edges. A cell of order k is a diamond with a half diagonal of 128 / 2^k units. Rows and columns count half diagonals: rows from the
-// north pole, columns from the right edge.
+// The HEALPix projection as `draw` writes it: the sky is 1024 units wide and 512 high, north is up, east is left, and
+// longitude 0 is at both edges. A cell of order k is a diamond with a half diagonal of 128 / 2^k units. Rows and
+// columns count half diagonals: rows from the north pole, columns from the right edge.
 
 /** @typedef {{ order: number, cell: bigint, row: number, column: number }} PictureCell */
 
@@ -71,7 +71,8 @@ export function centre({ order, row, column }) {
 }
 
 /**
- * Returns the next cell in a direction: east and west in the same row, north and south in the next one. At a pole, the cell itself.
+ * Returns the next cell in a direction: east and west in the same row, north and south in the next one. At a pole, the
+ * cell itself.
  * @param {PictureCell} cell
  * @param {"north" | "south" | "east" | "west"} direction
  * @returns {PictureCell}
@@ -113,9 +114,11 @@ export function nuniq({ order, cell }) {
 function cellInRow(order, row, column) {
   const side = 2 ** order;
   for (let base = 0; base < BASE_PIXELS; base += 1) {
-    const sum = SOUTHERN_ROW[base] * side - 1 - row, difference = wrap(column - MIDDLE_COLUMN[base] * side, COLUMNS * side);
+    const sum = SOUTHERN_ROW[base] * side - 1 - row;
+    const difference = wrap(column - MIDDLE_COLUMN[base] * side, COLUMNS * side);
     const east = (sum + difference) / 2, west = (sum - difference) / 2;
-    if (Number.isInteger(east) && isFraction(east / side) && isFraction(west / side)) return pictureCell(order, base, east, west);
+    const isCell = Number.isInteger(east) && isFraction(east / side) && isFraction(west / side);
+    if (isCell) return pictureCell(order, base, east, west);
   }
   return null;
 }

@@ -32,7 +32,9 @@ export class ResultPane {
    */
   constructor(client, listener) {
     this.#client = client;
-    for (const control of [this.#operation, this.#order, this.#output]) control.addEventListener("input", listener.onSettings);
+    for (const control of [this.#operation, this.#order, this.#output]) {
+      control.addEventListener("input", listener.onSettings);
+    }
     byId("copy-result").addEventListener("click", () => copyText(this.#decoded(), this.#status, "Result"));
     byId("save-result").addEventListener("click", () => this.#save());
     byId("use-result").addEventListener("click", listener.onUse);
@@ -90,7 +92,8 @@ export class ResultPane {
   }
 
   #degradeOrder() {
-    if (!this.#order.validity.valid || this.#order.value === "") throw new NoResult("The order must be a whole number from 0 to 29.");
+    const isOrder = this.#order.validity.valid && this.#order.value !== "";
+    if (!isOrder) throw new NoResult("The order must be a whole number from 0 to 29.");
     return this.#order.valueAsNumber;
   }
 

@@ -38,11 +38,12 @@ export class ScriptPane {
   async #run() {
     const script = this.#text.value;
     const result = await this.#client.call("run", [], new TextEncoder().encode(script));
-    const replies = result.status === Status.DONE ? new TextDecoder().decode(result.output).split("\n").slice(0, -1) : [];
+    const isDone = result.status === Status.DONE;
+    const replies = isDone ? new TextDecoder().decode(result.output).split("\n").slice(0, -1) : [];
     const lines = repliesByLine(script, replies);
     this.#replies.replaceChildren(...lines.slice(0, MAX_LINES).map(replyLine));
     const faults = replies.filter(isFault).length;
-    setText(this.#status, result.status === Status.DONE ? summary(replies.length, faults) : describeFailure(result));
+    setText(this.#status, isDone ? summary(replies.length, faults) : describeFailure(result));
   }
 }
 

@@ -24,8 +24,8 @@ export function showStatistics(table, columns) {
     return;
   }
   const heads = columns.map(({ name }) => create("th", { scope: "col" }, name));
-  const body = create("tbody", {}, ...ROWS.map(([name, value]) => row(name, columns.map(({ statistics }) => value(statistics)))));
-  body.append(...orderRows(columns));
+  const rows = ROWS.map(([name, value]) => row(name, columns.map(({ statistics }) => value(statistics))));
+  const body = create("tbody", {}, ...rows, ...orderRows(columns));
   table.replaceChildren(caption, create("thead", {}, create("tr", {}, create("td"), ...heads)), body);
 }
 

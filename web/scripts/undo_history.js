@@ -1,7 +1,8 @@
 const MAX_STEPS = 100;
 
 /**
- * Keeps states to go back and forth between. A state may be a part of the page: `capture` returns the same part as it is now.
+ * Keeps states to go back and forth between. A state may be a part of the page: `capture` returns the same part as it
+ * is now.
  * @template State
  */
 export class UndoHistory {

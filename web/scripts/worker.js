@@ -1,4 +1,5 @@
-// Runs the jobs of the module in a worker, one after another. The first message has the compressed module, each later one a job.
+// Runs the jobs of the module in a worker, one after another. The first message has the compressed module, each later
+// one a job.
 import { CoverageModule, Status, emptyResult } from "./module.js";
 
 async function decompress(bytes) {

@@ -4,7 +4,8 @@ import { mkdtempSync, rmSync, writeFileSync } from "node:fs";
 import { tmpdir } from "node:os";
 import { join } from "node:path";
 
-const OPTIONS = ["--headless=new", "--no-sandbox", "--disable-gpu", "--hide-scrollbars", "--remote-debugging-pipe", "--no-first-run",
+const OPTIONS = ["--headless=new", "--no-sandbox", "--disable-gpu", "--hide-scrollbars", "--remote-debugging-pipe",
+  "--no-first-run",
   "--disable-component-update", "--disable-background-networking", "--disable-features=LocalNetworkAccessChecks"];
 const POLL_INTERVAL = 20;
 const TIME_LIMIT = 20_000;
@@ -45,7 +46,8 @@ export class Browser {
   #start(width, height) {
     this.#folder = mkdtempSync(join(tmpdir(), "page-test-"));
     const program = process.env.CHROMIUM ?? "chromium";
-    this.#process = spawn(program, [...OPTIONS, `--user-data-dir=${this.#folder}`, `--window-size=${width},${height}`, "about:blank"],
+    this.#process = spawn(program,
+      [...OPTIONS, `--user-data-dir=${this.#folder}`, `--window-size=${width},${height}`, "about:blank"],
       { stdio: ["ignore", "ignore", "ignore", "pipe", "pipe"] });
     this.#process.stdio[4].on("data", (data) => this.#receive(data));
   }
@@ -68,7 +70,8 @@ export class Browser {
   }
 
   #notice({ method, params }) {
-    if (method === "Runtime.exceptionThrown") this.log.push(params.exceptionDetails.exception?.description ?? params.exceptionDetails.text);
+    if (method === "Runtime.exceptionThrown") this.log.push(
+      params.exceptionDetails.exception?.description ?? params.exceptionDetails.text);
     if (method === "Log.entryAdded") this.log.push(params.entry.text);
     if (method === "Runtime.consoleAPICalled") this.log.push(JSON.stringify(params.args));
     if (method === "Network.requestWillBeSent") this.requests.push(params.request.url);
@@ -89,7 +92,8 @@ export class Browser {
 
   /** Returns the value of an expression in the page, after its promise. */
   async run(expression) {
-    const { result, exceptionDetails } = await this.send("Runtime.evaluate", { expression, awaitPromise: true, returnByValue: true });
+    const { result, exceptionDetails } =
+      await this.send("Runtime.evaluate", { expression, awaitPromise: true, returnByValue: true });
     if (exceptionDetails) throw new Error(exceptionDetails.exception?.description ?? exceptionDetails.text);
     return result.value;
   }

@@ -58,7 +58,8 @@ globalThis.helpers = {
   drop(letter, name, bytes) {
     const transfer = new DataTransfer();
     transfer.items.add(new File([bytes], name));
-    helpers.part(letter, "field").dispatchEvent(new DragEvent("drop", { dataTransfer: transfer, bubbles: true, cancelable: true }));
+    helpers.part(letter,
+      "field").dispatchEvent(new DragEvent("drop", { dataTransfer: transfer, bubbles: true, cancelable: true }));
   },
   texts: () => [...document.querySelectorAll('[data-part="text"]')].map((field) => field.value),
   isShown: (element) => element.checkVisibility(),
@@ -144,10 +145,12 @@ async function testErrors() {
     checkEqual(first, `fault ${name}`, `the error of the program in ${text}`);
     check(state.status.startsWith(name), `the error line of ${text} begins with ${name}: ${state.status}`);
     for (const line of lines.filter((it) => !it.startsWith("this looks like"))) {
-      check(state.status.includes(line) || state.status.includes(sentence(line)), `the error line of ${text} has ${line}: ${state.status}`);
+      check(state.status.includes(line) || state.status.includes(sentence(line)),
+        `the error line of ${text} has ${line}: ${state.status}`);
     }
   }
-  checkEqual(await browser.run("helpers.id('result-status').textContent"), "Coverage A has an error.", "the result of an invalid coverage");
+  checkEqual(await browser.run("helpers.id('result-status').textContent"), "Coverage A has an error.",
+    "the result of an invalid coverage");
   await setPane("A", "1/0-3 2/20");
   const { status, mark, isInvalid } = await paneState("A");
   checkEqual([status, mark, isInvalid], ["Valid: ASCII, 2 cells.", null, false], "a valid text");
@@ -200,7 +203,8 @@ async function testFiles() {
     checkEqual(advice, [true, command, true], `the advice for ${name}`);
   }
   await drop("A", "good.txt", Buffer.from("1/0-3"));
-  checkEqual(await browser.run(`[helpers.texts()[0], helpers.isShown(helpers.part("A", "advice"))]`), ["1/0-3", false], "a dropped text");
+  checkEqual(await browser.run(`[helpers.texts()[0], helpers.isShown(helpers.part("A", "advice"))]`), ["1/0-3", false],
+    "a dropped text");
 }
 
 // ---- results, statistics and pictures
@@ -218,7 +222,8 @@ async function testOperations() {
   await setPane("A", FIRST);
   await setPane("B", SECOND);
   for (const operation of OPERATIONS) {
-    checkEqual(await resultOf(operation), moc(`${FIRST};${SECOND}`, "combine", operation, "auto"), `${operation} of two`);
+    checkEqual(await resultOf(operation), moc(`${FIRST};${SECOND}`, "combine", operation, "auto"),
+      `${operation} of two`);
   }
   await click("add-coverage");
   await setPane("C", THIRD, "2");
@@ -226,12 +231,15 @@ async function testOperations() {
   for (const operation of OPERATIONS) {
     const expected = moc(`${FIRST};${SECOND};${third}`, "combine", operation, "auto");
     checkEqual(await resultOf(operation), expected, `${operation} of three`);
-    checkEqual(await resultOf(operation, "1"), moc(expected, "convert", "ascii", "json"), `${operation} of three as JSON`);
+    checkEqual(await resultOf(operation, "1"), moc(expected, "convert", "ascii", "json"),
+      `${operation} of three as JSON`);
   }
   await setPane("C", "5/x");
-  checkEqual([await resultOf("union"), await textOf("result-status")], ["", "Coverage C has an error."], "the union with an error");
+  checkEqual([await resultOf("union"), await textOf("result-status")], ["", "Coverage C has an error."],
+    "the union with an error");
   await setPane("C", "");
-  checkEqual(await resultOf("union"), moc(`${FIRST};${SECOND}`, "combine", "union", "auto"), "the union with an empty coverage");
+  checkEqual(await resultOf("union"), moc(`${FIRST};${SECOND}`, "combine", "union", "auto"),
+    "the union with an empty coverage");
   await clickPart("C", "remove");
 }
 
@@ -239,7 +247,8 @@ async function testListsOnly() {
   await setPane("A", THIRD, "2");
   await setPane("B", "70\n71\n", "2");
   for (const operation of OPERATIONS) {
-    checkEqual(await resultOf(operation, "2"), moc(`${THIRD};70\n71\n`, "combine", operation, "uniq"), `${operation} of lists`);
+    checkEqual(await resultOf(operation, "2"), moc(`${THIRD};70\n71\n`, "combine", operation, "uniq"),
+      `${operation} of lists`);
   }
 }
 
@@ -250,9 +259,11 @@ async function testChanges() {
     for (const [at, output] of ["ascii", "json", "uniq"].entries()) {
       const converted = (result) => (own === output ? result : moc(result, "convert", own, output));
       checkEqual(await resultOf("same", String(at)), moc(text, "convert", own, output), `${text} as ${output}`);
-      checkEqual(await resultOf("complement", String(at)), converted(moc(text, "complement", own)), `the complement of ${text} as ${output}`);
+      checkEqual(await resultOf("complement", String(at)), converted(moc(text, "complement", own)),
+        `the complement of ${text} as ${output}`);
       await setControl("degrade-order", "1");
-      checkEqual(await resultOf("degrade", String(at)), converted(moc(text, "degrade", "1", own)), `${text} degraded as ${output}`);
+      checkEqual(await resultOf("degrade", String(at)), converted(moc(text, "degrade", "1", own)),
+        `${text} degraded as ${output}`);
     }
   }
   await setControl("degrade-order", "30");
@@ -275,10 +286,12 @@ async function testPictures() {
   await resultOf("complement");
   await setControl("shown", "result");
   checkEqual(await pictureText(), moc(moc(FIRST, "complement", "auto"), "draw", "auto"), "the picture of the result");
-  checkEqual(await browser.run("helpers.id('sky-image').naturalWidth > 0 && helpers.isShown(helpers.id('sky'))"), true, "it is shown");
+  checkEqual(await browser.run("helpers.id('sky-image').naturalWidth > 0 && helpers.isShown(helpers.id('sky'))"), true,
+    "it is shown");
   await setControl("shown", "coverages");
   await setPane("A", "");
-  checkEqual(await browser.run("[helpers.isShown(helpers.id('sky')), helpers.id('save-picture').disabled]"), [false, true], "no picture");
+  checkEqual(await browser.run("[helpers.isShown(helpers.id('sky')), helpers.id('save-picture').disabled]"),
+    [false, true], "no picture");
 }
 
 const ROW_NAMES = { share: "Share of the sky", area: "Square degrees", deepest: "MOC order", pixels: "Order-29 pixels",
@@ -288,13 +301,15 @@ async function testStatistics() {
   await setPane("A", FIRST);
   await setPane("B", SECOND);
   await resultOf("complement");
-  const rows = await browser.run(`[...helpers.id("statistics-table").rows].map((row) => [...row.cells].map((cell) => cell.textContent))`);
+  const rows = await browser.run(
+    `[...helpers.id("statistics-table").rows].map((row) => [...row.cells].map((cell) => cell.textContent))`);
   checkEqual(rows[0], ["", "A", "B", "Result"], "the columns of the statistics");
   const texts = [FIRST, SECOND, moc(FIRST, "complement", "auto")];
   let isShown = true;
   for (const [at, text] of texts.entries()) {
     for (const line of moc(text, "describe", "auto").trimEnd().split("\n")) {
-      const [name, ...values] = line.split(" "), label = name === "order" ? `Cells of order ${values[0]}` : ROW_NAMES[name];
+      const [name, ...values] = line.split(" "),
+        label = name === "order" ? `Cells of order ${values[0]}` : ROW_NAMES[name];
       isShown &&= rows.find((row) => row[0] === label)?.[at + 1].replaceAll(",", "") === values.at(-1);
     }
   }
@@ -307,12 +322,14 @@ async function testCells() {
   await setControl("shown", "coverages");
   const shown = async () => {
     await settle();
-    const values = await Promise.all(["order", "nested", "ring", "nuniq", "pixels", "share"].map((name) => textOf(`cell-${name}`)));
+    const values = await Promise.all(["order", "nested", "ring", "nuniq", "pixels", "share"]
+      .map((name) => textOf(`cell-${name}`)));
     return values.map((value) => value.replaceAll(",", ""));
   };
   const expected = (order, cell) => {
     const common = moc(`${FIRST};${order}/${cell}`, "combine", "intersection", "auto");
-    const pixels = BigInt(/pixels (\d+)/.exec(moc(common, "describe", "ascii"))[1]), share = pixels * 10n ** 12n / 4n ** BigInt(29 - order);
+    const pixels = BigInt(/pixels (\d+)/.exec(moc(common, "describe", "ascii"))[1]),
+      share = pixels * 10n ** 12n / 4n ** BigInt(29 - order);
     const number = (name) => moc("", name, String(order), String(cell)).trim();
     return [String(order), String(cell), number("ring"), number("uniq"), String(pixels),
       `${share / 10n ** 12n}.${String(share % 10n ** 12n).padStart(12, "0")}`];
@@ -330,7 +347,8 @@ async function testCells() {
   const start = Number(await textOf("cell-nested").then((text) => text.replaceAll(",", "")));
   let cell = cellOfNumber(5, BigInt(start));
   await browser.run("helpers.id('sky').focus()");
-  for (const [key, direction] of [["ArrowLeft", "east"], ["ArrowDown", "south"], ["ArrowRight", "west"], ["ArrowUp", "north"]]) {
+  for (const [key, direction] of [["ArrowLeft", "east"], ["ArrowDown", "south"], ["ArrowRight", "west"],
+    ["ArrowUp", "north"]]) {
     await browser.press(key);
     cell = neighbour(cell, direction);
     checkEqual(await shown(), expected(5, cell.cell), `the cell after ${key}`);
@@ -391,19 +409,23 @@ async function testHistory() {
   }
   await click("undo");
   checkEqual((await texts()).slice(0, 2), ["1/0", "1/1"], "the texts before the drop");
-  check(await browser.run("helpers.id('undo').disabled && !helpers.id('redo').disabled"), "there is nothing more to undo");
+  check(await browser.run("helpers.id('undo').disabled && !helpers.id('redo').disabled"),
+    "there is nothing more to undo");
 }
 
 async function testOperands() {
   await load(URL_OF_PAGE);
   for (let count = 2; count < 8; count += 1) await click("add-coverage");
   const letters = `[...document.querySelectorAll(".coverage")].map((pane) => pane.dataset.letter).join("")`;
-  checkEqual([await browser.run(letters), await browser.run("helpers.id('add-coverage').disabled")], ["ABCDEFGH", true], "eight coverages");
+  checkEqual([await browser.run(letters), await browser.run("helpers.id('add-coverage').disabled")],
+    ["ABCDEFGH", true], "eight coverages");
   await setPane("D", "3/1");
   await setPane("E", "3/2");
   await clickPart("D", "remove");
-  checkEqual([await browser.run(letters), (await browser.run("helpers.texts()"))[3]], ["ABCDEFG", "3/2"], "the coverages after a removal");
-  check(await browser.run("helpers.part('B', 'remove').hidden && !helpers.part('C', 'remove').hidden"), "A and B cannot be removed");
+  checkEqual([await browser.run(letters), (await browser.run("helpers.texts()"))[3]], ["ABCDEFG", "3/2"],
+    "the coverages after a removal");
+  check(await browser.run("helpers.part('B', 'remove').hidden && !helpers.part('C', 'remove').hidden"),
+    "A and B cannot be removed");
 }
 
 // ---- links, examples, scripts
@@ -422,7 +444,8 @@ async function testLinks() {
   await load(link);
   const state = await browser.run(`[...helpers.texts(), helpers.part("B", "format").value, helpers.id("operation").value,
     helpers.id("output-format").value, helpers.id("grid-order").value, helpers.id("script-text").value, helpers.id("script").open]`);
-  checkEqual(state, [FIRST, THIRD, "2", "difference", "1", "5", "add 0/1 é\nread 0/0-11", true], "the state after a link");
+  checkEqual(state, [FIRST, THIRD, "2", "difference", "1", "5", "add 0/1 é\nread 0/0-11", true],
+    "the state after a link");
   checkEqual(await textOf("result-text"), result, "the result after a link");
   await load(`${URL_OF_PAGE}#1damaged`);
   checkEqual(await textOf("page-status"), "The link is damaged.", "the message about a damaged link");
@@ -447,7 +470,8 @@ async function testScripts() {
   const script = "add 3/10 12-15\n\ncount 3/10\nclaim 3/12 ; near 1 1\nnonsense\nread 0/0-11";
   await browser.run("helpers.id('script').open = true");
   await setControl("script-text", script);
-  const replies = await browser.run("[...helpers.id('script-replies').children].map((line) => line.textContent.trim())");
+  const replies = await browser.run(
+    "[...helpers.id('script-replies').children].map((line) => line.textContent.trim())");
   const expected = moc(script, "run").trimEnd().split("\n");
   expected.splice(1, 0, "");
   checkEqual(replies, expected, "the replies beside the lines");
@@ -475,7 +499,8 @@ function connectBy(tag, attribute, address) {
     element.${attribute} = ${quote(address)}; document.body.append(element); })`;
 }
 
-const ANSWERS = { image: ["image/svg+xml", '<svg xmlns="http://www.w3.org/2000/svg" width="1" height="1"/>'], script: ["text/javascript", ""] };
+const ANSWERS = { image: ["image/svg+xml", '<svg xmlns="http://www.w3.org/2000/svg" width="1" height="1"/>'],
+  script: ["text/javascript", ""] };
 
 // A copy of the page without the policy must reach the server, so that the tests of the page can fail.
 async function testPolicy() {
@@ -497,9 +522,12 @@ async function testPolicy() {
   };
   const folder = mkdtempSync(join(tmpdir(), "page-test-")), copy = join(folder, "page.html");
   writeFileSync(copy, readFileSync(PAGE, "utf8").replace(/<meta http-equiv="Content-Security-Policy"[^>]*>/, ""));
-  checkEqual(await attempt(pathToFileURL(copy).href), ["sent", "sent", "sent", "unknown", "unknown"], "the results without the policy");
-  checkEqual([...received].sort(), Object.keys(CONNECTIONS).sort(), "the requests that the server receives without the policy");
-  checkEqual(await attempt(URL_OF_PAGE), ["rejected", "rejected", "rejected", "unknown", "unknown"], "the results in the page");
+  checkEqual(await attempt(pathToFileURL(copy).href), ["sent", "sent", "sent", "unknown", "unknown"],
+    "the results without the policy");
+  checkEqual([...received].sort(), Object.keys(CONNECTIONS).sort(),
+    "the requests that the server receives without the policy");
+  checkEqual(await attempt(URL_OF_PAGE), ["rejected", "rejected", "rejected", "unknown", "unknown"],
+    "the results in the page");
   checkEqual([...received], [], "the requests that the server receives from the page");
   server.close();
   rmSync(folder, { recursive: true });
@@ -523,7 +551,8 @@ async function testLargeTexts() {
   await setPane("B", "");
   await resultOf("same");
   await browser.run("globalThis.pieces = []");
-  for (let at = 0; at < text.length; at += 2 ** 20) await browser.run(`pieces.push(${quote(text.slice(at, at + 2 ** 20))}), 0`);
+  for (let at = 0; at < text.length; at += 2 ** 20) await browser.run(
+    `pieces.push(${quote(text.slice(at, at + 2 ** 20))}), 0`);
   const begin = performance.now();
   await browser.run("helpers.drop('A', 'large.txt', new TextEncoder().encode(pieces.join('')))");
   await browser.until("helpers.isShown(helpers.part('A', 'card'))");
@@ -533,7 +562,8 @@ async function testLargeTexts() {
   console.log(`a text of ${text.length} bytes is read, drawn, measured and converted after ${milliseconds.toFixed(0)} ms`);
   const cells = /cells (\d+)/.exec(moc(text, "describe", "ascii"))[1].replace(/\B(?=(\d{3})+$)/g, ",");
   checkEqual((await paneState("A")).status, `Valid: ASCII, ${cells} cells.`, "the status of a large text");
-  check((await browser.run("helpers.part('A', 'fileName').textContent")).startsWith("large.txt, 8,0"), "the name and the size of the file");
+  check((await browser.run("helpers.part('A', 'fileName').textContent")).startsWith("large.txt, 8,0"),
+    "the name and the size of the file");
   const at = text.indexOf(" ", 5_000_000);
   await browser.run(`helpers.drop("A", "damaged.txt", new TextEncoder().encode(pieces.join("").slice(0, ${at}) + " 5-x " + pieces.join("").slice(${at})))`);
   await browser.until("helpers.part('A', 'fileName').textContent.startsWith('damaged.txt')");
@@ -542,7 +572,8 @@ async function testLargeTexts() {
     helpers.part("A", "excerpt").textContent.length < 1000]`);
   checkEqual(excerpt, [true, "5-x", true], "the excerpt of a damaged large text");
   await clickPart("A", "goto");
-  check(await browser.run("document.activeElement === helpers.part('A', 'excerpt')"), "Go to the error focuses the excerpt");
+  check(await browser.run("document.activeElement === helpers.part('A', 'excerpt')"),
+    "Go to the error focuses the excerpt");
   await browser.run("helpers.id('copy-link').click()");
   checkEqual(await textOf("page-status"), "A file is too long for a link.", "the message about a link with a file");
 }
@@ -572,35 +603,44 @@ async function testKeyboard() {
 async function testNames() {
   await browser.send("Accessibility.enable");
   const { nodes } = await browser.send("Accessibility.getFullAXTree");
-  const isFocusable = ({ properties = [] }) => properties.some(({ name, value }) => name === "focusable" && value.value);
-  const controls = nodes.filter((node) => !node.ignored && isFocusable(node) && node.role.value !== "RootWebArea" && node.role.value !== "main");
+  const isFocusable = ({ properties = [] }) => properties.some(({ name, value }) => name === "focusable"
+    && value.value);
+  const controls = nodes.filter((node) => !node.ignored && isFocusable(node) && node.role.value !== "RootWebArea"
+    && node.role.value !== "main");
   check(controls.length > 25, `there are ${controls.length} controls`);
   checkEqual(controls.filter(({ name }) => !name?.value).map(({ role }) => role.value), [], "controls without a name");
   const names = controls.filter(({ role }) => role.value === "button").map(({ name }) => name.value);
   checkEqual(names.filter((name, at) => names.indexOf(name) !== at), [], "buttons with the same name");
-  const invalid = nodes.filter(({ properties = [] }) => properties.some(({ name, value }) => name === "invalid" && value.value === "true"));
-  checkEqual(invalid.map(({ name, description }) => [name.value, description.value.startsWith("Backwards")]), [["Coverage A", true]],
+  const invalid = nodes.filter(
+    ({ properties = [] }) => properties.some(({ name, value }) => name === "invalid" && value.value === "true"));
+  checkEqual(invalid.map(({ name, description }) => [name.value, description.value.startsWith("Backwards")]),
+    [["Coverage A", true]],
     "the invalid field and its description");
   await browser.send("Accessibility.disable");
 }
 
 // The least contrast of a text that is shown with its background.
 const CONTRAST = `(() => {
-  const parse = (color) => { const canvas = document.createElement("canvas").getContext("2d", { willReadFrequently: true });
+  const parse = (color) => { const canvas =
+    document.createElement("canvas").getContext("2d", { willReadFrequently: true });
     canvas.fillStyle = color; canvas.fillRect(0, 0, 1, 1); return [...canvas.getImageData(0, 0, 1, 1).data]; };
   const linear = (value) => (value <= 0.04045 ? value / 12.92 : ((value + 0.055) / 1.055) ** 2.4);
-  const luminance = ([red, green, blue]) => 0.2126 * linear(red / 255) + 0.7152 * linear(green / 255) + 0.0722 * linear(blue / 255);
+  const luminance = ([red, green, blue]) => 0.2126 * linear(red / 255) + 0.7152 * linear(green / 255) + 0.0722 * linear(
+    blue / 255);
   const background = (element) => { for (; element; element = element.parentElement) {
-    const color = parse(getComputedStyle(element).backgroundColor); if (color[3] === 255) return color; } return [255, 255, 255, 255]; };
+    const color = parse(getComputedStyle(element).backgroundColor); if (color[3] === 255) return color; } return [255,
+      255, 255, 255]; };
   let least = [21, ""];
   const hasText = (element) => [...element.childNodes].some((node) => node.nodeType === 3 && node.data.trim());
   for (const element of document.querySelectorAll("body *")) {
     if (!element.checkVisibility() || element.disabled || element.closest(".marks, template, script")) continue;
     if (!hasText(element) && !element.matches("textarea, input, select")) continue;
-    for (const style of [getComputedStyle(element), ...(element.placeholder ? [getComputedStyle(element, "::placeholder")] : [])]) {
+    for (const style of [getComputedStyle(element),
+      ...(element.placeholder ? [getComputedStyle(element, "::placeholder")] : [])]) {
       const [one, other] = [luminance(parse(style.color)), luminance(background(element))].sort((x, y) => y - x);
       const ratio = (one + 0.05) / (other + 0.05);
-      if (ratio < least[0]) least = [ratio, element.tagName + "." + element.className + " " + element.textContent.slice(0, 30)];
+      if (ratio < least[0]) least =
+        [ratio, element.tagName + "." + element.className + " " + element.textContent.slice(0, 30)];
     }
   }
   return least;
@@ -613,11 +653,13 @@ async function testContrast() {
     await browser.send("Emulation.setEmulatedMedia", { features: [{ name: "prefers-color-scheme", value: theme }] });
     backgrounds.push(await browser.run("getComputedStyle(document.body).backgroundColor"));
     const [ratio, element] = await browser.run(CONTRAST);
-    check(ratio >= LEAST_CONTRAST, `the contrast in the ${theme} theme is at least ${LEAST_CONTRAST}: ${ratio} of ${element}`);
+    check(ratio >= LEAST_CONTRAST,
+      `the contrast in the ${theme} theme is at least ${LEAST_CONTRAST}: ${ratio} of ${element}`);
   }
   check(backgrounds[0] !== backgrounds[1], "the themes differ");
   await click("theme");
-  checkEqual(await browser.run("getComputedStyle(document.body).backgroundColor"), backgrounds[0], "the background after the toggle");
+  checkEqual(await browser.run("getComputedStyle(document.body).backgroundColor"), backgrounds[0],
+    "the background after the toggle");
   await browser.run("helpers.set(helpers.part('B', 'text'), '1/1')");
   await settle();
   await browser.send("Emulation.setEmulatedMedia", { features: [] });
@@ -642,7 +684,8 @@ async function testWidths() {
 
 async function testPrint() {
   await browser.send("Emulation.setEmulatedMedia", { media: "print" });
-  checkEqual(await browser.run("['undo', 'sky', 'statistics-table'].map((id) => helpers.isShown(helpers.id(id)))"), [false, true, true],
+  checkEqual(await browser.run("['undo', 'sky', 'statistics-table'].map((id) => helpers.isShown(helpers.id(id)))"),
+    [false, true, true],
     "what is printed");
   await browser.send("Emulation.setEmulatedMedia", { media: "" });
 }
@@ -650,15 +693,18 @@ async function testPrint() {
 try {
   await browser.send("Page.addScriptToEvaluateOnNewDocument", { source: HELPERS });
   await load(URL_OF_PAGE);
-  for (const test of [testErrors, testGoingToErrors, testHints, testFiles, testOperations, testListsOnly, testChanges, testPictures,
-    testStatistics, testCells, testScripts, testHistory, testOperands, testLinks, testExamples, testLargeTexts, testKeyboard, testNames,
+  for (const test of [testErrors, testGoingToErrors, testHints, testFiles, testOperations, testListsOnly, testChanges,
+    testPictures,
+    testStatistics, testCells, testScripts, testHistory, testOperands, testLinks, testExamples, testLargeTexts,
+      testKeyboard, testNames,
     testContrast, testWidths, testPrint]) {
     const before = failed;
     await test();
     if (process.env.VERBOSE) console.log(`${test.name}: ${failed - before} failed`);
   }
   checkEqual(browser.log, [], "the messages of the page");
-  const others = browser.requests.filter((url) => !url.startsWith("blob:") && !url.startsWith("data:") && !url.startsWith(URL_OF_PAGE));
+  const others = browser.requests
+    .filter((url) => !url.startsWith("blob:") && !url.startsWith("data:") && !url.startsWith(URL_OF_PAGE));
   checkEqual(others.filter((url) => url !== "about:blank"), [], "the requests of the page");
   await testPolicy();
 } catch (error) {

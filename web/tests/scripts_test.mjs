@@ -2,8 +2,8 @@
 //
 // usage: node web/tests/scripts_test.mjs
 //
-// The cells of the picture are compared with the nested numbering of HEALPix (Górski et al. 2005), computed here from declination and right
-// ascension. The last line printed is `N passed, M failed`.
+// The cells of the picture are compared with the nested numbering of HEALPix (Górski et al. 2005), computed here from
+// declination and right ascension. The last line printed is `N passed, M failed`.
 import { spawnSync } from "node:child_process";
 import { cpSync, mkdtempSync, readFileSync, rmSync, writeFileSync } from "node:fs";
 import { tmpdir } from "node:os";
@@ -35,7 +35,8 @@ function check(holds, statement) {
 }
 
 function checkEqual(actual, expected, subject) {
-  const [one, other] = [actual, expected].map((value) => JSON.stringify(value, (_, it) => (typeof it === "bigint" ? `${it}n` : it)));
+  const [one, other] = [actual, expected]
+    .map((value) => JSON.stringify(value, (_, it) => (typeof it === "bigint" ? `${it}n` : it)));
   check(one === other, `${subject} is ${one}, and should be ${other}`);
 }
 
@@ -83,31 +84,40 @@ function testPlaces() {
 }
 
 function testExcerpts() {
-  const lines = Array.from({ length: 50_000 }, (_, at) => `5/${at}`), text = lines.join("\n"), bytes = utf8.encode(text);
+  const lines = Array.from({ length: 50_000 }, (_, at) => `5/${at}`), text = lines.join("\n"),
+    bytes = utf8.encode(text);
   const from = text.indexOf("5/30000");
   const { line, before, marked, after } = excerpt(bytes, [from, from + 7]);
-  checkEqual([line, before, marked, after], [29998, "5/29997\n5/29998\n5/29999\n", "5/30000", "\n5/30001\n5/30002\n5/30003…"],
+  checkEqual([line, before, marked, after],
+    [29998, "5/29997\n5/29998\n5/29999\n", "5/30000", "\n5/30001\n5/30002\n5/30003…"],
     "the excerpt of a long text");
   const long = utf8.encode(`${"1/0 ".repeat(1000)}x`), cut = excerpt(long, [4000, 4001]);
-  check(cut.before.startsWith("…") && cut.before.length < 200 && cut.marked === "x" && cut.after === "", "a long line is cut");
+  check(cut.before.startsWith("…") && cut.before.length < 200 && cut.marked === "x" && cut.after === "",
+    "a long line is cut");
   checkEqual(cut.line, 1, "the line of the excerpt of a long line");
 }
 
 // ---- reports
 
 function testReports() {
-  const full = parseReport("fault NoOrder\nbyte 0, line 1, byte 0 of it: `4`\nan order comes first, as in 3/\nthis looks like a NUNIQ list\n");
-  checkEqual(full, { name: "NoOrder", position: "byte 0, line 1, byte 0 of it: `4`", expected: "an order comes first, as in 3/",
+  const full = parseReport(
+    "fault NoOrder\nbyte 0, line 1, byte 0 of it: `4`\nan order comes first, as in 3/\nthis looks like a NUNIQ list\n");
+  checkEqual(full, { name: "NoOrder", position: "byte 0, line 1, byte 0 of it: `4`",
+    expected: "an order comes first, as in 3/",
     hint: "this looks like a NUNIQ list" }, "a report of four lines");
   checkEqual(describeReport(full),
-    "NoOrder (cell without an order) at byte 0, line 1, byte 0 of it: `4`. An order comes first, as in 3/.", "its description");
+    "NoOrder (cell without an order) at byte 0, line 1, byte 0 of it: `4`. An order comes first, as in 3/.",
+      "its description");
   checkEqual(offerFor(full.hint)?.format, Format.NUNIQ, "the format of its hint");
   const object = parseReport("fault NotObject\na text is one object, as in {\"3\":[10,12]}\n");
-  checkEqual([object.position, object.expected, object.hint], ["", 'a text is one object, as in {"3":[10,12]}', ""], "NotObject");
+  checkEqual([object.position, object.expected, object.hint], ["", 'a text is one object, as in {"3":[10,12]}', ""],
+    "NotObject");
   const large = parseReport("fault OrderTooLarge\nbyte 0, line 1, byte 0 of it: `30/1`\norders go up to 29\n");
   checkEqual(large.expected, "orders go up to 29", "what OrderTooLarge expects");
-  const line = parseReport("fault BadByte\nline 2: `x`\neach line is one number, of digits only\nthis looks like ASCII\n");
-  checkEqual([line.position, line.expected], ["line 2: `x`", "each line is one number, of digits only"], "BadByte of a list");
+  const line = parseReport(
+    "fault BadByte\nline 2: `x`\neach line is one number, of digits only\nthis looks like ASCII\n");
+  checkEqual([line.position, line.expected], ["line 2: `x`", "each line is one number, of digits only"],
+    "BadByte of a list");
   checkEqual(parseReport("fault NotObject\ntext 17\n").position, "text 17", "the position of a text");
   checkEqual(describeReport(parseReport("fault TooLong\n")), "TooLong (text too long).", "a report of one line");
   checkEqual(offerFor("this looks like FITS; python -m ploverchaise convert reads it")?.command,
@@ -125,23 +135,27 @@ function testReports() {
 
 function testStatistics() {
   const text = "deepest 3\npixels 90071992547409920\nshare 0.026041666666\narea 1074.295865870293\nranges 1\ncells 2\norder 1 1\norder 2 1\n";
-  const expected = { mocOrder: 3, pixels: 90071992547409920n, share: "0.026041666666", area: "1074.295865870293", ranges: 1n, cells: 2n,
+  const expected = { mocOrder: 3, pixels: 90071992547409920n, share: "0.026041666666", area: "1074.295865870293",
+    ranges: 1n, cells: 2n,
     orders: [{ order: 1, cells: 1n }, { order: 2, cells: 1n }] };
   checkEqual(parseStatistics(text), expected, "statistics");
   const { statistics, picture } = splitExamination(utf8.encode(`${text}<svg>é</svg>\n`));
   checkEqual(statistics, expected, "the statistics of an examination");
   checkEqual(new TextDecoder().decode(picture), "<svg>é</svg>\n", "its picture");
   const empty = "deepest none\npixels 0\nshare 0.000000000000\narea 0.000000000000\nranges 0\ncells 0\n";
-  checkEqual([parseStatistics(empty).mocOrder, parseStatistics(empty).orders], [null, []], "the statistics of the empty set");
+  checkEqual([parseStatistics(empty).mocOrder, parseStatistics(empty).orders], [null, []],
+    "the statistics of the empty set");
   checkEqual([groupDigits(0), groupDigits(123), groupDigits(1234n), groupDigits("3458764513820540928")],
     ["0", "123", "1,234", "3,458,764,513,820,540,928"], "numbers with commas");
-  checkEqual(parseMeasurement("ring 27\npixels 5\nshare 0.250000000000\n"), { ring: "27", pixels: "5", share: "0.250000000000" },
+  checkEqual(parseMeasurement("ring 27\npixels 5\nshare 0.250000000000\n"),
+    { ring: "27", pixels: "5", share: "0.250000000000" },
     "a measurement");
 }
 
 // ---- the projection
 
-// The centre of a cell of the nested numbering: z = sin(declination) and right ascension, as pix2ang_nest of HEALPix computes them.
+// The centre of a cell of the nested numbering: z = sin(declination) and right ascension, as pix2ang_nest of HEALPix
+// computes them.
 function directionOf(order, cell) {
   const side = 2 ** order, area = side * side, face = Math.floor(cell / area);
   let x = 0, y = 0;
@@ -179,7 +193,8 @@ function testProjection() {
   for (let order = 0; order <= 3; order += 1) {
     let isRight = true;
     for (let number = 0; number < 12 * 4 ** order; number += 1) {
-      const point = project(directionOf(order, number)), cell = cellOfNumber(order, BigInt(number)), middle = centre(cell);
+      const point = project(directionOf(order, number)), cell = cellOfNumber(order, BigInt(number)),
+        middle = centre(cell);
       const half = 128 / 2 ** order;
       isRight &&= isClose(middle.x, point.x) && Math.abs(middle.y - point.y) < 1e-6;
       for (const [right, down] of [[0, 0], [0.4, 0.4], [-0.4, 0.4], [0.4, -0.4], [-0.4, -0.4]]) {
@@ -190,12 +205,14 @@ function testProjection() {
     check(isRight, `each cell of order ${order} is at its place in the picture`);
   }
   checkEqual(cellAt(10, 10, 3), null, "the cell between the northern base pixels");
-  checkEqual([cellAt(-5, 256, 3), cellAt(1030, 256, 3), cellAt(512, -1, 3), cellAt(512, 513, 3)], [null, null, null, null],
+  checkEqual([cellAt(-5, 256, 3), cellAt(1030, 256, 3), cellAt(512, -1, 3), cellAt(512, 513, 3)],
+    [null, null, null, null],
     "the cells outside of the sky");
   const deep = 12n * 4n ** 29n - 12345678901n, cell = cellOfNumber(29, deep), { x, y } = centre(cell);
   checkEqual(cellAt(x, y, 29)?.cell, deep, "a cell of order 29");
   checkEqual([nuniq(cellOfNumber(0, 0n)), nuniq(cellOfNumber(1, 4n))], [4n, 20n], "NUNIQ numbers");
-  checkEqual([diamonds(cellOfNumber(0, 4n)).length, diamonds(cellOfNumber(0, 5n))], [2, ["768,128 896,256 768,384 640,256"]], "diamonds");
+  checkEqual([diamonds(cellOfNumber(0, 4n)).length, diamonds(cellOfNumber(0, 5n))],
+    [2, ["768,128 896,256 768,384 640,256"]], "diamonds");
 }
 
 function testNeighbours() {
@@ -206,7 +223,8 @@ function testNeighbours() {
     for (const direction of ["north", "south", "east", "west"]) {
       const next = neighbour(cell, direction), isVertical = direction === "north" || direction === "south";
       const isAtPole = (direction === "north" && cell.row === 1) || (direction === "south" && cell.row === 31);
-      isAdjacent &&= isAtPole ? next.cell === number : next.cell !== number && Math.abs(next.row - cell.row) === (isVertical ? 1 : 0);
+      isAdjacent &&= isAtPole ? next.cell === number : next.cell !== number
+        && Math.abs(next.row - cell.row) === (isVertical ? 1 : 0);
       if (!isVertical) isInverse &&= neighbour(next, opposite[direction]).cell === number;
     }
   }
@@ -228,7 +246,8 @@ function testHistory() {
   let now = "one";
   const change = (next) => { history.record(now); now = next; };
   const capture = () => now;
-  checkEqual([history.canUndo, history.undo(capture), history.canRedo, history.redo(capture)], [false, null, false, null], "no history");
+  checkEqual([history.canUndo, history.undo(capture), history.canRedo, history.redo(capture)],
+    [false, null, false, null], "no history");
   change("two");
   change("three");
   now = history.undo(capture);
@@ -252,9 +271,11 @@ function testHistory() {
 function testContents() {
   const isFile = (bytes) => fileContent("name", bytes).file !== null;
   checkEqual([isFile(utf8.encode("1/0")), isFile(utf8.encode("SIMPLE  = T")), isFile(new Uint8Array([0x1f, 0x8b])),
-    isFile(new Uint8Array([0xff, 0xfe, 0x31, 0])), isFile(utf8.encode("1".repeat(200_001)))], [false, true, true, true, true],
+    isFile(new Uint8Array([0xff, 0xfe, 0x31, 0])), isFile(utf8.encode("1".repeat(200_001)))],
+      [false, true, true, true, true],
   "which files are not shown");
-  checkEqual([...contentBytes(fileContent("name", utf8.encode("\ufeff1/0")))].slice(0, 3), [0xef, 0xbb, 0xbf], "a byte order mark");
+  checkEqual([...contentBytes(fileContent("name", utf8.encode("\ufeff1/0")))].slice(0, 3), [0xef, 0xbb, 0xbf],
+    "a byte order mark");
   checkEqual(fileContent("name", utf8.encode("16\r\n17\r\n")).text, "16\n17\n", "the text of a file with CR");
   checkEqual(textContent("1".repeat(200_001)).file?.bytes.length, 200_001, "a text that is too long");
   checkEqual([isBlank(utf8.encode(" \n\t\r")), isBlank(utf8.encode(" 0"))], [true, false], "blanks");
@@ -266,12 +287,15 @@ function testContents() {
 async function testLinks() {
   const bytes = Uint8Array.from({ length: 256 }, (_, at) => at);
   checkEqual([...decodeBase64(encodeBase64(bytes))], [...bytes], "bytes through base64url");
-  const state = { coverages: [{ text: "1/0 é", format: 2 }, { text: "", format: 3 }], settings: { output: "1" }, script: "add 0/0" };
+  const state = { coverages: [{ text: "1/0 é", format: 2 }, { text: "", format: 3 }], settings: { output: "1" },
+    script: "add 0/0" };
   const fragment = await encodeState(state);
   check(/^#1[\w-]+$/.test(fragment), "a fragment has characters of base64url only");
-  checkEqual(await decodeState(fragment), { ...state, coverages: state.coverages.map((it) => ({ ...it, file: null })) }, "a state in a link");
+  checkEqual(await decodeState(fragment),
+    { ...state, coverages: state.coverages.map((it) => ({ ...it, file: null })) }, "a state in a link");
   checkEqual(await decodeState("#other"), null, "another fragment");
-  const odd = await decodeState(await encodeState({ coverages: Array(20).fill({ text: 5, format: "9" }), settings: { output: { a: 1 } } }));
+  const odd = await decodeState(
+    await encodeState({ coverages: Array(20).fill({ text: 5, format: "9" }), settings: { output: { a: 1 } } }));
   checkEqual([odd.coverages.length, odd.coverages[0], odd.settings.output, "script" in odd],
     [8, { text: "5", format: 3, file: null }, "[object Object]", false], "values of other types");
   const large = await encodeState({ coverages: [{ text: "1".repeat(5_000_000), format: 3 }], settings: {} });
@@ -310,7 +334,8 @@ function fakeModule(needed) {
     },
     web_job(result, number, text, length, output, capacity) {
       calls.push({ number, capacity });
-      const bytes = new Uint8Array(memory.buffer, Number(text), Number(length)), view = new DataView(memory.buffer, Number(result), 16);
+      const bytes = new Uint8Array(memory.buffer, Number(text), Number(length)),
+        view = new DataView(memory.buffer, Number(result), 16);
       if (bytes[0] === 33) throw new WebAssembly.RuntimeError("trap");
       view.setUint32(0, capacity < BigInt(needed) ? Status.SHORT_BUFFER : number, true);
       view.setBigUint64(8, BigInt(needed), true);
@@ -330,10 +355,13 @@ function testModuleCalls() {
   try {
     fake = fakeModule(5);
     const caller = new CoverageModule(null), first = caller.call("job", [0], utf8.encode("abc"));
-    checkEqual([first.status, [...first.output], fake.allocated.size], [Status.DONE, [97, 97, 97, 97, 97], 0], "a call");
+    checkEqual([first.status, [...first.output], fake.allocated.size], [Status.DONE, [97, 97, 97, 97, 97], 0],
+      "a call");
     checkEqual(caller.call("job", [1], utf8.encode("b")).status, Status.ERROR, "a call that reports an error");
-    checkEqual(caller.call("job", [3], utf8.encode("b")), { status: Status.BAD_NUMBER, output: new Uint8Array() }, "a call with a bad number");
-    checkEqual([caller.call("job", [0], new Uint8Array(20_000_001)).status, fake.allocated.size], [Status.OUT_OF_MEMORY, 0], "a text without space");
+    checkEqual(caller.call("job", [3], utf8.encode("b")), { status: Status.BAD_NUMBER, output: new Uint8Array() },
+      "a call with a bad number");
+    checkEqual([caller.call("job", [0], new Uint8Array(20_000_001)).status, fake.allocated.size],
+      [Status.OUT_OF_MEMORY, 0], "a text without space");
     checkEqual(made, 1, "the number of instances");
     let isThrown = false;
     try {
@@ -344,10 +372,12 @@ function testModuleCalls() {
     fake = fakeModule(3_000_000);
     const long = caller.call("job", [0], utf8.encode("c"));
     checkEqual([isThrown, made], [true, 2], "an instance is not used after a trap");
-    checkEqual([long.output.length, fake.calls.length, Number(fake.calls[1].capacity), fake.allocated.size], [3_000_000, 2, 3_000_000, 0],
+    checkEqual([long.output.length, fake.calls.length, Number(fake.calls[1].capacity), fake.allocated.size],
+      [3_000_000, 2, 3_000_000, 0],
       "a call with too short a buffer");
     fake = fakeModule(30_000_000);
-    checkEqual([new CoverageModule(null).call("job", [0], utf8.encode("c")).status, fake.allocated.size], [Status.OUT_OF_MEMORY, 0],
+    checkEqual([new CoverageModule(null).call("job", [0], utf8.encode("c")).status, fake.allocated.size],
+      [Status.OUT_OF_MEMORY, 0],
       "a call without space for the output");
   } finally {
     WebAssembly.Instance = original;
@@ -367,7 +397,8 @@ function testBundle() {
   const folder = mkdtempSync(join(tmpdir(), "bundle-test-"));
   const script = join(folder, "scripts", "formats.js"), worker = join(folder, "scripts", "worker.js");
   try {
-    for (const name of ["bundle.py", "page.html", "page.css", "scripts"]) cpSync(join(WEB, name), join(folder, name), { recursive: true });
+    for (const name of ["bundle.py", "page.html", "page.css", "scripts"]) cpSync(join(WEB, name), join(folder, name),
+      { recursive: true });
     const { status, stderr, page } = runBundle(folder);
     checkEqual([status, stderr], [0, ""], "the result of the tool");
     const text = page();
@@ -391,7 +422,8 @@ function testBundle() {
       const source = readFileSync(file, "utf8");
       writeFileSync(file, addition + source);
       const damaged = runBundle(folder);
-      check(damaged.status === 1 && damaged.stderr.includes(message), `${addition.trim()} is an error: ${damaged.stderr}`);
+      check(damaged.status === 1 && damaged.stderr.includes(message),
+        `${addition.trim()} is an error: ${damaged.stderr}`);
       writeFileSync(file, source);
     }
   } finally {
