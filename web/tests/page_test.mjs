@@ -93,7 +93,8 @@ async function clickPart(letter, part) {
 
 async function drop(letter, name, bytes) {
   const encoded = Buffer.from(bytes).toString("base64");
-  await browser.run(`helpers.drop(${quote(letter)}, ${quote(name)}, Uint8Array.from(atob(${quote(encoded)}), (it) => it.charCodeAt(0)))`);
+  await browser.run(`helpers.drop(${quote(letter)}, ${quote(name)},
+    Uint8Array.from(atob(${quote(encoded)}), (character) => character.charCodeAt(0)))`);
   await new Promise((resolve) => { setTimeout(resolve, 100); });
   await settle();
 }
@@ -118,10 +119,10 @@ const paneState = (letter) => browser.run(`({
 const ERRORS = [
   ["1/0-3 2/20\n5/1 〈3/7-5〉 6/1", "3", "Backwards"],
   ["1/0-3 〈é〉 2/20", "3", "BadByte"],
-  ["1/é 〈2/x〉".replace("é", "3"), "3", "BadByte"],
+  ["1/3 〈2/x〉", "3", "BadByte"],
   ["1/0-3 〈2/20-〉", "3", "Unfinished"],
   ["〈30/1〉", "3", "OrderTooLarge"],
-  ["〈7〉/0".replace("/0", ""), "3", "NoOrder"],
+  ["〈7〉 1/0", "3", "NoOrder"],
   ["1/0, 2,〈99〉", "0", "CellTooLarge"],
   ['{"1":[0,1,〈48〉],"2":[7]}', "3", "CellTooLarge"],
   ['{"2":[0, 1, 〈true〉 ,4]}', "3", "NotWhole"],
@@ -160,11 +161,13 @@ async function testGoingToErrors() {
   const text = `${"1/0 2/5 3/7\n".repeat(200)}3/7-5 and more`;
   await setPane("A", text);
   const selection = `[document.activeElement === helpers.part("A", "text"),
-    helpers.part("A", "text").value.slice(helpers.part("A", "text").selectionStart, helpers.part("A", "text").selectionEnd)]`;
+    helpers.part("A", "text").value.slice(helpers.part("A", "text").selectionStart,
+      helpers.part("A", "text").selectionEnd)]`;
   await clickPart("A", "goto");
   checkEqual(await browser.run(selection), [true, "3/7-5"], "the selection after Go to the error");
   const isVisible = `(() => { const mark = helpers.part("A", "marks").querySelector("mark").getBoundingClientRect();
-    const field = helpers.part("A", "text").getBoundingClientRect(); return mark.top >= field.top && mark.bottom <= field.bottom; })()`;
+    const field = helpers.part("A", "text").getBoundingClientRect();
+    return mark.top >= field.top && mark.bottom <= field.bottom; })()`;
   await new Promise((resolve) => { setTimeout(resolve, 100); });
   check(await browser.run(isVisible), "the marked error is visible");
   await browser.run("helpers.part('A', 'text').scrollTop = 0; helpers.part('A', 'text').setSelectionRange(0, 0)");
@@ -198,8 +201,8 @@ async function testFiles() {
     ["map.html", Buffer.from("<!doctype html><p>"), ""],
   ]) {
     await drop("A", name, bytes);
-    const advice = await browser.run(`[helpers.isShown(helpers.part("A", "advice")), helpers.part("A", "command").textContent,
-      helpers.part("A", "adviceText").textContent !== ""]`);
+    const advice = await browser.run(`[helpers.isShown(helpers.part("A", "advice")),
+      helpers.part("A", "command").textContent, helpers.part("A", "adviceText").textContent !== ""]`);
     checkEqual(advice, [true, command, true], `the advice for ${name}`);
   }
   await drop("A", "good.txt", Buffer.from("1/0-3"));
@@ -335,8 +338,8 @@ async function testCells() {
       `${share / 10n ** 12n}.${String(share % 10n ** 12n).padStart(12, "0")}`];
   };
   await browser.run("helpers.id('sky').scrollIntoView({ block: 'center' })");
-  const [left, top, scale] = await browser.run(`(() => { const frame = helpers.id("sky-overlay").getBoundingClientRect(),
-    box = helpers.id("sky-overlay").viewBox.baseVal, scale = frame.width / box.width;
+  const [left, top, scale] = await browser.run(`(() => { const overlay = helpers.id("sky-overlay"),
+    frame = overlay.getBoundingClientRect(), box = overlay.viewBox.baseVal, scale = frame.width / box.width;
     return [frame.left - box.x * scale, frame.top - box.y * scale, scale]; })()`);
   for (const [order, number] of [[3, 0], [3, 80], [3, 81], [3, 300], [1, 16], [1, 5], [5, 5000], [5, 4100]]) {
     await setControl("grid-order", String(order));
@@ -403,7 +406,7 @@ async function testHistory() {
   await browser.run("helpers.id('example').value = 'json'");
   await click("load-example");
   check((await texts())[0].startsWith("{"), "an example is loaded");
-  for (const expected of [union.slice(0, 2), union, ["1/0", "2/7", "3/9"], ["1/0", "1/1", "3/9"]].slice(0, 3)) {
+  for (const expected of [union.slice(0, 2), union, ["1/0", "2/7", "3/9"]]) {
     await click("undo");
     checkEqual(await texts(), expected, "the texts after another Undo");
   }
@@ -442,8 +445,9 @@ async function testLinks() {
   await browser.until("location.hash.length > 10");
   const link = await browser.run("location.href"), result = await textOf("result-text");
   await load(link);
-  const state = await browser.run(`[...helpers.texts(), helpers.part("B", "format").value, helpers.id("operation").value,
-    helpers.id("output-format").value, helpers.id("grid-order").value, helpers.id("script-text").value, helpers.id("script").open]`);
+  const state = await browser.run(`[...helpers.texts(), helpers.part("B", "format").value,
+    ...["operation", "output-format", "grid-order", "script-text"].map((id) => helpers.id(id).value),
+    helpers.id("script").open]`);
   checkEqual(state, [FIRST, THIRD, "2", "difference", "1", "5", "add 0/1 é\nread 0/0-11", true],
     "the state after a link");
   checkEqual(await textOf("result-text"), result, "the result after a link");
@@ -476,7 +480,8 @@ async function testScripts() {
   expected.splice(1, 0, "");
   checkEqual(replies, expected, "the replies beside the lines");
   const [field, reply] = await browser.run(`["script-text", "script-replies"].map((id) => helpers.id(id))
-    .map((element) => element.getBoundingClientRect().top + parseFloat(getComputedStyle(element).paddingTop) + element.clientTop)`);
+    .map((element) => element.getBoundingClientRect().top + parseFloat(getComputedStyle(element).paddingTop)
+      + element.clientTop)`);
   check(Math.abs(field - reply) <= 2, `the first line and its reply are at one height: ${field}, ${reply}`);
 }
 
@@ -559,16 +564,18 @@ async function testLargeTexts() {
   await settle();
   const milliseconds = performance.now() - begin;
   check(milliseconds < LARGE_TEXT_LIMIT, `a text of 8 MB takes ${milliseconds.toFixed(0)} ms`);
-  console.log(`a text of ${text.length} bytes is read, drawn, measured and converted after ${milliseconds.toFixed(0)} ms`);
+  console.log(`a text of ${text.length} bytes is read, drawn and converted after ${milliseconds.toFixed(0)} ms`);
   const cells = /cells (\d+)/.exec(moc(text, "describe", "ascii"))[1].replace(/\B(?=(\d{3})+$)/g, ",");
   checkEqual((await paneState("A")).status, `Valid: ASCII, ${cells} cells.`, "the status of a large text");
   check((await browser.run("helpers.part('A', 'fileName').textContent")).startsWith("large.txt, 8,0"),
     "the name and the size of the file");
   const at = text.indexOf(" ", 5_000_000);
-  await browser.run(`helpers.drop("A", "damaged.txt", new TextEncoder().encode(pieces.join("").slice(0, ${at}) + " 5-x " + pieces.join("").slice(${at})))`);
+  await browser.run(`{ const text = pieces.join("");
+    helpers.drop("A", "damaged.txt", new TextEncoder().encode(text.slice(0, ${at}) + " 5-x " + text.slice(${at}))); }`);
   await browser.until("helpers.part('A', 'fileName').textContent.startsWith('damaged.txt')");
   await settle();
-  const excerpt = await browser.run(`[helpers.isShown(helpers.part("A", "excerpt")), helpers.part("A", "excerpt").querySelector("mark").textContent,
+  const excerpt = await browser.run(`[helpers.isShown(helpers.part("A", "excerpt")),
+    helpers.part("A", "excerpt").querySelector("mark").textContent,
     helpers.part("A", "excerpt").textContent.length < 1000]`);
   checkEqual(excerpt, [true, "5-x", true], "the excerpt of a damaged large text");
   await clickPart("A", "goto");
@@ -673,7 +680,8 @@ async function testWidths() {
   await browser.press("ArrowRight");
   for (const width of [320, 768, 1400, 4096]) {
     await browser.setWidth(width);
-    const shown = await browser.run(`[innerWidth, document.documentElement.scrollWidth, Math.max(...[...document.querySelectorAll("body *")]
+    const shown = await browser.run(`[innerWidth, document.documentElement.scrollWidth,
+      Math.max(...[...document.querySelectorAll("body *")]
       .filter((element) => element.checkVisibility() && !element.closest(".scroll, .hidden-text, .skip, .marks"))
       .map((element) => Math.ceil(element.getBoundingClientRect().right)))]`);
     checkEqual(shown.slice(0, 2), [width, width], `the width of the page at ${width}`);

@@ -134,7 +134,8 @@ function testReports() {
 // ---- statistics
 
 function testStatistics() {
-  const text = "deepest 3\npixels 90071992547409920\nshare 0.026041666666\narea 1074.295865870293\nranges 1\ncells 2\norder 1 1\norder 2 1\n";
+  const text = "deepest 3\npixels 90071992547409920\nshare 0.026041666666\narea 1074.295865870293\nranges 1\ncells 2\n"
+    + "order 1 1\norder 2 1\n";
   const expected = { mocOrder: 3, pixels: 90071992547409920n, share: "0.026041666666", area: "1074.295865870293",
     ranges: 1n, cells: 2n,
     orders: [{ order: 1, cells: 1n }, { order: 2, cells: 1n }] };
