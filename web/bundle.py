@@ -3,12 +3,13 @@
 
 usage: web/bundle.py MODULE OUTPUT
 
-The module is compressed by gzip and encoded as base64url. The scripts are concatenated in the order of their imports, without the lines of
-imports and the keyword `export`. The script of the worker is a bundle of its own, which the page starts. The security policy of the page has
-the digests of its style and its script, and forbids every connection.
+The module is compressed by gzip and encoded as base64url. The scripts are concatenated in the order of their imports,
+without the lines of imports and the keyword `export`. The script of the worker is a bundle of its own, which the page
+starts. The security policy of the page has the digests of its style and its script, and forbids every connection.
 
-A script may only have imports of names from files next to it, and one name in each declaration at its top level. The tool reports an error
-if a script has another import, if an imported name is not exported, or if a name is declared twice."""
+A script may only have imports of names from files next to it, and one name in each declaration at its top level. The
+tool reports an error if a script has another import, if an imported name is not exported, or if a name is declared
+twice."""
 from __future__ import annotations
 
 import base64
@@ -27,8 +28,8 @@ DECLARATION = re.compile(r"^(export )?(?:(?:async )?function\*? (\w+)|class (\w+
 STATEMENT = re.compile(r"^(?:export|import|async function|function|class|const|let|var)\b.*", re.MULTILINE)
 # What may not be in the scripts, because it would end an element of the page or begin a comment.
 MARKUP = re.compile(r"</script|<!--", re.IGNORECASE)
-POLICY = ("default-src 'none'; connect-src 'none'; style-src {style}; script-src {script} 'wasm-unsafe-eval'; worker-src blob:; "
-          "img-src blob: data:; form-action 'none'; base-uri 'none'")
+POLICY = ("default-src 'none'; connect-src 'none'; style-src {style}; script-src {script} 'wasm-unsafe-eval'; "
+          "worker-src blob:; img-src blob: data:; form-action 'none'; base-uri 'none'")
 
 
 class BundleError(Exception):
@@ -45,7 +46,7 @@ def imports_of(name: str, source: str) -> list[tuple[list[str], str]]:
     """Returns the imported names of a script and their files."""
     found = [(match[1].split(", "), match[2]) for match in IMPORT.finditer(source)]
     if len(found) != len(re.findall(r"^\s*import\b", source, re.MULTILINE)):
-        raise BundleError(f"{name}: an import has another form than `import {{ name }} from \"./file.js\";`")
+        raise BundleError(f"{name}: an import has another form than `import {{ name }} from './file.js';`")
     return found
 
 
@@ -94,7 +95,8 @@ def bundle_scripts(folder: str, name: str) -> str:
             for word in words:
                 if not names[imported].get(word):
                     raise BundleError(f"{script}: {imported} does not export {word}")
-    text = "\n".join(re.sub(r"^export ", "", IMPORT.sub("", source), flags=re.MULTILINE).strip() + "\n" for source in sources.values())
+    plain = [re.sub(r"^export ", "", IMPORT.sub("", source), flags=re.MULTILINE) for source in sources.values()]
+    text = "\n".join(f"{source.strip()}\n" for source in plain)
     if MARKUP.search(text):
         raise BundleError(f"{name}: the scripts have markup that would end their element")
     return text
@@ -117,9 +119,10 @@ def bundle(module: bytes) -> str:
     """Returns the page for a module of WebAssembly."""
     style, script = read_text(os.path.join(FOLDER, "page.css")), bundle_scripts(SCRIPTS, PAGE_SCRIPT)
     compressed = base64.urlsafe_b64encode(gzip.compress(module, 9, mtime=0)).decode().rstrip("=")
+    policy = POLICY.format(style=digest(style), script=digest(script))
     page = read_text(os.path.join(FOLDER, "page.html"))
-    for place, text in [("POLICY", POLICY.format(style=digest(style), script=digest(script))), ("STYLE", style), ("SCRIPT", script),
-                        ("WORKER", bundle_scripts(SCRIPTS, WORKER_SCRIPT)), ("MODULE", compressed)]:
+    for place, text in [("POLICY", policy), ("STYLE", style), ("SCRIPT", script), ("MODULE", compressed),
+                        ("WORKER", bundle_scripts(SCRIPTS, WORKER_SCRIPT))]:
         page = fill(page, place, text)
     return page
 

@@ -119,6 +119,9 @@ function testReports() {
   checkEqual([line.position, line.expected], ["line 2: `x`", "each line is one number, of digits only"],
     "BadByte of a list");
   checkEqual(parseReport("fault NotObject\ntext 17\n").position, "text 17", "the position of a text");
+  const position = "text 2, byte 2, line 1, byte 2 of it: `12`", expected = "cells of order 0 go up to 11";
+  const second = parseReport(`fault CellTooLarge\n${position}\n${expected}\n`);
+  checkEqual([second.position, second.expected], [position, expected], "the report about a second text");
   checkEqual(describeReport(parseReport("fault TooLong\n")), "TooLong (text too long).", "a report of one line");
   checkEqual(offerFor("this looks like FITS; python -m ploverchaise convert reads it")?.command,
     "python -m ploverchaise convert FILE", "the command for FITS");
@@ -226,10 +229,11 @@ function testNeighbours() {
       const isAtPole = (direction === "north" && cell.row === 1) || (direction === "south" && cell.row === 31);
       isAdjacent &&= isAtPole ? next.cell === number : next.cell !== number
         && Math.abs(next.row - cell.row) === (isVertical ? 1 : 0);
-      if (!isVertical) isInverse &&= neighbour(next, opposite[direction]).cell === number;
+      const isReversible = !isVertical || (cell.row > 9 && cell.row < 23);
+      if (isReversible) isInverse &&= neighbour(next, opposite[direction]).cell === number;
     }
   }
-  check(isInverse, "west is the inverse of east");
+  check(isInverse, "west is the inverse of east, and south that of north except near the poles");
   check(isAdjacent, "north and south are the next rows, and a pole has none");
   for (const row of [1, 5, 8, 16, 27, 31]) {
     const cells = rowCells(3, row);
@@ -271,10 +275,11 @@ function testHistory() {
 
 function testContents() {
   const isFile = (bytes) => fileContent("name", bytes).file !== null;
-  checkEqual([isFile(utf8.encode("1/0")), isFile(utf8.encode("SIMPLE  = T")), isFile(new Uint8Array([0x1f, 0x8b])),
-    isFile(new Uint8Array([0xff, 0xfe, 0x31, 0])), isFile(utf8.encode("1".repeat(200_001)))],
-      [false, true, true, true, true],
-  "which files are not shown");
+  check(!isFile(utf8.encode("1/0")), "a text is shown");
+  for (const text of ["SIMPLE  = T", "1/0\0", "1".repeat(200_001)]) {
+    check(isFile(utf8.encode(text)), `${text.slice(0, 20)} is not shown`);
+  }
+  for (const bytes of [[0x1f, 0x8b], [0xff, 0xfe, 0x31, 0]]) check(isFile(new Uint8Array(bytes)), `${bytes} is not shown`);
   checkEqual([...contentBytes(fileContent("name", utf8.encode("\ufeff1/0")))].slice(0, 3), [0xef, 0xbb, 0xbf],
     "a byte order mark");
   checkEqual(fileContent("name", utf8.encode("16\r\n17\r\n")).text, "16\n17\n", "the text of a file with CR");
