@@ -128,8 +128,12 @@ export class CoveragePane {
 
   #typed() {
     const { text, format } = this.content;
-    if (text.length > MAX_SHOWN) this.content = textContent(text, format);
-    else this.#contentChanged();
+    if (text.length <= MAX_SHOWN) {
+      this.#contentChanged();
+      return;
+    }
+    this.content = textContent(text, format);
+    this.focus();
   }
 
   async #openFile(file) {

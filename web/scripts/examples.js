@@ -1,7 +1,9 @@
 import { nuniq, rowCells } from "./projection.js";
 
-const CAP_ORDER = 3;
-const CAP_ROWS = 5;
+// The rows of cells of an order that the examples have.
+const ORDER = 3;
+const NORTHERN_ROWS = [1, 2, 3, 4, 5];
+const EQUATORIAL_ROWS = [14, 15, 16, 17, 18];
 
 /**
  * The examples: a label, the texts of coverages, and settings of the page.
@@ -20,16 +22,19 @@ export const EXAMPLES = Object.freeze({
     settings: { operation: "intersection", output: "ASCII", shown: "coverages" },
   },
   json: {
-    label: "A hemisphere without a strip (JSON)",
+    label: "A strip along the equator without a field (JSON)",
     coverages: [
-      { text: '{"0":[0,1,2,3],"1":[17,19,21,23,25,27,29,31]}' },
-      { text: '{"3":[0,1,2,3,64,65,66,67,128,129,130,131]}' },
+      { text: JSON.stringify({ [ORDER]: cellsOfRows(EQUATORIAL_ROWS).map(({ cell }) => Number(cell)) }) },
+      { text: '{"2":[99,101,102,105,106,108]}' },
     ],
     settings: { operation: "difference", output: "JSON", shown: "coverages" },
   },
   cap: {
     label: "The cap north of about 60 degrees (NUNIQ list)",
-    coverages: [{ text: northernCap(), format: "NUNIQ" }, { text: "" }],
+    coverages: [
+      { text: cellsOfRows(NORTHERN_ROWS).map((cell) => `${nuniq(cell)}\n`).join(""), format: "NUNIQ" },
+      { text: "" },
+    ],
     settings: { operation: "complement", output: "ASCII", shown: "coverages" },
   },
   script: {
@@ -38,7 +43,7 @@ export const EXAMPLES = Object.freeze({
   },
 });
 
-function northernCap() {
-  const rows = Array.from({ length: CAP_ROWS }, (_, at) => rowCells(CAP_ORDER, at + 1));
-  return rows.flat().map(nuniq).sort((one, other) => (one < other ? -1 : 1)).map((number) => `${number}\n`).join("");
+// The cells of rows, sorted by their nested numbers.
+function cellsOfRows(rows) {
+  return rows.flatMap((row) => rowCells(ORDER, row)).sort((one, other) => Number(one.cell - other.cell));
 }

@@ -225,6 +225,7 @@ async function startPage() {
   const client = new WorkerClient(byId("worker-source").textContent);
   const result = await client.start(decodeBase64(byId("module-data").textContent));
   if (result.status !== Status.DONE) {
+    byId("page-status").classList.add("invalid");
     setText(byId("page-status"), `This browser cannot run the module: ${result.error}`);
     return;
   }

@@ -1,6 +1,7 @@
 import { byId, create, setText } from "./dom.js";
 import { describeFailure } from "./error_report.js";
 import { Status } from "./module.js";
+import { groupDigits } from "./statistics.js";
 import { LatestTask } from "./tasks.js";
 
 const SCRIPT_DELAY = 150;
@@ -43,7 +44,8 @@ export class ScriptPane {
     const lines = repliesByLine(script, replies);
     this.#replies.replaceChildren(...lines.slice(0, MAX_LINES).map(replyLine));
     const faults = replies.filter(isFault).length;
-    setText(this.#status, isDone ? summary(replies.length, faults) : describeFailure(result));
+    const note = lines.length > MAX_LINES ? ` Those to the first ${groupDigits(MAX_LINES)} lines are shown.` : "";
+    setText(this.#status, isDone ? summary(replies.length, faults) + note : describeFailure(result));
   }
 }
 

@@ -279,7 +279,9 @@ function testContents() {
   for (const text of ["SIMPLE  = T", "1/0\0", "1".repeat(200_001)]) {
     check(isFile(utf8.encode(text)), `${text.slice(0, 20)} is not shown`);
   }
-  for (const bytes of [[0x1f, 0x8b], [0xff, 0xfe, 0x31, 0]]) check(isFile(new Uint8Array(bytes)), `${bytes} is not shown`);
+  for (const bytes of [[0x1f, 0x8b], [0xff, 0xfe, 0x31, 0]]) {
+    check(isFile(new Uint8Array(bytes)), `${bytes} is not shown`);
+  }
   checkEqual([...contentBytes(fileContent("name", utf8.encode("\ufeff1/0")))].slice(0, 3), [0xef, 0xbb, 0xbf],
     "a byte order mark");
   checkEqual(fileContent("name", utf8.encode("16\r\n17\r\n")).text, "16\n17\n", "the text of a file with CR");
