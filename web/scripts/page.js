@@ -80,14 +80,14 @@ class Page {
     else this.#undo();
   }
 
-  // The parts of the page that a state has, as they are now.
-  #capture(state) {
+  // Returns parts of the page as they are now.
+  #capture(parts) {
     const all = {
       coverages: () => this.#panes.map(({ content }) => content),
       settings: () => Object.fromEntries(Object.entries(SETTINGS).map(([name, id]) => [name, byId(id).value])),
       script: () => this.#script.script,
     };
-    return Object.fromEntries(Object.keys(state).map((part) => [part, all[part]()]));
+    return Object.fromEntries(parts.map((part) => [part, all[part]()]));
   }
 
   #restore({ coverages, settings, script }) {
@@ -111,7 +111,7 @@ class Page {
 
   #appendPane() {
     const pane = new CoveragePane(this.#panes.length, this.#client, this.#activity, {
-      beforeReplace: () => this.#record({ coverages: [] }),
+      beforeReplace: () => this.#record(["coverages"]),
       onChange: () => this.#updateTask.request(),
       onRemove: (removed) => this.#removeCoverage(removed),
     });
@@ -126,21 +126,23 @@ class Page {
   }
 
   #change(state) {
-    this.#record(state);
+    this.#record(Object.keys(state));
     this.#restore(state);
     if (state.script !== undefined) byId("script").open = true;
   }
 
   #undo() {
-    const state = this.#history.undo((parts) => this.#capture(parts));
-    if (state) this.#restore(state);
-    if (state) setText(this.#status, "Undone.");
+    this.#move(this.#history.undo((state) => this.#capture(Object.keys(state))), "Undone.");
   }
 
   #redo() {
-    const state = this.#history.redo((parts) => this.#capture(parts));
-    if (state) this.#restore(state);
-    if (state) setText(this.#status, "Redone.");
+    this.#move(this.#history.redo((state) => this.#capture(Object.keys(state))), "Redone.");
+  }
+
+  #move(state, message) {
+    if (!state) return;
+    this.#restore(state);
+    setText(this.#status, message);
   }
 
   #showHistory() {
@@ -149,13 +151,13 @@ class Page {
   }
 
   #addCoverage() {
-    const { coverages } = this.#capture({ coverages: [] });
+    const { coverages } = this.#capture(["coverages"]);
     this.#restoreCoverages([...coverages, emptyContent()]);
     this.#panes.at(-1).focus();
   }
 
   #removeCoverage(removed) {
-    const { coverages } = this.#capture({ coverages: [] });
+    const { coverages } = this.#capture(["coverages"]);
     this.#change({ coverages: coverages.filter((_, index) => this.#panes[index] !== removed) });
     byId("add-coverage").focus();
   }
@@ -178,7 +180,7 @@ class Page {
   }
 
   async #copyLink() {
-    const state = this.#capture({ coverages: [], settings: {}, ...(byId("script").open && { script: "" }) });
+    const state = this.#capture(["coverages", "settings", ...(byId("script").open ? ["script"] : [])]);
     if (state.coverages.some(({ file }) => file)) {
       setText(this.#status, "A file is too long for a link.");
       return;

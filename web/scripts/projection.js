@@ -4,9 +4,8 @@
 
 /** @typedef {{ order: number, cell: bigint, row: number, column: number }} PictureCell */
 
-/** The width of the sky in units of the picture. */
-export const SKY_WIDTH = 1024;
-
+// The width of the sky, in units of the picture.
+const SKY_WIDTH = 1024;
 const BASE_HALF_DIAGONAL = 128;
 const BASE_PIXELS = 12;
 

@@ -43,9 +43,9 @@ export class ScriptPane {
     const replies = isDone ? new TextDecoder().decode(result.output).split("\n").slice(0, -1) : [];
     const lines = repliesByLine(script, replies);
     this.#replies.replaceChildren(...lines.slice(0, MAX_LINES).map(replyLine));
-    const faults = replies.filter(isFault).length;
+    const errors = replies.filter(isErrorReply).length;
     const note = lines.length > MAX_LINES ? ` Those to the first ${groupDigits(MAX_LINES)} lines are shown.` : "";
-    setText(this.#status, isDone ? summary(replies.length, faults) + note : describeFailure(result));
+    setText(this.#status, isDone ? summary(replies.length, errors) + note : describeFailure(result));
   }
 }
 
@@ -60,15 +60,15 @@ export function repliesByLine(script, replies) {
   return script.split("\n").map((line) => (/^[ \t\r]*$/.test(line) ? "" : remaining.next().value ?? ""));
 }
 
-function isFault(reply) {
+function isErrorReply(reply) {
   return reply.startsWith("fault ");
 }
 
 function replyLine(reply) {
-  return create("div", isFault(reply) ? { class: "invalid" } : {}, reply || "\u00a0");
+  return create("div", isErrorReply(reply) ? { class: "invalid" } : {}, reply || "\u00a0");
 }
 
-function summary(replies, faults) {
+function summary(replies, errors) {
   if (replies === 0) return "The script is empty.";
-  return faults === 0 ? `Replies: ${replies}.` : `Replies: ${replies}, of which ${faults} report an invalid line.`;
+  return errors === 0 ? `Replies: ${replies}.` : `Replies: ${replies}, of which ${errors} report an invalid line.`;
 }
