@@ -620,7 +620,7 @@ async function testNames() {
   checkEqual(names.filter((name, at) => names.indexOf(name) !== at), [], "buttons with the same name");
   const invalid = nodes.filter(
     ({ properties = [] }) => properties.some(({ name, value }) => name === "invalid" && value.value === "true"));
-  checkEqual(invalid.map(({ name, description }) => [name.value, description.value.startsWith("Backwards")]),
+  checkEqual(invalid.map(({ name, description }) => [name.value, description?.value.startsWith("Backwards")]),
     [["Coverage A", true]],
     "the invalid field and its description");
   await browser.send("Accessibility.disable");
