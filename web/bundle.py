@@ -116,7 +116,23 @@ def fill(page: str, place: str, text: str) -> str:
 
 
 def bundle(module: bytes) -> str:
-    """Returns the page for a module of WebAssembly."""
+    """Returns the page for a module of WebAssembly.
+
+    Parameters
+    ----------
+    module : bytes
+        The module, not compressed.
+
+    Returns
+    -------
+    str
+        The text of the HTML file.
+
+    Raises
+    ------
+    BundleError
+        If a script has another import, an unknown name or a name that another script declares.
+    """
     style, script = read_text(os.path.join(FOLDER, "page.css")), bundle_scripts(SCRIPTS, PAGE_SCRIPT)
     compressed = base64.urlsafe_b64encode(gzip.compress(module, 9, mtime=0)).decode().rstrip("=")
     policy = POLICY.format(style=digest(style), script=digest(script))

@@ -79,11 +79,8 @@ export function centre({ order, row, column }) {
 export function neighbour(cell, direction) {
   const { order, row, column } = cell;
   if (direction === "east" || direction === "west") {
-    const step = direction === "east" ? 2 : -2;
-    for (let next = column + step; ; next += step) {
-      const found = cellInRow(order, row, next);
-      if (found) return found;
-    }
+    const sign = direction === "east" ? 1 : -1;
+    return cellInRow(order, row, column + 2 * sign) ?? cellInRow(order, row, column + gapWidth(order, row) * sign);
   }
   const nextRow = direction === "north" ? row - 1 : row + 1, first = row % 2 ? 1 : -1;
   return cellInRow(order, nextRow, column + first) ?? cellInRow(order, nextRow, column - first) ?? cell;
@@ -107,6 +104,12 @@ export function rowCells(order, row) {
  */
 export function nuniq({ order, cell }) {
   return 4n ** BigInt(order + 1) + cell;
+}
+
+// The columns from the last cell of a base pixel in a row near a pole to the first cell of the next base pixel.
+function gapWidth(order, row) {
+  const side = 2 ** order, cellsInBase = Math.min(row, 4 * side - row);
+  return 2 * side - 2 * (cellsInBase - 1);
 }
 
 // The cell at a row and a column, or null in the gaps between the base pixels at the poles and off the sky.

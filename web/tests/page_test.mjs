@@ -504,14 +504,14 @@ function connectBy(tag, attribute, address) {
     element.${attribute} = ${quote(address)}; document.body.append(element); })`;
 }
 
-const ANSWERS = { image: ["image/svg+xml", '<svg xmlns="http://www.w3.org/2000/svg" width="1" height="1"/>'],
+const RESPONSES = { image: ["image/svg+xml", '<svg xmlns="http://www.w3.org/2000/svg" width="1" height="1"/>'],
   script: ["text/javascript", ""] };
 
 // A copy of the page without the policy must reach the server, so that the tests of the page can fail.
 async function testPolicy() {
   const received = new Set();
   const server = createServer((request, response) => {
-    const name = request.url.slice(1), [type, text] = ANSWERS[name] ?? ["text/plain", "received"];
+    const name = request.url.slice(1), [type, text] = RESPONSES[name] ?? ["text/plain", "received"];
     received.add(name);
     response.writeHead(200, { "Content-Type": type, "Access-Control-Allow-Origin": "*" }).end(text);
   });

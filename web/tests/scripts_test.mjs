@@ -235,6 +235,11 @@ function testNeighbours() {
   }
   check(isInverse, "west is the inverse of east, and south that of north except near the poles");
   check(isAdjacent, "north and south are the next rows, and a pole has none");
+  const pole = (base) => (BigInt(base) + 1n) * 4n ** 29n - 1n;
+  for (const [base, direction, next] of [[0, "east", 1], [0, "west", 3], [3, "east", 0]]) {
+    const found = neighbour(cellOfNumber(29, pole(base)), direction).cell;
+    checkEqual(found, pole(next), `the cell ${direction} of the pole in base pixel ${base}`);
+  }
   for (const row of [1, 5, 8, 16, 27, 31]) {
     const cells = rowCells(3, row);
     checkEqual(cells.length, 4 * Math.min(row, 8, 32 - row), `the number of cells in row ${row}`);
