@@ -31,7 +31,7 @@ LINK_OPTIONS = ["-flavor", "wasm", "-mwasm64", "--no-entry", "--stack-first", "-
 STACK_SIZE = 2**20
 # The lines of an LLVM module that name its target, and the attributes of functions that name a processor or a way to check the stack.
 TARGET_LINES = re.compile(r"^target (datalayout|triple) = .*$", re.MULTILINE)
-PROCESSOR_ATTRIBUTES = re.compile(r'"(?:probe-stack|stack-probe-size|target-cpu|target-features|tune-cpu)"="[^"]*"')
+PROCESSOR_ATTRIBUTES = re.compile(r'"(?:probe-stack|stack-probe-size|target-cpu|target-features|tune-cpu)"="[^"]*" ?')
 # The name of an intrinsic function of LLVM for one kind of processor.
 PROCESSOR_INTRINSIC = re.compile(r"@(llvm\.(?:x86|aarch64|arm)\.[\w.]+)")
 EXPORT_SECTION = 7
