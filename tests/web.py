@@ -8,7 +8,7 @@ them. The heap meets a memory that grows, one that is soon full, and one that ca
 WebAssembly, and node runs the module after it got 32-bit addresses.
 
 `./moc page` proves and builds the module of the page, and node compares its jobs with the program. Each job also runs with little memory.
-The scripts of the page run in node, and the page in Chromium.
+The example of docs/WEB.md must print what the page says. The scripts of the page run in node, and the page in Chromium.
 
 If the toolchain, node, Chromium or the program `moc` is missing, the script reports this, and leaves the tests out that need it. The
 environment variable MOC has the path of the program; the default is the program of the checkout. The last line printed is
@@ -16,6 +16,7 @@ environment variable MOC has the path of the program; the default is the program
 from __future__ import annotations
 
 import os
+import re
 import shutil
 import subprocess
 import sys
@@ -43,6 +44,8 @@ STEPS = 100_000
 # The module of the C files alone: its stack, its maximal memory and its exports.
 STACK_SIZE, MAX_MEMORY = 2**16, 4 * 2**20
 EXPORTS = ["rattle_alloc", "rattle_realloc", "rattle_dealloc", "__multi3", "__ashlti3", "__lshrti3", "__ashrti3"]
+# A program in JavaScript on a page, and its output.
+EXAMPLE = re.compile(r"^```js\n(.*?)^```\n\n```text\n(.*?)^```$", re.MULTILINE | re.DOTALL)
 # Whether this checkout has the scripts of the page.
 HAS_PAGE = os.path.exists(os.path.join(WEB, "bundle.py"))
 
@@ -114,6 +117,21 @@ def test_retargeting(tally: Tally) -> None:
             tally.check(False, f"accepted: {text}")
 
 
+def test_example(tally: Tally, module: str, folder: str) -> None:
+    """Runs the program of the page about the module, which reads `module.wasm` in the current folder."""
+    with open(os.path.join(TOP, "docs", "WEB.md"), encoding="utf-8") as file:
+        found = EXAMPLE.findall(file.read())
+    if tally.check(len(found) == 1, "docs/WEB.md has one example in JavaScript"):
+        work = os.path.join(folder, "example")
+        os.mkdir(work)
+        shutil.copy(module, os.path.join(work, "module.wasm"))
+        with open(os.path.join(work, "example.mjs"), "w", encoding="utf-8") as file:
+            file.write(found[0][0])
+        result = subprocess.run(["node", "example.mjs"], cwd=work, timeout=TIME_LIMIT, stdin=subprocess.DEVNULL, stdout=subprocess.PIPE,
+                                stderr=subprocess.STDOUT, text=True)
+        tally.check_equal("the output of the example of docs/WEB.md", (result.returncode, result.stdout), (0, found[0][1]))
+
+
 def make_page(tally: Tally, *arguments: str) -> bool:
     """Makes the page or its module with `./moc page`. Returns whether this succeeds."""
     result = subprocess.run([os.path.join(TOP, "moc"), "page", *arguments], stdin=subprocess.DEVNULL, stdout=subprocess.PIPE,
@@ -126,6 +144,7 @@ def test_page(tally: Tally, folder: str) -> None:
     module, page = os.path.join(folder, "module.wasm"), os.path.join(folder, "page.html")
     if not make_page(tally, "--module", module):
         return
+    test_example(tally, module, folder)
     run_node(tally, "memory_test.mjs", module)
     has_program = os.path.exists(MOC)
     if has_program:
