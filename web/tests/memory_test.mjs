@@ -4,7 +4,9 @@
 //
 // Each job is called with more and more memory, from the least with which the module starts up to the first size with which the job
 // succeeds. With less memory the job must report `fault Memory` or status 4, unless its arguments cannot be allocated. Directly after each
-// call, the same instance must convert a small text. The last line printed is `N passed, M failed`.
+// call, the same instance must convert a small text. Each job is called in a second instance too, whose memory has its maximal size before
+// the call. The largest block that this instance can allocate must be the same before and after the call, so the job frees all memory. The
+// last line printed is `N passed, M failed`.
 import { readFileSync } from "node:fs";
 import { ArgumentsDoNotFit, DONE, ERROR, OUT_OF_MEMORY, callJob, callOnce, instantiate } from "./jobs.mjs";
 import { check, finish, randomNumbers } from "./counts.mjs";
@@ -17,6 +19,8 @@ const GROWTH = 1.1, MAX_PAGES = 16384;
 const MIN_FAILURES = 5;
 // The first buffer for the output is small, so that the job itself runs out of memory.
 const CAPACITY = 4096;
+// The size of the blocks that fill the memory.
+const BLOCK_SIZE = 4096n;
 const REPORT = /^fault Memory\n(text \d+\n)?$/;
 
 // Returns the unsigned number in LEB128 at a position, and the position after it.
@@ -68,17 +72,25 @@ const JOBS = [["web_examine", [DETECT], TEXT], ["web_draw", [ASCII], TEXT], ["we
   ["web_convert", [ASCII, JSON_FORMAT], TEXT], ["web_change", [COMPLEMENT, ASCII], TEXT], ["web_change", [8, ASCII], TEXT],
   ["web_combine", [UNION, ASCII], PAIR], ["web_measure", [ASCII, 3, 100n], TEXT], ["web_run", [], Buffer.from(largeScript())]];
 
+// The number of calls that ended in each way.
+const endings = { "succeeded": 0, "reported `fault Memory`": 0, "had status 4": 0, "had no memory for their arguments": 0 };
+
 // Calls a job. Returns whether it succeeds. A failure that is not one of memory is a failed check.
 function call(exported, name, numbers, text, size) {
+  let ending = null, problem = "";
   try {
     const { status, output } = callJob(exported, name, numbers, text, CAPACITY);
-    check(status === DONE || status === OUT_OF_MEMORY || (status === ERROR && REPORT.test(output.toString())),
-      `${name} with ${size} pages: status ${status}, ${output.toString("latin1").slice(0, 100)}`);
-    return status === DONE;
+    if (status === DONE) ending = "succeeded";
+    if (status === ERROR && REPORT.test(output.toString())) ending = "reported `fault Memory`";
+    if (status === OUT_OF_MEMORY) ending = "had status 4";
+    problem = `status ${status}, ${output.toString("latin1").slice(0, 100)}`;
   } catch (error) {
-    check(error instanceof ArgumentsDoNotFit, `${name} with ${size} pages: ${error}`);
-    return false;
+    if (error instanceof ArgumentsDoNotFit) ending = "had no memory for their arguments";
+    problem = `${error}`;
   }
+  check(ending !== null, `${name} with ${size} pages: ${problem}`);
+  if (ending !== null) endings[ending] += 1;
+  return ending === "succeeded";
 }
 
 // Checks that the instance converts a small text.
@@ -93,18 +105,43 @@ function checkSmallText(exported, name, size) {
   check(output === `${DONE} 0/0 1/\n`, `a small text after ${name} with ${size} pages: ${output}`);
 }
 
+// Allocates blocks until the memory is full, and frees them. The memory then has its maximal size.
+function growToLimit(exported) {
+  const blocks = [];
+  for (let block = exported.page_alloc(BLOCK_SIZE); block !== 0n; block = exported.page_alloc(BLOCK_SIZE)) blocks.push(block);
+  for (const block of blocks) exported.page_free(block);
+}
+
+// Returns the size of the largest block that can be allocated.
+function largestBlock(exported) {
+  let possible = 0n, impossible = BigInt(exported.memory.buffer.byteLength);
+  while (impossible - possible > 1n) {
+    const size = (possible + impossible) / 2n, block = exported.page_alloc(size);
+    if (block === 0n) impossible = size;
+    else possible = size;
+    exported.page_free(block);
+  }
+  return possible;
+}
+
 const { minimum, limited } = memoryOf(readFileSync(process.argv[2]));
 const modules = new Map();
 for (const [name, numbers, text] of JOBS) {
   let failures = 0, succeeds = false;
   for (let size = minimum; !succeeds && size <= MAX_PAGES; size = Math.ceil(size * GROWTH)) {
     if (!modules.has(size)) modules.set(size, limited(size));
-    const exported = instantiate(modules.get(size));
-    succeeds = call(exported, name, numbers, text, size);
+    const growing = instantiate(modules.get(size)), full = instantiate(modules.get(size));
+    succeeds = call(growing, name, numbers, text, size);
     failures += !succeeds;
-    checkSmallText(exported, name, size);
+    checkSmallText(growing, name, size);
+    growToLimit(full);
+    const before = largestBlock(full);
+    call(full, name, numbers, text, size);
+    const after = largestBlock(full);
+    check(after === before, `${name} with ${size} pages: the largest block had ${before} bytes before the call, and has ${after} after it`);
   }
   check(succeeds, `${name} succeeds with enough memory`);
   check(failures >= MIN_FAILURES, `${name} fails with ${failures} sizes only`);
 }
+console.log(Object.entries(endings).map(([ending, count]) => `${count} calls ${ending}`).join(", "));
 finish();
