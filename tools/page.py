@@ -120,6 +120,23 @@ def make_module() -> bytes:
             return wasm.make_module(work, JOBS, LLVM_MODULE)
 
 
+def make_page(module: bytes) -> bytes:
+    """Returns the page with a module.
+
+    Raises
+    ------
+    wasm.ModuleError
+        If the scripts of the page cannot be put into one file.
+    """
+    # The import of `wasm` has added the folder `web` to the folders of modules.
+    from bundle import BundleError, bundle
+    try:
+        page: str = bundle(module)
+        return page.encode()
+    except BundleError as error:
+        raise wasm.ModuleError(f"the scripts of the page: {error}") from None
+
+
 def replace(path: str, content: bytes) -> None:
     """Writes a file, and replaces an earlier file as a whole."""
     new = f"{path}.new"
@@ -139,10 +156,8 @@ def main() -> int:
     if not os.path.isdir(os.path.dirname(path) or "."):
         parser.error(f"the folder {os.path.dirname(path)} does not exist")
     try:
-        content = make_module()
-        if options.module is None:
-            from bundle import bundle
-            content = bundle(content).encode()
+        module = make_module()
+        content = module if options.module is not None else make_page(module)
         replace(path, content)
     except (wasm.ModuleError, OSError) as error:
         print(f"moc: {error}", file=sys.stderr)
