@@ -10,6 +10,7 @@
   `python/` as an editable package.
 - `./moc check-manifest` detects a changed, a new and a removed source.
 - `./moc` does not run a program whose sources were edited, and runs one whose sources were only touched.
+- Without the toolchain, the subcommands that build end with status 3.
 
 A test whose tool is not installed is reported and left out. The last line printed is `N passed, M failed`."""
 from __future__ import annotations
@@ -358,6 +359,20 @@ def check_changed_sources(tally: Tally, top: str) -> None:
     tally.check(result.returncode == 3 and "tools/build.py does not exist" in result.stderr, f"a script without its tools: {result}")
 
 
+def check_missing_toolchain(tally: Tally, top: str) -> None:
+    """Checks that the subcommands of `./moc` that build end with status 3 without the toolchain, and make nothing."""
+    if shutil.which("rt", path=SYSTEM_PATH) is not None:
+        print("the toolchain is with the system's programs: its absence is not tested", file=sys.stderr)
+        return
+    folder = os.path.join(top, "empty")
+    os.mkdir(folder)
+    for subcommand in ("library", "page", "install", "package"):
+        result = run([os.path.join(top, "moc"), subcommand, os.path.join(folder, "result")], folder)
+        tally.check(result.returncode == 3 and not result.stdout and result.stderr.startswith("moc: rt is not installed, which proves and"),
+                    f"./moc {subcommand} without the toolchain: {result}")
+        tally.check_equal(f"the files that ./moc {subcommand} makes without the toolchain", os.listdir(folder), [])
+
+
 def main() -> int:
     """Installs, makes packages, and runs all tests."""
     tally = Tally()
@@ -382,6 +397,8 @@ def main() -> int:
         program = os.path.join(prefix, "libexec", "ploverchaise", "moc")
         with copy_of_sources(program) as top:
             check_manifest(tally, glob.glob(os.path.join(first, "*.json"))[0], top)
+        with copy_of_sources(program) as top:
+            check_missing_toolchain(tally, top)
         with copy_of_sources(program) as top:
             check_changed_sources(tally, top)
         check_uninstall(tally, stage)

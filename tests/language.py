@@ -81,6 +81,7 @@ GROUPS = (
     Group("scripts", ("tests/**/*.py", "tools/*.py", "bench/*.py", "bench/*.sh", "moc", ".ci/run"), 1.0),
     Group("pages", ("*.md", "docs/*.md", "docs/reference/*.md", "bench/*.md", "crates/*/CALLING.md", "python/*.md"), 2.0),
     Group("the package for Python", ("python/**/*.py",), 2.0),
+    Group("the web page", ("web/**/*.py", "web/**/*.js", "web/**/*.mjs"), 1.0),
     Group("C and C++", ("crates/moc_c/include/*.h", "tests/**/*.c", "tests/**/*.h", "bench/*.cpp"), 1.0),
 )
 
@@ -95,7 +96,7 @@ class Line(NamedTuple):
 
 def comment_lines(path: str, lines: list[str]) -> Iterator[tuple[int, str]]:
     """Returns the lines of comments that begin with a mark, and all lines of help texts."""
-    mark = "--" if path.endswith(".antt") else "//" if path.endswith(".rt") else "#"
+    mark = "--" if path.endswith(".antt") else "//" if path.endswith((".rt", ".js", ".mjs")) else "#"
     for number, line in enumerate(lines, 1):
         if line.lstrip().startswith(mark) or path.endswith("help.rt"):
             yield number, line.lstrip().lstrip("/!-# ")
@@ -130,8 +131,9 @@ def prose_lines(path: str) -> Iterator[Line]:
         prose = page_lines(lines)
     elif path.endswith((".h", ".c", ".cpp")):
         prose = enclosed_lines(lines, "/*", "*/")
-    elif path.endswith(".py"):
-        prose = iter(sorted({**dict(comment_lines(path, lines)), **dict(enclosed_lines(lines, '"""', '"""'))}.items()))
+    elif path.endswith((".py", ".js", ".mjs")):
+        first, last = ('"""', '"""') if path.endswith(".py") else ("/**", "*/")
+        prose = iter(sorted({**dict(comment_lines(path, lines)), **dict(enclosed_lines(lines, first, last))}.items()))
     else:
         prose = comment_lines(path, lines)
     for number, line in prose:

@@ -26,7 +26,7 @@ MORE_OPTIONS = {"examples": ["--allow-untyped-calls"]}
 # The folders of Python scripts, each with the folders of the modules that its scripts import. Each folder is checked separately, because
 # some modules of different folders have the same names.
 PYTHON_FOLDERS: list[tuple[str, list[str]]] = [
-    ("tests", ["tools"]), ("tests/package", ["python"]), ("tools", []), ("bench", ["python"]), ("examples", ["python"]),
+    ("tests", ["tools", "web"]), ("tests/package", ["python"]), ("tools", ["web"]), ("bench", ["python"]), ("examples", ["python"]),
     ("web", []), ("web/tests", ["tests", "web"]), ("python/ploverchaise", [])]
 
 

@@ -51,7 +51,8 @@ MAX_COLUMNS, MAX_CELL_COLUMNS = 140, 120
 PAGES = ("*.md", "docs/*.md", "docs/reference/*.md", "bench/*.md", "crates/*/CALLING.md", "python/*.md")
 # Scripts and sources that may have paths of pages. This script has wrong paths as examples.
 SOURCES = ("moc", ".ci/run", "bench/*.sh", "bench/*.py", "tests/**/*.py", "tests/**/*.c", "tests/**/*.cpp", "tools/**/*.py",
-           "python/**/*.py", "crates/*/src/**/*.rt", "crates/*/specs/**/*.antt", "crates/*/include/*.h", "crates/*/include/*.hpp")
+           "web/**/*.py", "web/**/*.c", "web/**/*.js", "web/**/*.mjs", "python/**/*.py", "crates/*/src/**/*.rt",
+           "crates/*/specs/**/*.antt", "crates/*/include/*.h", "crates/*/include/*.hpp")
 SELF = os.path.join("tests", "texts.py")
 # The parts of a record of docs/DECISIONS.md, each at most once.
 RECORD_PARTS = {"Context", "Decision", "Consequences", "Alternative", "Alternatives"}

@@ -58,6 +58,9 @@ FUNCTION_FILE = re.compile(r"(?<!\.TheImpl)\.Proof\.oantt$")
 SUCCESS_LINE = re.compile(r"^(struct|enum|impl|fn) \S+: proved|: modules loaded=|^so far: ")
 # The verdict of a check about a crate.
 VERDICT = re.compile(r"^logic=proved .*$", re.MULTILINE)
+# The folder of the workspaces, and the file that a build locks.
+WORKSPACES = os.path.join(folder_of(PROGRAM), "out", "workspaces")
+LOCK = os.path.join(folder_of(PROGRAM), "out", "lock")
 # The verdict about a library that an earlier run of `rt` on this machine proved from the same files. `rt` then prints none.
 KEPT_VERDICT = "logic=proved by an earlier run of rt from the same files"
 
@@ -246,18 +249,16 @@ class Build:
 
     Parameters
     ----------
-    workspaces : str
-        The folder of the workspaces.
     targets : list of str
         The crates to prove, with all their libraries.
     """
 
-    def __init__(self, workspaces: str, targets: list[str]) -> None:
+    def __init__(self, targets: list[str]) -> None:
         libraries = libraries_of_crates(read_crates())
         needed = {*targets, *(library for crate in targets for library in libraries[crate])}
         self.libraries = {crate: libraries[crate] for crate in libraries if crate in needed}
         crates = [crate for crate in self.libraries if crate != PROGRAM]
-        self.workspaces, self.remaining = workspaces, crates[:]
+        self.remaining = crates[:]
         sizes = {crate: size_of(crate) for crate in self.libraries}
         self.chain_work = longest_chains(sizes, self.libraries)
         processors = len(os.sched_getaffinity(0))
@@ -275,7 +276,7 @@ class Build:
 
     def prove(self, crate: str, jobs: int, niceness: int) -> None:
         """Proves a library in a workspace, and saves the proofs, also if some proofs fail."""
-        workspace, is_proved = os.path.join(self.workspaces, crate), False
+        workspace, is_proved = os.path.join(WORKSPACES, crate), False
         try:
             folder = make_workspace(workspace, crate, self.libraries[crate])
             with self.progress.follow(crate, folder):
@@ -332,6 +333,23 @@ class Build:
             save_verdict(PROGRAM, digest, verdict)
         return verdict is not None
 
+    def run(self, with_program: bool = False) -> bool:
+        """Proves the libraries, and the program if it is wanted. Reports the progress. Returns whether all are proved."""
+        shutil.rmtree(WORKSPACES, ignore_errors=True)
+        with self.progress.reports():
+            succeeded = self.prove_libraries() and (not with_program or self.build_program())
+        shutil.rmtree(WORKSPACES, ignore_errors=True)
+        return succeeded
+
+
+@contextlib.contextmanager
+def exclusive() -> Iterator[None]:
+    """Waits until no other build works in this repository, and keeps others waiting, as a context."""
+    os.makedirs(os.path.dirname(LOCK), exist_ok=True)
+    with open(LOCK, "w", encoding="utf-8") as lock:
+        fcntl.flock(lock, fcntl.LOCK_EX)
+        yield
+
 
 def main() -> int:
     """Proves and builds what the command line selects."""
@@ -342,17 +360,10 @@ def main() -> int:
     options = parser.parse_args()
     targets = [linking.CRATE] if options.library is not None else options.libraries or [PROGRAM]
     with_program = options.library is None and options.libraries is None
-    out = os.path.join(folder_of(PROGRAM), "out")
-    workspaces = os.path.join(out, "workspaces")
-    os.makedirs(out, exist_ok=True)
-    with open(os.path.join(out, "lock"), "w", encoding="utf-8") as lock:
-        fcntl.flock(lock, fcntl.LOCK_EX)
-        shutil.rmtree(workspaces, ignore_errors=True)
+    with exclusive():
         snapshot = sources.take_snapshot()
-        build = Build(workspaces, targets)
-        with build.progress.reports():
-            succeeded = build.prove_libraries() and (not with_program or build.build_program())
-        shutil.rmtree(workspaces, ignore_errors=True)
+        build = Build(targets)
+        succeeded = build.run(with_program)
         if succeeded and options.library is not None:
             succeeded = linking.link(options.library, [])
     if not with_program or not succeeded:

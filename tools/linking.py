@@ -9,6 +9,7 @@ import subprocess
 import sys
 import tempfile
 
+import toolchain
 from crates import TOP, archive_of
 from guards import HEADER, PROVED, Function, guards_source, parse_header, proved_declarations
 
@@ -25,8 +26,7 @@ WARNINGS = ["-Wall", "-Wextra", "-Wpedantic", "-Werror"]
 
 def heap() -> str:
     """Returns the path of the toolchain's archive that calls malloc, realloc and free."""
-    page = subprocess.run(["rt", "doc"], check=True, stdout=subprocess.PIPE, text=True).stdout.strip()
-    return os.path.join(os.path.dirname(page), "c", "liblibc_c.a")
+    return toolchain.path_of("c", "liblibc_c.a")
 
 
 def input_files(functions: list[Function]) -> dict[str, str]:

@@ -26,10 +26,11 @@ PAGE = os.path.join("docs", "GATE.md")
 # The steps, each with its text on the page.
 STEPS = {
     "whole": "`.ci/run`, whole", "rt-ci": "`rt ci`", "example": "the example, by the program of `rt ci`",
-    "first-command": "the first command", "library-build": "`./moc library`", "try": "`./moc try`", "mutants": "`tests/mutants.py`",
+    "first-command": "the first command", "library-build": "`./moc library`", "module-build": "`./moc page --module`",
+    "try": "`./moc try`", "mutants": "`tests/mutants.py`",
     **{name: f"`tests/{name}.py --of-the-day`" for name in ("plants", "always_failing")},
     **{name: f"`tests/{name}.py`" for name in (
-        "definitions", "reference", "texts", "language", "lint", "program", "crews", "bench", "web", "library", "python", "pages",
+        "definitions", "reference", "texts", "language", "lint", "program", "crews", "bench", "library", "python", "web", "pages",
         "install")}}
 STEP_COLUMNS = ("Step", "Elapsed time", "Processor time")
 CRATE_COLUMNS = ("Crate", "Proved after, in `rt ci`", "Its tests proved after", "Check in the first command")
@@ -109,7 +110,7 @@ def show_times(times: Iterable[float]) -> str:
 
 
 def check_times(log: str) -> dict[str, float]:
-    """Returns how long the first command and `./moc library` checked each crate, by their reports."""
+    """Returns how long the first command, `./moc library` and `./moc page` checked each crate, by their reports."""
     first: dict[str, int] = {}
     last: dict[str, int] = {}
     for minutes, seconds, names in PROGRESS_LINE.findall(log):
