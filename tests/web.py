@@ -46,8 +46,6 @@ STACK_SIZE, MAX_MEMORY = 2**16, 4 * 2**20
 EXPORTS = ["rattle_alloc", "rattle_realloc", "rattle_dealloc", "__multi3", "__ashlti3", "__lshrti3", "__ashrti3"]
 # A program in JavaScript on a page, and its output.
 EXAMPLE = re.compile(r"^```js\n(.*?)^```\n\n```text\n(.*?)^```$", re.MULTILINE | re.DOTALL)
-# Whether this checkout has the scripts of the page.
-HAS_PAGE = os.path.exists(os.path.join(WEB, "bundle.py"))
 
 
 def compile_test(name: str, folder: str, options: list[str]) -> str | None:
@@ -151,7 +149,7 @@ def test_page(tally: Tally, folder: str) -> None:
         run_node(tally, "jobs_test.mjs", module, MOC)
     else:
         print(f"{MOC} does not exist: the module and the page are not compared with the program")
-    if not HAS_PAGE or not make_page(tally, page):
+    if not make_page(tally, page):
         return
     if shutil.which("chromium") is None:
         print("chromium is not installed: the page is not tested in a browser")
@@ -168,7 +166,7 @@ def main() -> int:
         for name, is_installed in (("node", has_node), ("the toolchain", has_toolchain)):
             if not is_installed:
                 print(f"{name} is not installed: the tests that need it are left out")
-        if has_node and HAS_PAGE:
+        if has_node:
             run_node(tally, "scripts_test.mjs")
         if has_toolchain:
             test_retargeting(tally)

@@ -21,7 +21,7 @@ EXAMPLE = "### Two clients that claim"
 STEP = re.compile(r"^((begin|take|edit|give|quit|end) (\d+)[^:\n]*):(.+)$", re.MULTILINE)
 ORDER = re.compile(r"^:order (.*)$", re.MULTILINE)
 # What the product consists of: these crates and their libraries.
-PRODUCTS = ("moc_cli", "moc_c")
+PRODUCTS = ("moc_cli", "moc_c", "moc_web")
 # The widths of a crate in the graph, and of a line that passes a row.
 CRATE_WIDTH, POINT_WIDTH = 134.0, 16.0
 

@@ -43,8 +43,8 @@ pub fn draw_input<R: Source>(
     draw_texts(alloc, choice, names, &text)
 }
 
-/// Returns the picture of the coverage of a text, or of the two coverages that its first semicolon separates, with names
-/// of the coverages as for [`draw_input`].
+/// Returns the picture of the coverage of a text, or of the two coverages that its first semicolon separates. The names
+/// are those of [`draw_input`].
 ///
 /// # Errors
 /// Fails with the first error of the first invalid text, or with `Memory`.

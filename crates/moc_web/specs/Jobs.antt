@@ -32,7 +32,8 @@ Examines parsed text =
 -- the text is the picture, without names, of the one or two texts of bytes
 abbrev pub Draws : FormatChoice → List ℕ → List ℕ → Type 0
 Draws choice bytes text =
-    IsPictureOf choice (record { first = None; second = None }) (before_first is_semicolon bytes) (second_text bytes) text
+    IsPictureOf choice (record { first = None; second = None })
+    (before_first is_semicolon bytes) (second_text bytes) text
 
 -- why the texts of a picture were not drawn: an allocation failed, or this is the first error of the first invalid text
 abbrev pub FailsDrawing : FormatChoice → List ℕ → InputError → Type 0

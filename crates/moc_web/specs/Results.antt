@@ -10,23 +10,27 @@ use Rattle.moc_web.specs.declared.job_result.JobResult.{JobResult}
 abbrev pub job_result : ℕ → ℕ → JobResult
 job_result status length = record { status = status; length = length }
 
--- the statuses
+-- the status of an output
 abbrev pub done : ℕ
 done = 0
 
+-- the status of the report of an error
 abbrev pub invalid : ℕ
 invalid = 1
 
+-- the status of a buffer that is too short
 abbrev pub buffer_too_short : ℕ
 buffer_too_short = 2
 
+-- the status of a number without a meaning
 abbrev pub bad_number : ℕ
 bad_number = 3
 
+-- the status if no memory is left for the report of an error
 abbrev pub out_of_memory : ℕ
 out_of_memory = 4
 
--- the buffer is unchanged, and the status has no output
+-- the buffer is unchanged, and the result has this status and the length 0
 abbrev pub HasNoOutput : ℕ → List ℕ → List ℕ → JobResult → Type 0
 HasNoOutput status old new result = (new ≡ old) × (result ≡ job_result status 0)
 
