@@ -20,7 +20,8 @@ import tempfile
 
 import build
 import toolchain
-import wasm
+import wasm  # adds the folder `web` to the folders of modules
+from bundle import BundleError, bundle
 from crates import archive_of, folder_of, libraries_of_crates, read_crates, stamp_of
 
 CRATE = "moc_web"
@@ -128,11 +129,8 @@ def make_page(module: bytes) -> bytes:
     wasm.ModuleError
         If the scripts of the page cannot be put into one file.
     """
-    # The import of `wasm` has added the folder `web` to the folders of modules.
-    from bundle import BundleError, bundle
     try:
-        page: str = bundle(module)
-        return page.encode()
+        return bundle(module).encode()
     except BundleError as error:
         raise wasm.ModuleError(f"the scripts of the page: {error}") from None
 

@@ -1,4 +1,5 @@
 // Calls the jobs of the module of WebAssembly in node. The addresses and lengths of the module are BigInts.
+import { CoverageModule } from "../scripts/module.js";
 
 export const DONE = 0, ERROR = 1, SHORT_BUFFER = 2, NO_SUCH_NUMBER = 3, OUT_OF_MEMORY = 4;
 const RESULT_SIZE = 16, FIRST_CAPACITY = 1 << 20;
@@ -48,8 +49,8 @@ export function callJob(exported, name, numbers, text, capacity = FIRST_CAPACITY
   return { status, output: output.subarray(0, status === DONE || status === ERROR ? length : 0) };
 }
 
-// Returns a function that calls a job of a module, with the arguments and the result of `callJob`. The page calls the jobs in the same way.
+// Returns a function that calls a job of a module in the way of the page. Its arguments and its result are those of `callJob`.
 export function openJobs(module) {
-  const exported = instantiate(module);
-  return (name, numbers, text) => callJob(exported, name, numbers, text);
+  const coverageModule = new CoverageModule(module);
+  return (name, numbers, text) => coverageModule.call(name.replace("web_", ""), numbers, text);
 }

@@ -19,6 +19,7 @@ use Rattle.std.specs.List.{before_first}
 use Rattle.moc_lists.specs.RangeList.{NumberSet}
 use Rattle.moc_lines.specs.Runs.{Runs, answers_of, line_limit, name_of_run_error, script_rules}
 use Rattle.moc_lines.specs.declared.run_error.RunError.{RunError}
+use Rattle.moc_lines.specs.declared.run_error.RunError.TheVariants.{Write}
 use Rattle.moc_web.specs.Numbers.{order_with_number}
 use Rattle.moc_web.specs.Results.{Fills, Reports, done}
 use Rattle.moc_web.specs.declared.job_result.JobResult.{JobResult}
@@ -75,8 +76,13 @@ FailsRunning script error =
     (reading reading' : SourceState) × (writing writing' : SinkState) × (reading.left ≡ Some script)
     × Runs line_limit script_rules set.empty reading reading' writing writing' (Err error)
 
+-- the name by which the error of a script is reported: a write into memory fails only if an allocation fails
+abbrev pub name_of_script_error : RunError → List ℕ
+name_of_script_error Write = codes "Memory"
+name_of_script_error error = name_of_run_error error
+
 -- the output has the replies to a script, or the report of the error that ended it
 abbrev pub RunsScript : List ℕ → List ℕ → List ℕ → JobResult → Type 0
 RunsScript script old new result =
     Fills done (answers_of script) old new result
-    ⊎ ((error : RunError) × FailsRunning script error × Reports (fault_report (name_of_run_error error)) old new result)
+    ⊎ ((error : RunError) × FailsRunning script error × Reports (fault_report (name_of_script_error error)) old new result)

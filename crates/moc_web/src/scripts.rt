@@ -1,8 +1,8 @@
 //! Scripts of commands on one coverage.
 ghost use Rattle.std.specs.Prelude.{◌≡◌, IfErr, IfOk};
-ghost use Rattle.moc_lines.specs.Runs.{answers_of, name_of_run_error};
+ghost use Rattle.moc_lines.specs.Runs.{answers_of};
 ghost use Rattle.moc_text.specs.Names.{fault_report};
-ghost use Rattle.moc_web.specs.Jobs.{FailsRunning, RunsScript};
+ghost use Rattle.moc_web.specs.Jobs.{FailsRunning, RunsScript, name_of_script_error};
 
 use crate::job_result::{JobResult, fill_done, fill_report};
 use crate::text_sink::TextSink;
@@ -36,12 +36,22 @@ fn replies(alloc: Global, script: &[u8]) -> Result<Vec<u8>, RunError>
     Ok(text)
 }
 
+/// Returns the name of the error of a run into memory, where a write fails only if an allocation fails.
+fn error_name(error: RunError) -> &'static str
+    ensures { result.now ≡ name_of_script_error error }
+{
+    match error {
+        RunError::Write => "Memory",
+        error => error.name(),
+    }
+}
+
 /// Returns the report of the error of a run. Fails if an allocation fails.
 fn report_of_run(alloc: Global, error: RunError) -> Result<Vec<u8>, DeviceFault>
-    ensures { IfOk result (λ text. text.items ≡ fault_report (name_of_run_error error)) }
+    ensures { IfOk result (λ text. text.items ≡ fault_report (name_of_script_error error)) }
 {
     let mut sink = TextSink::new(alloc);
-    report_error(error.name(), &mut sink)?;
+    report_error(error_name(error), &mut sink)?;
     let TextSink { text, .. } = sink;
     Ok(text)
 }
