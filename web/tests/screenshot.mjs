@@ -1,0 +1,13 @@
+// Takes a picture of the page in Chromium, for docs/pictures/page.png.
+//
+// usage: node web/tests/screenshot.mjs PAGE FILE
+import { resolve } from "node:path";
+import { pathToFileURL } from "node:url";
+import { Browser } from "./browser.mjs";
+
+const [page, file] = process.argv.slice(2);
+const browser = await Browser.open({ width: 1200, height: 800 });
+await browser.goTo(pathToFileURL(resolve(page)).href);
+await browser.until("document.querySelector('main').ariaBusy !== 'true' && document.querySelector('main img, main svg') !== null");
+await browser.screenshot(file);
+await browser.close();
