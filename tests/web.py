@@ -100,13 +100,16 @@ def test_c_module(tally: Tally, folder: str) -> None:
 
 
 def test_retargeting(tally: Tally) -> None:
-    """Checks what `wasm.py` changes in an LLVM module, and that it rejects instructions of a processor and a module without a target."""
+    """Checks what `wasm.py` changes in an LLVM module, and that it rejects code for a processor and a module without a target."""
     lines = wasm.target_lines()
     native = 'target datalayout = "e-m:e"\ntarget triple = "x86_64-unknown-linux-gnu"\n'
     code = 'define void @f() #0 { ret void }\nattributes #0 = { nounwind "target-cpu"="x86-64" "tune-cpu"="generic" }\n'
     expected = f'{lines["datalayout"]}\n{lines["triple"]}\n' + code.replace('"target-cpu"="x86-64" "tune-cpu"="generic" ', "")
     tally.check_equal("the changed module", wasm.retarget(native + code), expected)
-    for text in (f"{native}declare <16 x i8> @llvm.x86.ssse3.pshuf.b.128(<16 x i8>, <16 x i8>)\n", code, native + native):
+    fence = 'define void @f() { call void asm sideeffect "", "~{memory}"() ret void }\n'
+    tally.check(fence in wasm.retarget(native + fence), "an empty text of assembly stays")
+    for text in (f"{native}declare <16 x i8> @llvm.x86.ssse3.pshuf.b.128(<16 x i8>, <16 x i8>)\n", f"{native}declare x86_fp80 @f()\n",
+                 native + fence.replace('""', '"nop"'), code, native + native):
         try:
             wasm.retarget(text)
         except wasm.ModuleError:

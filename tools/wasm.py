@@ -26,14 +26,17 @@ C_OPTIONS = ["-fwrapv", "-ffreestanding", "-nostdinc", "-Wall", "-Wextra", "-Wer
 # Code after a call that does not return traps, and divisions of 128 bits are computed without a call. The toolchain has the same options
 # for WebAssembly.
 LLVM_OPTIONS = ["-mllvm", "-trap-unreachable", "-mllvm", "-no-trap-after-noreturn", "-mllvm", "-expand-div-rem-bits=64"]
-# The stack is at the start of the memory, so an overflow of the stack traps.
+# The stack is at the start of the memory.
 LINK_OPTIONS = ["-flavor", "wasm", "-mwasm64", "--no-entry", "--stack-first", "--gc-sections", "--strip-all"]
 STACK_SIZE = 2**20
+# The memory never has the last page of the addresses of 32 bits, so that an overflow of the stack, whose addresses are there, traps.
+MAX_MEMORY = 2**32 - 2**16
 # The lines of an LLVM module that name its target, and the attributes of functions that name a processor or a way to check the stack.
 TARGET_LINES = re.compile(r"^target (datalayout|triple) = .*$", re.MULTILINE)
 PROCESSOR_ATTRIBUTES = re.compile(r'"(?:probe-stack|stack-probe-size|target-cpu|target-features|tune-cpu)"="[^"]*" ?')
-# The name of an intrinsic function of LLVM for one kind of processor.
-PROCESSOR_INTRINSIC = re.compile(r"@(llvm\.(?:x86|aarch64|arm)\.[\w.]+)")
+# What an LLVM module for one kind of processor may have: intrinsic functions, types, and assembly. An empty text of assembly only keeps
+# LLVM from moving accesses to the memory.
+PROCESSOR_CODE = re.compile(r'@(llvm\.(?:x86|aarch64|arm)\.[\w.]+)|\b(x86_(?:fp80|mmx|amx))\b|\bcall\b[^"\n]*\b(asm\b[^"\n]*"[^"]+")')
 EXPORT_SECTION = 7
 # The functions that heap.c exports, and the memory.
 COMMON_EXPORTS = ("memory", "page_alloc", "page_free")
@@ -70,11 +73,11 @@ def retarget(text: str) -> str:
     Raises
     ------
     ModuleError
-        If the module calls an intrinsic function of a processor, or does not name its target once.
+        If the module has code for a processor, or does not name its target once.
     """
-    intrinsics = sorted({found[1] for found in PROCESSOR_INTRINSIC.finditer(text)})
-    if intrinsics:
-        raise ModuleError(f"the LLVM module has instructions of a processor: {', '.join(intrinsics)}")
+    code = sorted({found[1] or found[2] or found[3] for found in PROCESSOR_CODE.finditer(text)})
+    if code:
+        raise ModuleError(f"the LLVM module has code for a processor: {', '.join(code)}")
     lines = target_lines()
     if sorted(found[1] for found in TARGET_LINES.finditer(text)) != sorted(lines):
         raise ModuleError("the LLVM module does not name its data layout and its target once")
@@ -120,7 +123,7 @@ def exports_of(module: bytes) -> list[str]:
 
 
 def make_module(folder: str, exports: Iterable[str], llvm_module: str | None = None, stack_size: int = STACK_SIZE,
-                max_memory: int | None = None) -> bytes:
+                max_memory: int = MAX_MEMORY) -> bytes:
     """Returns a module of WebAssembly with 32-bit addresses. It has no imports.
 
     Parameters
@@ -134,7 +137,7 @@ def make_module(folder: str, exports: Iterable[str], llvm_module: str | None = N
     stack_size : int, optional
         The size of the stack in bytes.
     max_memory : int, optional
-        The maximal size of the memory in bytes. By default, only the addresses limit it.
+        The maximal size of the memory in bytes.
 
     Raises
     ------
@@ -142,10 +145,9 @@ def make_module(folder: str, exports: Iterable[str], llvm_module: str | None = N
         If a program of the toolchain fails, if the module needs an import, or if its exports are others.
     """
     wanted, linked = sorted(exports), os.path.join(folder, "linked.wasm")
-    limit = [] if max_memory is None else [f"--max-memory={max_memory}"]
     objects = compile_parts(folder, llvm_module)
-    run_tool("ld.lld", *LINK_OPTIONS, "-z", f"stack-size={stack_size}", *limit, *(f"--export={name}" for name in wanted), "-o", linked,
-             *objects)
+    run_tool("ld.lld", *LINK_OPTIONS, "-z", f"stack-size={stack_size}", f"--max-memory={max_memory}",
+             *(f"--export={name}" for name in wanted), "-o", linked, *objects)
     with open(linked, "rb") as file:
         module = file.read()
     try:

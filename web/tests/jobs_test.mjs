@@ -2,10 +2,10 @@
 //
 // usage: node web/tests/jobs_test.mjs MODULE PROGRAM [ROUNDS]
 //
-// A round calls each job on random texts in each format, a third of them with changed bytes. The output must be that of the program, and
-// the report of an error must be what the program writes on standard error. Ring numbers are compared with the formulas of Górski et al.
-// 2005 (ApJ 622, 759), and shares with exact fractions. Then each job gets each buffer that is too short, and numbers out of range. At the
-// end, the same calls must not need more memory. The last line printed is `N passed, M failed`.
+// A round calls each job on a random text in a random format, whose bytes are changed in one of three rounds. The output must be that of the
+// program, and the report of an error must be what the program writes on standard error. Ring numbers are compared with the formulas of
+// Górski et al. 2005 (ApJ 622, 759), and shares with exact fractions. Then each job gets each buffer that is too short, and samples of
+// numbers out of range. At the end, the same calls must not need more memory. The last line printed is `N passed, M failed`.
 import { spawnSync } from "node:child_process";
 import { readFileSync } from "node:fs";
 import { DONE, ERROR, NO_SUCH_NUMBER, SHORT_BUFFER, callJob, callOnce, instantiate, openJobs } from "./jobs.mjs";

@@ -1,4 +1,4 @@
-// Takes a picture of the page in Chromium, for docs/pictures/page.png.
+// Takes a picture of the page in Chromium, for docs/page.png.
 //
 // usage: node web/tests/screenshot.mjs PAGE FILE
 import { resolve } from "node:path";

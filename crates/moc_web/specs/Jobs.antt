@@ -41,7 +41,7 @@ abbrev pub FailsDrawing : FormatChoice → List ℕ → InputError → Type 0
 FailsDrawing choice bytes e =
     (e ≡ input.Memory) ⊎ ReportsFirstOfTexts choice (before_first is_semicolon bytes) (second_text bytes) e
 
--- the cell with the order and the index that two numbers are, if there is one
+-- the cell with this order and this index, if it exists
 abbrev pub cell_with_numbers : ℕ → ℕ → Option CellNumber
 cell_with_numbers order index =
     option_and_then (λ k. if nat_lt index (cell_count k) then Some (cell_number k index) else None)
@@ -85,4 +85,5 @@ name_of_script_error error = name_of_run_error error
 abbrev pub RunsScript : List ℕ → List ℕ → List ℕ → JobResult → Type 0
 RunsScript script old new result =
     Fills done (answers_of script) old new result
-    ⊎ ((error : RunError) × FailsRunning script error × Reports (fault_report (name_of_script_error error)) old new result)
+    ⊎ ((error : RunError) × FailsRunning script error
+    × Reports (fault_report (name_of_script_error error)) old new result)

@@ -22,7 +22,7 @@ invalid = 1
 abbrev pub buffer_too_short : ℕ
 buffer_too_short = 2
 
--- the status of a number without a meaning
+-- the status for an invalid number
 abbrev pub bad_number : ℕ
 bad_number = 3
 
@@ -62,7 +62,7 @@ Outputs IsOutput IsError old new result =
     ((text : List ℕ) × IsOutput text × Fills done text old new result)
     ⊎ ((e : InputError) × IsError e × Reports (input_error_text e) old new result)
 
--- the result is this one for what a number means; a number without a meaning has no output
+-- the result is this one for what a number means; an invalid number has no output
 abbrev pub ForMeaning : {X : Type 0} → Option X → (X → List ℕ → List ℕ → JobResult → Type 0)
     → List ℕ → List ℕ → JobResult → Type 0
 ForMeaning (Some x) IsResult old new result = IsResult x old new result

@@ -17,7 +17,7 @@ const INVALID: u32 = 1;
 /// The buffer is too short. The length is the one that the output needs.
 const BUFFER_TOO_SHORT: u32 = 2;
 
-/// A number has no meaning.
+/// A number is invalid.
 const BAD_NUMBER: u32 = 3;
 
 /// No memory is left for the report of an error.
@@ -42,7 +42,7 @@ impl JobResult {
         }
     }
 
-    /// Returns the result for a number without a meaning.
+    /// Returns the result for an invalid number.
     pub(crate) fn bad_number() -> JobResult
         ensures { result ≡ job_result bad_number 0 }
     {

@@ -4,7 +4,7 @@
 //! returns a `JobResult`: a status, and the length of the output. If the text is invalid, the output is the report of
 //! the first error. If the buffer is too short, it is unchanged, and the length is the one that the call needs.
 //!
-//! Formats, operations, changes and orders are numbers. A number without a meaning gets the status `BAD_NUMBER`.
+//! Formats, operations, changes and orders are numbers. An invalid number gets the status `BAD_NUMBER`.
 #![tactic(auto)]
 
 mod choices;
