@@ -30,6 +30,7 @@ export class CoveragePane {
   #file = null;
   #error = null;
   #offer = null;
+  #changes = 0;
 
   state = PaneState.EMPTY;
 
@@ -149,6 +150,9 @@ export class CoveragePane {
 
   // The marks do not fit the new text. They are shown again after the examination.
   #contentChanged() {
+    this.#changes += 1;
+    this.#error = null;
+    this.#parts.goto.hidden = true;
     const { file, text, card, fileName, excerpt: place } = this.#parts;
     text.hidden = this.#file !== null;
     card.hidden = this.#file === null;
@@ -159,13 +163,15 @@ export class CoveragePane {
   }
 
   async #examine() {
-    const { content } = this, bytes = contentBytes(content);
+    const { content } = this, bytes = contentBytes(content), changes = this.#changes;
     if (isBlank(bytes)) {
       this.#setState(PaneState.EMPTY, null);
       this.#showStatus("", "Empty. Paste or drop a coverage, or open a file.");
       return;
     }
     const result = await this.#client.call("examine", [content.format], bytes);
+    // Another examination follows if the content has changed.
+    if (changes !== this.#changes) return;
     if (result.status === Status.DONE) this.#showValid(content, bytes, result);
     else this.#showInvalid(bytes, result);
   }

@@ -70,6 +70,13 @@ const PLACES = [
   ["16\n〈3〉", "line 2: `3`"],
   ["〈3/7-5〉", "text 2, byte 0, line 1, byte 0 of it: `3/7-5`"],
   ["7", "text 1"],
+  ['{"1":[0],〈"line 1, column 2"〉:[1]}', "name 1: `line 1, column 2`"],
+  ['{"1":[0],〈"byte 3, line 1, byte 3 of it"〉:[1]}', "name 1: `byte 3, line 1, byte 3 of it`"],
+  ['{〈"order 3"〉:[1]}', "name 0: `order 3`"],
+  ["16\n〈order 3〉\n", "line 2: `order 3`"],
+  ['〈"order 3〉\n', 'line 1: `"order 3`'],
+  ['"order 3\n', "order 3"],
+  [`〈1/${"é".repeat(700)}〉 2/3`, "byte 2, line 1, byte 2 of it: `1/\\xc3`"],
 ];
 
 function testPlaces() {
@@ -95,6 +102,8 @@ function testExcerpts() {
   check(cut.before.startsWith("…") && cut.before.length < 200 && cut.marked === "x" && cut.after === "",
     "a long line is cut");
   checkEqual(cut.line, 1, "the line of the excerpt of a long line");
+  const word = excerpt(utf8.encode("x".repeat(100_000)), [0, 100_000]);
+  check(word.marked.length + word.after.length < 1000, "the excerpt of a long word is short");
 }
 
 // ---- reports
