@@ -31,6 +31,7 @@ export class CoveragePane {
   #error = null;
   #offer = null;
   #changes = 0;
+  #reads = 0;
 
   state = PaneState.EMPTY;
 
@@ -139,13 +140,12 @@ export class CoveragePane {
 
   async #openFile(file) {
     if (!file) return;
-    try {
-      const bytes = new Uint8Array(await file.arrayBuffer());
-      this.replace(fileContent(file.name, bytes));
-    } catch {
-      this.#showStatus("invalid", `The browser cannot read the file ${file.name}.`);
-    }
+    this.#reads += 1;
+    const read = this.#reads, bytes = await readFile(file);
     this.#parts.chooser.value = "";
+    if (read !== this.#reads) return;
+    if (bytes) this.replace(fileContent(file.name, bytes, this.content.format));
+    else this.#showStatus("invalid", `The browser cannot read the file ${file.name}.`);
   }
 
   // The marks do not fit the new text. They are shown again after the examination.
@@ -261,4 +261,9 @@ export class CoveragePane {
     this.focus();
     this.#contentChanged();
   }
+}
+
+// The bytes of a file, or null if the browser cannot read it.
+async function readFile(file) {
+  return file.arrayBuffer().then((buffer) => new Uint8Array(buffer), () => null);
 }

@@ -1,6 +1,6 @@
 import { emptyContent, fileContent, textContent } from "./content.js";
 import { CoveragePane, MAX_PANES } from "./coverage_pane.js";
-import { byId, copyText, setText } from "./dom.js";
+import { byId, copyText, hasFiles, setText } from "./dom.js";
 import { EXAMPLES } from "./examples.js";
 import { Format } from "./formats.js";
 import { decodeBase64, decodeState, encodeState } from "./link.js";
@@ -36,7 +36,7 @@ class Page {
   #panes = [];
   #history = new UndoHistory();
   #client;
-  #activity = new Activity(byId("main"));
+  #activity = new Activity([byId("result"), byId("picture")]);
   #updateTask = new LatestTask(this.#activity, 0, () => this.#update());
   #result;
   #picture;
@@ -47,8 +47,8 @@ class Page {
     this.#client = client;
     const onSettings = () => this.#updateTask.request();
     this.#result = new ResultPane(client, { onSettings, onUse: () => this.#useResult() });
-    this.#picture = new PicturePane(client, this.#activity, { onSettings });
-    this.#script = new ScriptPane(client, this.#activity);
+    this.#picture = new PicturePane(client, { onSettings });
+    this.#script = new ScriptPane(client);
     for (const [name, { label }] of Object.entries(EXAMPLES)) byId("example").add(new Option(label, name));
     this.#listen();
   }
@@ -68,7 +68,7 @@ class Page {
     byId("add-coverage").addEventListener("click", () => this.#addCoverage());
     window.addEventListener("hashchange", () => this.#openLink());
     window.addEventListener("keydown", (event) => this.#pressKey(event));
-    for (const type of ["dragover", "drop"]) window.addEventListener(type, (event) => event.preventDefault());
+    for (const type of ["dragover", "drop"]) window.addEventListener(type, keepPage);
   }
 
   // A text field has its own history.
@@ -95,14 +95,17 @@ class Page {
     for (const [name, id] of Object.entries(SETTINGS)) {
       if (settings && Object.hasOwn(settings, name)) setValue(byId(id), settings[name]);
     }
+    if (settings) this.#picture.changeOrder();
     if (script !== undefined) this.#script.script = script;
     this.#showHistory();
     this.#updateTask.request();
   }
 
+  // The page has at least two coverages. Those that the contents lack are empty.
   #restoreCoverages(contents) {
-    while (this.#panes.length > Math.max(LEAST_PANES, contents.length)) this.#panes.pop().root.remove();
-    contents.forEach((content, index) => {
+    const count = Math.max(LEAST_PANES, contents.length);
+    while (this.#panes.length > count) this.#panes.pop().root.remove();
+    Array.from({ length: count }, (_, index) => contents[index] ?? emptyContent()).forEach((content, index) => {
       const pane = this.#panes[index] ?? this.#appendPane();
       pane.content = content;
     });
@@ -215,6 +218,11 @@ function setValue(control, value) {
   const old = control.value;
   control.value = value;
   if (control.value !== value) control.value = old;
+}
+
+// The browser would open a dropped file in place of the page.
+function keepPage(event) {
+  if (hasFiles(event)) event.preventDefault();
 }
 
 function toggleTheme() {

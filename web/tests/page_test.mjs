@@ -68,7 +68,7 @@ globalThis.helpers = {
 const browser = await Browser.open();
 
 const quote = (value) => JSON.stringify(value);
-const settle = () => browser.until("document.getElementById('main').getAttribute('aria-busy') === 'false'");
+const settle = () => browser.until("document.querySelector('[aria-busy=\"true\"]') === null");
 const textOf = (id) => browser.run(`helpers.id(${quote(id)}).textContent`);
 
 async function setPane(letter, text, format = "3") {
