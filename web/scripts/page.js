@@ -189,9 +189,9 @@ class Page {
       return;
     }
     const coverages = state.coverages.map(({ text, format }) => ({ text, format }));
-    const link = location.href.split("#")[0] + await encodeState({ ...state, coverages });
-    history.replaceState(null, "", link);
-    await copyText(link, this.#status, "Link");
+    const fragment = await encodeState({ ...state, coverages });
+    if (fragment === null) setText(this.#status, "The texts are too long for a link.");
+    else await copyText(location.href.split("#")[0] + fragment, this.#status, "Link");
   }
 
   async #openLink() {
@@ -232,15 +232,23 @@ function toggleTheme() {
 }
 
 async function startPage() {
-  const client = new WorkerClient(byId("worker-source").textContent);
-  const result = await client.start(decodeBase64(byId("module-data").textContent));
-  if (result.status !== Status.DONE) {
-    byId("page-status").classList.add("invalid");
-    setText(byId("page-status"), `This browser cannot run the module: ${result.error}`);
-    return;
+  try {
+    const client = new WorkerClient(byId("worker-source").textContent);
+    const result = await client.start(decodeBase64(byId("module-data").textContent));
+    if (result.status !== Status.DONE) {
+      showStartFailure(result.error);
+      return;
+    }
+    await new Page(client).start();
+    document.documentElement.dataset.ready = "true";
+  } catch (error) {
+    showStartFailure(error);
   }
-  await new Page(client).start();
-  document.documentElement.dataset.ready = "true";
+}
+
+function showStartFailure(error) {
+  byId("page-status").classList.add("invalid");
+  setText(byId("page-status"), `This browser cannot run the page: ${error}`);
 }
 
 startPage();

@@ -9,17 +9,19 @@ import { cpSync, mkdtempSync, readFileSync, rmSync, writeFileSync } from "node:f
 import { tmpdir } from "node:os";
 import { dirname, join } from "node:path";
 import { fileURLToPath } from "node:url";
+import { deflateRawSync } from "node:zlib";
 import { contentBytes, fileContent, formatToRead, isBlank, textContent } from "../scripts/content.js";
 import { characterRange, errorRange, excerpt } from "../scripts/error_place.js";
 import { describeReport, offerFor, parseReport } from "../scripts/error_report.js";
 import { Format } from "../scripts/formats.js";
-import { decodeBase64, decodeState, encodeBase64, encodeState } from "../scripts/link.js";
+import { MAX_LINK_BYTES, decodeBase64, decodeState, encodeBase64, encodeState } from "../scripts/link.js";
 import { Status, CoverageModule } from "../scripts/module.js";
 import { parseMeasurement } from "../scripts/picture_pane.js";
 import { cellAt, cellOfNumber, centre, diamonds, neighbour, nuniq, rowCells } from "../scripts/projection.js";
 import { repliesByLine } from "../scripts/script_pane.js";
 import { groupDigits, parseStatistics, splitExamination } from "../scripts/statistics.js";
 import { UndoHistory } from "../scripts/undo_history.js";
+import { WorkerClient } from "../scripts/worker_client.js";
 
 const WEB = dirname(dirname(fileURLToPath(import.meta.url)));
 const utf8 = new TextEncoder();
@@ -320,7 +322,13 @@ async function testLinks() {
     await encodeState({ coverages: Array(20).fill({ text: 5, format: "9" }), settings: { output: { a: 1 } } }));
   checkEqual([odd.coverages.length, odd.coverages[0], odd.settings.output, "script" in odd],
     [8, { text: "5", format: 3, file: null }, "[object Object]", false], "values of other types");
-  const large = await encodeState({ coverages: [{ text: "1".repeat(5_000_000), format: 3 }], settings: {} });
+  const withText = (length) => ({ coverages: [{ text: "1".repeat(length), format: 3 }], settings: {} });
+  const wrapped = JSON.stringify(withText(0)).length;
+  checkEqual(await encodeState(withText(MAX_LINK_BYTES - wrapped + 1)), null, "the fragment of too long a text");
+  const longest = await decodeState(await encodeState(withText(MAX_LINK_BYTES - wrapped)));
+  checkEqual([longest.coverages[0].text, longest.coverages[0].file.bytes.length],
+    ["", MAX_LINK_BYTES - wrapped], "the longest text in a link");
+  const large = `#1${encodeBase64(deflateRawSync(JSON.stringify(withText(5_000_000))))}`;
   for (const damaged of ["#1", "#1%", "#1AAAA", `${fragment.slice(0, -8)}`, await encodeState({}), large]) {
     const isRejected = await decodeState(damaged).then(() => false, () => true);
     check(isRejected, `the fragment ${damaged.slice(0, 20)} is rejected`);
@@ -364,6 +372,7 @@ function fakeModule(needed) {
       if (capacity >= BigInt(needed)) new Uint8Array(memory.buffer, Number(output), needed).fill(bytes[0]);
     },
   };
+  exported.web_measure = exported.web_job;
   return { exported, allocated, calls };
 }
 
@@ -397,12 +406,81 @@ function testModuleCalls() {
     checkEqual([long.output.length, fake.calls.length, Number(fake.calls[1].capacity), fake.allocated.size],
       [3_000_000, 2, 3_000_000, 0],
       "a call with too short a buffer");
+    fake = fakeModule(1500);
+    const measured = new CoverageModule(null).call("measure", [0], new Uint8Array(5000));
+    checkEqual([measured.output.length, fake.calls.map(({ capacity }) => Number(capacity))], [1500, [1024, 1500]],
+      "the capacities of a measurement");
     fake = fakeModule(30_000_000);
     checkEqual([new CoverageModule(null).call("job", [0], utf8.encode("c")).status, fake.allocated.size],
       [Status.OUT_OF_MEMORY, 0],
       "a call without space for the output");
   } finally {
     WebAssembly.Instance = original;
+  }
+}
+
+// ---- the client of the worker
+
+// Workers that answer nothing by themselves.
+function fakeWorkers() {
+  const workers = [];
+  return { workers, Worker: class {
+    messages = [];
+    isTerminated = false;
+
+    constructor() {
+      workers.push(this);
+    }
+
+    postMessage(message) {
+      this.messages.push(message);
+    }
+
+    terminate() {
+      this.isTerminated = true;
+    }
+
+    reply(status) {
+      this.onmessage({ data: { id: this.messages.at(-1).id, status } });
+    }
+  } };
+}
+
+async function testWorkerClient() {
+  const original = globalThis.Worker, { workers, Worker } = fakeWorkers();
+  const turn = () => new Promise((resolve) => { setTimeout(resolve, 0); });
+  globalThis.Worker = Worker;
+  try {
+    const client = new WorkerClient(""), start = client.start(new Uint8Array([1, 2]));
+    workers[0].reply(Status.DONE);
+    checkEqual((await start).status, Status.DONE, "the status of the start");
+    const jobs = [client.call("one", [], new Uint8Array()), client.call("two", [], new Uint8Array())];
+    await turn();
+    checkEqual(workers[0].messages.map(({ job }) => job ?? "start"), ["start", "one", "two"], "the messages");
+    workers[0].onerror({ message: "broken" });
+    const ended = await Promise.all(jobs);
+    checkEqual(ended.map(({ status, error }) => [status, error]),
+      [[Status.TRAPPED, "broken"], [Status.TRAPPED, "broken"]], "the jobs of a worker that fails");
+    const next = client.call("three", [], new Uint8Array());
+    await turn();
+    checkEqual([workers[0].isTerminated, workers.length, [...workers[1].messages[0].compressed]], [true, 2, [1, 2]],
+      "the new worker");
+    workers[1].reply(Status.DONE);
+    await turn();
+    workers[0].onerror({ message: "late" });
+    workers[1].reply(Status.DONE);
+    checkEqual([(await next).status, workers[1].messages.at(-1).job], [Status.DONE, "three"],
+      "the job of the new worker");
+    workers[1].onmessageerror();
+    globalThis.Worker = class { constructor() { throw new Error("no workers"); } };
+    const without = await client.call("four", [], new Uint8Array());
+    checkEqual([without.status, without.error], [Status.TRAPPED, "Error: no workers"], "a job without a worker");
+    globalThis.Worker = Worker;
+    const last = client.call("five", [], new Uint8Array());
+    workers[2].onerror({ message: "not started" });
+    checkEqual((await last).error, "not started", "the job of a worker that does not start");
+  } finally {
+    globalThis.Worker = original;
   }
 }
 
@@ -464,6 +542,7 @@ testContents();
 await testLinks();
 testReplies();
 testModuleCalls();
+await testWorkerClient();
 testBundle();
 console.log(`${passed} passed, ${failed} failed`);
 process.exitCode = failed ? 1 : 0;
