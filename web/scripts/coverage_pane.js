@@ -30,6 +30,7 @@ export class CoveragePane {
   #file = null;
   #error = null;
   #offer = null;
+  #lastText = "";
   #changes = 0;
   #reads = 0;
 
@@ -134,7 +135,9 @@ export class CoveragePane {
       this.#contentChanged();
       return;
     }
-    this.content = textContent(text, format);
+    // Undo returns to the text before the long one.
+    this.#parts.text.value = this.#lastText;
+    this.replace(textContent(text, format));
     this.focus();
   }
 
@@ -151,6 +154,7 @@ export class CoveragePane {
   // The marks do not fit the new text. They are shown again after the examination.
   #contentChanged() {
     this.#changes += 1;
+    this.#lastText = this.#parts.text.value;
     this.#error = null;
     this.#parts.goto.hidden = true;
     const { file, text, card, fileName, excerpt: place } = this.#parts;

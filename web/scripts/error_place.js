@@ -198,7 +198,8 @@ const BYTES_AROUND = 160;
  * @returns {{ line: number, before: string, marked: string, after: string }} with the number of the first line, from 1
  */
 export function excerpt(bytes, [from, to]) {
-  const markEnd = Math.min(to, from + BYTES_AROUND), start = startOfLines(bytes, from), end = endOfLines(bytes, markEnd);
+  const markEnd = Math.min(to, from + BYTES_AROUND);
+  const start = startOfLines(bytes, from), end = endOfLines(bytes, markEnd);
   let line = 1;
   for (let at = 0; at < start; at += 1) if (bytes[at] === LINE_FEED) line += 1;
   const parts = [[start, from], [from, markEnd], [markEnd, end]]

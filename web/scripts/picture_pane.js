@@ -3,7 +3,7 @@ import { byId, saveFile, setText } from "./dom.js";
 import { describeFailure } from "./error_report.js";
 import { Status } from "./module.js";
 import { joinOperands } from "./operands.js";
-import { cellAt, cellOfNumber, centre, diamonds, neighbour, nuniq, MAX_ORDER } from "./projection.js";
+import { cellAt, cellOfNumber, centre, centreOnSky, diamonds, neighbour, nuniq, MAX_ORDER } from "./projection.js";
 import { groupDigits } from "./statistics.js";
 import { Activity, LatestTask } from "./tasks.js";
 
@@ -14,6 +14,7 @@ const DIRECTIONS_NOTE = "North is up, east is left.";
 const SVG_NAMESPACE = "http://www.w3.org/2000/svg";
 const VIEW_BOX = /viewBox="(-?\d+) (-?\d+) (\d+) (\d+)"/;
 const MAX_HEAD = 300;
+const ANGLE_DIGITS = 9;
 const PENDING = "…";
 const NO_VALUE = "–";
 
@@ -146,6 +147,9 @@ export class PicturePane {
     setText(byId("cell-order"), String(cell.order));
     setText(byId("cell-nested"), groupDigits(cell.cell));
     setText(byId("cell-nuniq"), groupDigits(nuniq(cell)));
+    const { longitude, latitude } = centreOnSky(cell);
+    setText(byId("cell-longitude"), `${longitude.toFixed(ANGLE_DIGITS)}°`);
+    setText(byId("cell-latitude"), `${latitude.toFixed(ANGLE_DIGITS)}°`);
     setText(byId("cell-share-name"), this.#measured ? `Share in ${this.#measured.name}` : "Share");
     showMeasurement(PENDING, PENDING, PENDING);
     this.#measureTask.request();

@@ -12,7 +12,7 @@ import { join } from "node:path";
 import { pathToFileURL } from "node:url";
 import { EXAMPLES } from "../scripts/examples.js";
 import { encodeState } from "../scripts/link.js";
-import { cellOfNumber, centre, neighbour } from "../scripts/projection.js";
+import { cellOfNumber, centre, centreOnSky, neighbour } from "../scripts/projection.js";
 import { Browser } from "./browser.mjs";
 
 const [, , PAGE, PROGRAM] = process.argv;
@@ -422,6 +422,13 @@ async function testHistory() {
   }
   await click("undo");
   checkEqual((await texts()).slice(0, 2), ["1/0", "1/1"], "the texts before the drop");
+  await browser.run(`helpers.set(helpers.part("A", "text"), "7".repeat(200_001))`);
+  await settle();
+  checkEqual([(await texts())[0], await browser.run("helpers.part('A', 'fileName').textContent")],
+    ["", "Text, 200,001 bytes"], "a long text in the field");
+  await click("undo");
+  checkEqual([(await texts())[0], await browser.run("helpers.isShown(helpers.part('A', 'card'))")], ["1/0", false],
+    "the text before the long one");
   check(await browser.run("helpers.id('undo').disabled && !helpers.id('redo').disabled"),
     "there is nothing more to undo");
 }
@@ -548,6 +555,11 @@ async function testDrops() {
 async function testSelection() {
   await load(URL_OF_PAGE);
   await browser.run("helpers.id('sky').focus()");
+  await browser.press("ArrowLeft");
+  await settle();
+  const { longitude, latitude } = centreOnSky(cellOfNumber(3, 0n));
+  checkEqual([await textOf("cell-longitude"), await textOf("cell-latitude")],
+    [`${longitude.toFixed(9)}°`, `${latitude.toFixed(9)}°`], "the centre of the selected cell");
   const fields = `["live", "ring", "share", "pixels"].map((name) => (
     name === "live" ? helpers.id("cell").ariaLive : helpers.id("cell-" + name).textContent))`;
   await browser.press("ArrowLeft");

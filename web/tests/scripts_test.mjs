@@ -17,7 +17,9 @@ import { Format } from "../scripts/formats.js";
 import { MAX_LINK_BYTES, decodeBase64, decodeState, encodeBase64, encodeState } from "../scripts/link.js";
 import { Status, CoverageModule } from "../scripts/module.js";
 import { parseMeasurement } from "../scripts/picture_pane.js";
-import { cellAt, cellOfNumber, centre, diamonds, neighbour, nuniq, rowCells } from "../scripts/projection.js";
+import {
+  cellAt, cellOfNumber, centre, centreOnSky, diamonds, neighbour, nuniq, rowCells,
+} from "../scripts/projection.js";
 import { repliesByLine } from "../scripts/script_pane.js";
 import { groupDigits, parseStatistics, splitExamination } from "../scripts/statistics.js";
 import { UndoHistory } from "../scripts/undo_history.js";
@@ -228,6 +230,30 @@ function testProjection() {
   checkEqual([nuniq(cellOfNumber(0, 0n)), nuniq(cellOfNumber(1, 4n))], [4n, 20n], "NUNIQ numbers");
   checkEqual([diamonds(cellOfNumber(0, 4n)).length, diamonds(cellOfNumber(0, 5n))],
     [2, ["768,128 896,256 768,384 640,256"]], "diamonds");
+}
+
+function testDirections() {
+  const shown = (order, cell) => {
+    const { longitude, latitude } = centreOnSky(cellOfNumber(order, cell));
+    return [longitude.toFixed(7), latitude.toFixed(7)];
+  };
+  checkEqual([shown(0, 0n), shown(0, 4n), shown(0, 8n)],
+    [["45.0000000", "41.8103149"], ["0.0000000", "0.0000000"], ["45.0000000", "-41.8103149"]], "centres of order 0");
+  for (let order = 0; order <= 4; order += 1) {
+    let isRight = true;
+    for (let number = 0; number < 12 * 4 ** order; number += 1) {
+      const expected = directionOf(order, number);
+      const { longitude, latitude } = centreOnSky(cellOfNumber(order, BigInt(number)));
+      const turn = longitude - expected.longitude * 180 / Math.PI;
+      isRight &&= Math.abs(turn - 360 * Math.round(turn / 360)) < 1e-10 && longitude >= 0 && longitude < 360;
+      isRight &&= Math.abs(Math.sin(latitude * Math.PI / 180) - expected.z) < 1e-14;
+    }
+    check(isRight, `each cell of order ${order} has its centre`);
+  }
+  // The colatitude of the cell at a pole is 2 arcsin(1 / (2^29 sqrt 6)).
+  const { longitude, latitude } = centreOnSky(cellOfNumber(29, 4n ** 29n - 1n));
+  const expected = 2 / (2 ** 29 * Math.sqrt(6)) * 180 / Math.PI;
+  checkEqual([longitude, ((90 - latitude) / expected).toFixed(5)], [45, "1.00000"], "the centre of the cell at a pole");
 }
 
 function testNeighbours() {
@@ -536,6 +562,7 @@ testExcerpts();
 testReports();
 testStatistics();
 testProjection();
+testDirections();
 testNeighbours();
 testHistory();
 testContents();
