@@ -30,6 +30,9 @@ export class CoveragePane {
   #file = null;
   #error = null;
   #offer = null;
+  #lastText = "";
+  #changes = 0;
+  #reads = 0;
 
   state = PaneState.EMPTY;
 
@@ -132,23 +135,28 @@ export class CoveragePane {
       this.#contentChanged();
       return;
     }
-    this.content = textContent(text, format);
+    // Undo returns to the text before the long one.
+    this.#parts.text.value = this.#lastText;
+    this.replace(textContent(text, format));
     this.focus();
   }
 
   async #openFile(file) {
     if (!file) return;
-    try {
-      const bytes = new Uint8Array(await file.arrayBuffer());
-      this.replace(fileContent(file.name, bytes));
-    } catch {
-      this.#showStatus("invalid", `The browser cannot read the file ${file.name}.`);
-    }
+    this.#reads += 1;
+    const read = this.#reads, bytes = await readFile(file);
     this.#parts.chooser.value = "";
+    if (read !== this.#reads) return;
+    if (bytes) this.replace(fileContent(file.name, bytes, this.content.format));
+    else this.#showStatus("invalid", `The browser cannot read the file ${file.name}.`);
   }
 
   // The marks do not fit the new text. They are shown again after the examination.
   #contentChanged() {
+    this.#changes += 1;
+    this.#lastText = this.#parts.text.value;
+    this.#error = null;
+    this.#parts.goto.hidden = true;
     const { file, text, card, fileName, excerpt: place } = this.#parts;
     text.hidden = this.#file !== null;
     card.hidden = this.#file === null;
@@ -159,13 +167,15 @@ export class CoveragePane {
   }
 
   async #examine() {
-    const { content } = this, bytes = contentBytes(content);
+    const { content } = this, bytes = contentBytes(content), changes = this.#changes;
     if (isBlank(bytes)) {
       this.#setState(PaneState.EMPTY, null);
       this.#showStatus("", "Empty. Paste or drop a coverage, or open a file.");
       return;
     }
     const result = await this.#client.call("examine", [content.format], bytes);
+    // Another examination follows if the content has changed.
+    if (changes !== this.#changes) return;
     if (result.status === Status.DONE) this.#showValid(content, bytes, result);
     else this.#showInvalid(bytes, result);
   }
@@ -255,4 +265,9 @@ export class CoveragePane {
     this.focus();
     this.#contentChanged();
   }
+}
+
+// The bytes of a file, or null if the browser cannot read it.
+async function readFile(file) {
+  return file.arrayBuffer().then((buffer) => new Uint8Array(buffer), () => null);
 }

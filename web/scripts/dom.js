@@ -58,6 +58,15 @@ export async function copyText(text, status, name) {
 }
 
 /**
+ * Reports whether files are dragged, and not a text.
+ * @param {DragEvent} event
+ * @returns {boolean}
+ */
+export function hasFiles(event) {
+  return event.dataTransfer?.types.includes("Files") ?? false;
+}
+
+/**
  * Makes an element accept one dropped file.
  * @param {Element} element
  * @param {(file: File) => void} accept
@@ -65,15 +74,15 @@ export async function copyText(text, status, name) {
 export function acceptDrops(element, accept) {
   for (const type of ["dragenter", "dragover"]) {
     element.addEventListener(type, (event) => {
+      if (!hasFiles(event)) return;
       event.preventDefault();
       element.classList.add("dropping");
     });
   }
   for (const type of ["dragleave", "drop"]) element.addEventListener(type, () => element.classList.remove("dropping"));
   element.addEventListener("drop", (event) => {
-    const [file] = event.dataTransfer.files;
-    if (!file) return;
+    if (!hasFiles(event)) return;
     event.preventDefault();
-    accept(file);
+    accept(event.dataTransfer.files[0]);
   });
 }

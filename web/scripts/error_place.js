@@ -12,21 +12,28 @@ const utf8 = new TextDecoder("utf-8", { ignoreBOM: true });
  * @returns {Range | null}
  */
 export function errorRange(bytes, position) {
-  const text = new TextDecoder("latin1").decode(bytes);
-  for (const [pattern, find] of FINDERS) {
-    const match = pattern.exec(position);
-    if (match) return find(text, bytes, ...match.slice(1).map(Number));
+  const place = position.replace(TEXT_NUMBER, ""), text = new TextDecoder("latin1").decode(bytes);
+  try {
+    for (const [pattern, find] of FINDERS) {
+      const match = pattern.exec(place);
+      if (match) return find(text, bytes, ...match.slice(1).map(Number));
+    }
+  } catch {
+    // The text is not what the position describes.
   }
   return null;
 }
 
+const TEXT_NUMBER = /^text \d+, /;
+
+// A position ends with a quotation of the text, so each pattern matches the beginning of the position only.
 const FINDERS = [
-  [/\bbyte (\d+), line \d+, byte \d+ of it/, (text, bytes, at) => wordAround(text, at)],
-  [/\bline (\d+), column (\d+)/, (text, bytes, line, column) => columnRange(text, line, column)],
-  [/\border (\d+), number (\d+)/, itemRange],
-  [/\border (\d+)/, valueNameRange],
-  [/\bname (\d+)/, nameRange],
-  [/\bline (\d+)/, (text, bytes, line) => lineRange(text, line)],
+  [/^byte (\d+), line \d+, byte \d+ of it/, (text, bytes, at) => wordAround(text, at)],
+  [/^line (\d+), column (\d+)/, (text, bytes, line, column) => columnRange(text, line, column)],
+  [/^order (\d+), number (\d+)/, itemRange],
+  [/^order (\d+)/, valueNameRange],
+  [/^name (\d+)/, nameRange],
+  [/^line (\d+)/, (text, bytes, line) => lineRange(text, line)],
 ];
 
 /**
@@ -42,10 +49,13 @@ export function characterRange(bytes, [from, to]) {
 
 // The word of an ASCII text at or before a position.
 function wordAround(text, at) {
-  const before = /[^ ,\t\r\n]*$/.exec(text.slice(Math.max(0, at - 1000), at))[0].length;
-  const after = /^[^ ,\t\r\n]*/.exec(text.slice(at, at + 1000))[0].length;
-  return before + after ? [at - before, at + after] : [Math.max(0, at - 1), Math.max(1, at)];
+  let from = at, to = at;
+  while (from > 0 && !WORD_ENDS.has(text[from - 1])) from -= 1;
+  while (to < text.length && !WORD_ENDS.has(text[to])) to += 1;
+  return from < to ? [from, to] : [Math.max(0, at - 1), Math.max(1, at)];
 }
+
+const WORD_ENDS = new Set(" ,\t\r\n");
 
 // The line with a number, counted from 1, without its end.
 function lineRange(text, number) {
@@ -188,10 +198,10 @@ const BYTES_AROUND = 160;
  * @returns {{ line: number, before: string, marked: string, after: string }} with the number of the first line, from 1
  */
 export function excerpt(bytes, [from, to]) {
-  const start = startOfLines(bytes, from), end = endOfLines(bytes, to);
+  const markEnd = Math.min(to, from + BYTES_AROUND);
+  const start = startOfLines(bytes, from), end = endOfLines(bytes, markEnd);
   let line = 1;
   for (let at = 0; at < start; at += 1) if (bytes[at] === LINE_FEED) line += 1;
-  const markEnd = Math.min(to, from + BYTES_AROUND);
   const parts = [[start, from], [from, markEnd], [markEnd, end]]
     .map(([first, last]) => utf8.decode(bytes.subarray(first, last)));
   const isCut = start > 0 && bytes[start - 1] !== LINE_FEED;

@@ -1,7 +1,11 @@
+import { textContent } from "./content.js";
 import { Format } from "./formats.js";
 
 const PREFIX = "#1";
-const MAX_LINK_BYTES = 4_000_000;
+
+/** The greatest number of bytes of a state in a link, before the compression. */
+export const MAX_LINK_BYTES = 4_000_000;
+
 const MAX_COVERAGES = 8;
 
 /**
@@ -25,12 +29,13 @@ export function decodeBase64(text) {
 }
 
 /**
- * Returns the fragment of a link that has a state.
+ * Returns the fragment of a link that has a state, or null if the state is too long for a link.
  * @param {object} state
- * @returns {Promise<string>}
+ * @returns {Promise<string | null>}
  */
 export async function encodeState(state) {
   const bytes = new TextEncoder().encode(JSON.stringify(state));
+  if (bytes.length > MAX_LINK_BYTES) return null;
   return PREFIX + encodeBase64(await readAll(bytes, new CompressionStream("deflate-raw"), Infinity));
 }
 
@@ -57,13 +62,10 @@ async function readAll(bytes, transform, limit) {
   return new Uint8Array(await new Blob(chunks).arrayBuffer());
 }
 
-// A link may come from anyone: only values of the right types are taken from it.
+// A link may come from anyone: only values of the right types are taken from it, and a long text is not shown.
 function validState(state) {
-  const coverages = state.coverages.slice(0, MAX_COVERAGES).map(({ text, format }) => ({
-    text: String(text),
-    format: Object.values(Format).includes(format) ? format : Format.DETECT,
-    file: null,
-  }));
+  const coverages = state.coverages.slice(0, MAX_COVERAGES).map(({ text, format }) => (
+    textContent(String(text), Object.values(Format).includes(format) ? format : Format.DETECT)));
   const settings = Object.fromEntries(Object.entries(state.settings).map(([name, value]) => [name, String(value)]));
   return { coverages, settings, ...(state.script !== undefined && { script: String(state.script) }) };
 }

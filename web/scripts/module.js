@@ -17,6 +17,9 @@ const RESULT_SIZE = 16;
 const LENGTH_OFFSET = 8;
 const LEAST_CAPACITY = 1 << 20;
 
+// The first capacities of jobs whose output is short. Other jobs have one that depends on the length of the text.
+const SHORT_CAPACITIES = Object.freeze({ measure: 1 << 10 });
+
 /** An instance of the module `moc_web`. */
 export class CoverageModule {
   #compiled;
@@ -46,23 +49,24 @@ export class CoverageModule {
   call(job, numbers, text) {
     this.#exports ??= new WebAssembly.Instance(this.#compiled, {}).exports;
     try {
-      return this.#run(this.#exports[`web_${job}`], numbers, text);
+      const capacity = SHORT_CAPACITIES[job] ?? LEAST_CAPACITY + 2 * text.length;
+      return this.#run(this.#exports[`web_${job}`], numbers, text, capacity);
     } catch (error) {
       this.#exports = null;
       throw error;
     }
   }
 
-  #run(job, numbers, text) {
+  #run(job, numbers, text, firstCapacity) {
     const result = this.#allocate(RESULT_SIZE), input = this.#allocate(text.length);
     try {
       if (!result || !input) return emptyResult(Status.OUT_OF_MEMORY);
       this.#bytes(input, text.length).set(text);
-      const call = (output, capacity) => {
+      const callJob = (output, capacity) => {
         job(result, ...numbers, input, BigInt(text.length), output, BigInt(capacity));
         return this.#read(result, output);
       };
-      return this.#callWithBuffer(call, LEAST_CAPACITY + 2 * text.length);
+      return this.#callWithBuffer(callJob, firstCapacity);
     } finally {
       this.#free(result, input);
     }

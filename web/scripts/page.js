@@ -1,6 +1,6 @@
 import { emptyContent, fileContent, textContent } from "./content.js";
 import { CoveragePane, MAX_PANES } from "./coverage_pane.js";
-import { byId, copyText, setText } from "./dom.js";
+import { byId, copyText, hasFiles, setText } from "./dom.js";
 import { EXAMPLES } from "./examples.js";
 import { Format } from "./formats.js";
 import { decodeBase64, decodeState, encodeState } from "./link.js";
@@ -36,7 +36,7 @@ class Page {
   #panes = [];
   #history = new UndoHistory();
   #client;
-  #activity = new Activity(byId("main"));
+  #activity = new Activity([byId("result"), byId("picture")]);
   #updateTask = new LatestTask(this.#activity, 0, () => this.#update());
   #result;
   #picture;
@@ -47,8 +47,8 @@ class Page {
     this.#client = client;
     const onSettings = () => this.#updateTask.request();
     this.#result = new ResultPane(client, { onSettings, onUse: () => this.#useResult() });
-    this.#picture = new PicturePane(client, this.#activity, { onSettings });
-    this.#script = new ScriptPane(client, this.#activity);
+    this.#picture = new PicturePane(client, { onSettings });
+    this.#script = new ScriptPane(client);
     for (const [name, { label }] of Object.entries(EXAMPLES)) byId("example").add(new Option(label, name));
     this.#listen();
   }
@@ -68,7 +68,7 @@ class Page {
     byId("add-coverage").addEventListener("click", () => this.#addCoverage());
     window.addEventListener("hashchange", () => this.#openLink());
     window.addEventListener("keydown", (event) => this.#pressKey(event));
-    for (const type of ["dragover", "drop"]) window.addEventListener(type, (event) => event.preventDefault());
+    for (const type of ["dragover", "drop"]) window.addEventListener(type, keepPage);
   }
 
   // A text field has its own history.
@@ -95,14 +95,17 @@ class Page {
     for (const [name, id] of Object.entries(SETTINGS)) {
       if (settings && Object.hasOwn(settings, name)) setValue(byId(id), settings[name]);
     }
+    if (settings) this.#picture.changeOrder();
     if (script !== undefined) this.#script.script = script;
     this.#showHistory();
     this.#updateTask.request();
   }
 
+  // The page has at least two coverages. Those that the contents lack are empty.
   #restoreCoverages(contents) {
-    while (this.#panes.length > Math.max(LEAST_PANES, contents.length)) this.#panes.pop().root.remove();
-    contents.forEach((content, index) => {
+    const count = Math.max(LEAST_PANES, contents.length);
+    while (this.#panes.length > count) this.#panes.pop().root.remove();
+    Array.from({ length: count }, (_, index) => contents[index] ?? emptyContent()).forEach((content, index) => {
       const pane = this.#panes[index] ?? this.#appendPane();
       pane.content = content;
     });
@@ -186,9 +189,9 @@ class Page {
       return;
     }
     const coverages = state.coverages.map(({ text, format }) => ({ text, format }));
-    const link = location.href.split("#")[0] + await encodeState({ ...state, coverages });
-    history.replaceState(null, "", link);
-    await copyText(link, this.#status, "Link");
+    const fragment = await encodeState({ ...state, coverages });
+    if (fragment === null) setText(this.#status, "The texts are too long for a link.");
+    else await copyText(location.href.split("#")[0] + fragment, this.#status, "Link");
   }
 
   async #openLink() {
@@ -217,6 +220,11 @@ function setValue(control, value) {
   if (control.value !== value) control.value = old;
 }
 
+// The browser would open a dropped file in place of the page.
+function keepPage(event) {
+  if (hasFiles(event)) event.preventDefault();
+}
+
 function toggleTheme() {
   const root = document.documentElement;
   const theme = root.dataset.theme ?? (matchMedia("(prefers-color-scheme: dark)").matches ? "dark" : "light");
@@ -224,15 +232,23 @@ function toggleTheme() {
 }
 
 async function startPage() {
-  const client = new WorkerClient(byId("worker-source").textContent);
-  const result = await client.start(decodeBase64(byId("module-data").textContent));
-  if (result.status !== Status.DONE) {
-    byId("page-status").classList.add("invalid");
-    setText(byId("page-status"), `This browser cannot run the module: ${result.error}`);
-    return;
+  try {
+    const client = new WorkerClient(byId("worker-source").textContent);
+    const result = await client.start(decodeBase64(byId("module-data").textContent));
+    if (result.status !== Status.DONE) {
+      showStartFailure(result.error);
+      return;
+    }
+    await new Page(client).start();
+    document.documentElement.dataset.ready = "true";
+  } catch (error) {
+    showStartFailure(error);
   }
-  await new Page(client).start();
-  document.documentElement.dataset.ready = "true";
+}
+
+function showStartFailure(error) {
+  byId("page-status").classList.add("invalid");
+  setText(byId("page-status"), `This browser cannot run the page: ${error}`);
 }
 
 startPage();

@@ -3,9 +3,9 @@ import { byId, saveFile, setText } from "./dom.js";
 import { describeFailure } from "./error_report.js";
 import { Status } from "./module.js";
 import { joinOperands } from "./operands.js";
-import { cellAt, cellOfNumber, centre, diamonds, neighbour, nuniq, MAX_ORDER } from "./projection.js";
+import { cellAt, cellOfNumber, centre, centreOnSky, diamonds, neighbour, nuniq, MAX_ORDER } from "./projection.js";
 import { groupDigits } from "./statistics.js";
-import { LatestTask } from "./tasks.js";
+import { Activity, LatestTask } from "./tasks.js";
 
 const MEASUREMENT_DELAY = 40;
 const DEFAULT_GRID_ORDER = 3;
@@ -14,6 +14,9 @@ const DIRECTIONS_NOTE = "North is up, east is left.";
 const SVG_NAMESPACE = "http://www.w3.org/2000/svg";
 const VIEW_BOX = /viewBox="(-?\d+) (-?\d+) (\d+) (\d+)"/;
 const MAX_HEAD = 300;
+const ANGLE_DIGITS = 9;
+const PENDING = "…";
+const NO_VALUE = "–";
 
 /**
  * A coverage of which the picture shows shares of cells.
@@ -37,16 +40,15 @@ export class PicturePane {
 
   /**
    * @param {import("./worker_client.js").WorkerClient} client
-   * @param {import("./tasks.js").Activity} activity
    * @param {{ onSettings: () => void }} listener
    */
-  constructor(client, activity, listener) {
+  constructor(client, listener) {
     this.#client = client;
-    this.#measureTask = new LatestTask(activity, MEASUREMENT_DELAY, () => this.#measure());
+    this.#measureTask = new LatestTask(new Activity([byId("cell")]), MEASUREMENT_DELAY, () => this.#measure());
     for (let order = 0; order <= MAX_ORDER; order += 1) this.#gridOrder.add(new Option(String(order), String(order)));
     this.#gridOrder.value = String(DEFAULT_GRID_ORDER);
     this.#shown.addEventListener("input", listener.onSettings);
-    this.#gridOrder.addEventListener("input", () => this.#changeOrder());
+    this.#gridOrder.addEventListener("input", () => this.changeOrder());
     this.#sky.addEventListener("pointermove", (event) => this.#point(event));
     this.#sky.addEventListener("pointerdown", (event) => this.#point(event));
     this.#sky.addEventListener("keydown", (event) => this.#pressKey(event));
@@ -63,7 +65,7 @@ export class PicturePane {
     this.#measured = measured;
     setText(this.#status, message);
     await this.#show(picture);
-    this.#showCell();
+    this.#showCell(false);
   }
 
   async #draw(panes, result) {
@@ -104,15 +106,15 @@ export class PicturePane {
     return Number(this.#gridOrder.value);
   }
 
-  // The cell of the new order that has the centre of the cell so far.
-  #changeOrder() {
-    if (this.#cell) {
+  /** Selects the cell of the chosen order that has the centre of the selected cell. */
+  changeOrder() {
+    if (this.#cell && this.#cell.order !== this.#order) {
       const { x, y } = centre(this.#cell);
       this.#cell = this.#order >= this.#cell.order
         ? cellAt(x, y, this.#order)
         : cellOfNumber(this.#order, this.#cell.cell >> BigInt(2 * (this.#cell.order - this.#order)));
     }
-    this.#showCell();
+    this.#showCell(false);
   }
 
   #point(event) {
@@ -122,7 +124,7 @@ export class PicturePane {
     const cell = cellAt(x, y, this.#order);
     if (!cell || (this.#cell?.order === cell.order && this.#cell.cell === cell.cell)) return;
     this.#cell = cell;
-    this.#showCell();
+    this.#showCell(false);
   }
 
   #pressKey(event) {
@@ -130,11 +132,13 @@ export class PicturePane {
     if (!direction || event.ctrlKey || event.altKey || event.metaKey) return;
     event.preventDefault();
     this.#cell = this.#cell ? neighbour(this.#cell, direction) : cellOfNumber(this.#order, 0n);
-    this.#showCell();
+    this.#showCell(true);
   }
 
-  #showCell() {
+  // Screen readers announce a cell that a key selects, and none of the cells under a moving pointer.
+  #showCell(isAnnounced) {
     const cell = this.#cell;
+    byId("cell").setAttribute("aria-live", isAnnounced ? "polite" : "off");
     byId("cell-help").hidden = cell !== null;
     byId("cell-values").hidden = cell === null;
     this.#overlay.replaceChildren();
@@ -143,22 +147,33 @@ export class PicturePane {
     setText(byId("cell-order"), String(cell.order));
     setText(byId("cell-nested"), groupDigits(cell.cell));
     setText(byId("cell-nuniq"), groupDigits(nuniq(cell)));
+    const { longitude, latitude } = centreOnSky(cell);
+    setText(byId("cell-longitude"), `${longitude.toFixed(ANGLE_DIGITS)}°`);
+    setText(byId("cell-latitude"), `${latitude.toFixed(ANGLE_DIGITS)}°`);
+    setText(byId("cell-share-name"), this.#measured ? `Share in ${this.#measured.name}` : "Share");
+    showMeasurement(PENDING, PENDING, PENDING);
     this.#measureTask.request();
   }
 
   async #measure() {
     const cell = this.#cell, measured = this.#measured;
-    setText(byId("cell-share-name"), measured ? `Share in ${measured.name}` : "Share");
     if (!cell || !measured) {
-      for (const id of ["cell-ring", "cell-share", "cell-pixels"]) setText(byId(id), "–");
+      showMeasurement(NO_VALUE, NO_VALUE, NO_VALUE);
       return;
     }
     const result = await this.#client.call("measure", [measured.format, cell.order, cell.cell], measured.bytes);
+    // Another measurement follows if the cell or the coverage has changed.
+    if (cell !== this.#cell || measured !== this.#measured) return;
     const values = result.status === Status.DONE ? parseMeasurement(new TextDecoder().decode(result.output)) : {};
-    setText(byId("cell-ring"), values.ring ? groupDigits(values.ring) : "–");
-    setText(byId("cell-share"), values.share ?? "–");
-    setText(byId("cell-pixels"), values.pixels ? groupDigits(values.pixels) : "–");
+    const { ring, share, pixels } = values;
+    showMeasurement(ring ? groupDigits(ring) : NO_VALUE, share ?? NO_VALUE, pixels ? groupDigits(pixels) : NO_VALUE);
   }
+}
+
+function showMeasurement(ring, share, pixels) {
+  setText(byId("cell-ring"), ring);
+  setText(byId("cell-share"), share);
+  setText(byId("cell-pixels"), pixels);
 }
 
 function drawResult(result) {

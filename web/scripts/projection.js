@@ -16,6 +16,7 @@ export const MAX_ORDER = 29;
 const SOUTHERN_ROW = [2, 2, 2, 2, 3, 3, 3, 3, 4, 4, 4, 4];
 const MIDDLE_COLUMN = [1, 3, 5, 7, 0, 2, 4, 6, 1, 3, 5, 7];
 const COLUMNS = 8;
+const DEGREES_PER_COLUMN = 360 / COLUMNS;
 
 /**
  * Returns the cell of an order at a point of the picture, or null outside of the sky.
@@ -67,6 +68,29 @@ export function diamonds(cell) {
 export function centre({ order, row, column }) {
   const half = BASE_HALF_DIAGONAL / 2 ** order;
   return { x: SKY_WIDTH - column * half, y: row * half };
+}
+
+/**
+ * Returns the direction of the centre of a cell in degrees. Source: the inverse of the HEALPix projection (Górski et
+ * al. 2005, section 5).
+ * @param {PictureCell} cell
+ * @returns {{ longitude: number, latitude: number }}
+ */
+export function centreOnSky({ order, row, column }) {
+  const side = 2 ** order, rowFromPole = Math.min(row, 4 * side - row);
+  if (rowFromPole >= side) {
+    const latitude = degrees(Math.asin((2 * (2 * side - row)) / (3 * side)));
+    return { longitude: (column / side) * DEGREES_PER_COLUMN, latitude };
+  }
+  // In a cap, the width of a row is proportional to its distance from the pole.
+  const middle = (2 * Math.floor(column / (2 * side)) + 1) * side;
+  const longitude = (middle / side + (column - middle) / rowFromPole) * DEGREES_PER_COLUMN;
+  const distance = degrees(2 * Math.asin(rowFromPole / (side * Math.sqrt(6))));
+  return { longitude, latitude: row < 2 * side ? 90 - distance : distance - 90 };
+}
+
+function degrees(angle) {
+  return (angle * 180) / Math.PI;
 }
 
 /**

@@ -57,10 +57,11 @@ export class ResultPane {
   }
 
   async #compute(panes) {
-    const [first] = panes, format = Number(this.#output.value);
+    const [first] = panes, format = Number(this.#output.value), operation = this.#operation.value;
     requireCoverage(first);
+    const { examination } = first;
     const bytes = await this.#outputOf(first, panes.slice(1).filter(({ state }) => state !== PaneState.EMPTY), format);
-    if (this.#operation.value === "same") return { bytes, format, ...first.examination };
+    if (operation === "same") return { bytes, format, ...examination };
     return { bytes, format, ...splitExamination(await this.#job("examine", [format], bytes)) };
   }
 

@@ -2,7 +2,7 @@ import { byId, create, setText } from "./dom.js";
 import { describeFailure } from "./error_report.js";
 import { Status } from "./module.js";
 import { groupDigits } from "./statistics.js";
-import { LatestTask } from "./tasks.js";
+import { Activity, LatestTask } from "./tasks.js";
 
 const SCRIPT_DELAY = 150;
 const MAX_LINES = 5000;
@@ -15,13 +15,10 @@ export class ScriptPane {
   #status = byId("script-status");
   #task;
 
-  /**
-   * @param {import("./worker_client.js").WorkerClient} client
-   * @param {import("./tasks.js").Activity} activity
-   */
-  constructor(client, activity) {
+  /** @param {import("./worker_client.js").WorkerClient} client */
+  constructor(client) {
     this.#client = client;
-    this.#task = new LatestTask(activity, SCRIPT_DELAY, () => this.#run());
+    this.#task = new LatestTask(new Activity([this.#replies]), SCRIPT_DELAY, () => this.#run());
     this.#text.addEventListener("input", () => this.#task.request());
     this.#text.addEventListener("scroll", () => { this.#replies.scrollTop = this.#text.scrollTop; });
     this.#replies.addEventListener("scroll", () => { this.#text.scrollTop = this.#replies.scrollTop; });

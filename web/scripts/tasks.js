@@ -1,11 +1,11 @@
-/** Counts the tasks that are under way, and marks an element as busy during them. */
+/** Counts the tasks that are under way, and marks the elements that they change as busy during them. */
 export class Activity {
-  #element;
+  #elements;
   #count = 0;
 
-  /** @param {Element} element */
-  constructor(element) {
-    this.#element = element;
+  /** @param {Element[]} elements */
+  constructor(elements) {
+    this.#elements = elements;
     this.#mark();
   }
 
@@ -20,7 +20,7 @@ export class Activity {
   }
 
   #mark() {
-    this.#element.setAttribute("aria-busy", String(this.#count > 0));
+    for (const element of this.#elements) element.setAttribute("aria-busy", String(this.#count > 0));
   }
 }
 

@@ -10,7 +10,9 @@ import { createServer } from "node:http";
 import { tmpdir } from "node:os";
 import { join } from "node:path";
 import { pathToFileURL } from "node:url";
-import { cellOfNumber, centre, neighbour } from "../scripts/projection.js";
+import { EXAMPLES } from "../scripts/examples.js";
+import { encodeState } from "../scripts/link.js";
+import { cellOfNumber, centre, centreOnSky, neighbour } from "../scripts/projection.js";
 import { Browser } from "./browser.mjs";
 
 const [, , PAGE, PROGRAM] = process.argv;
@@ -44,6 +46,14 @@ function moc(input, ...words) {
 const HELPERS = `globalThis.blobs = [];
 const createURL = URL.createObjectURL;
 URL.createObjectURL = (blob) => { blobs.push(blob); return createURL.call(URL, blob); };
+Object.defineProperty(navigator, "clipboard", { value: { writeText: async (text) => { helpers.copied = text; } } });
+const OriginalWorker = Worker;
+globalThis.Worker = class extends OriginalWorker {
+  constructor(address) {
+    super(address);
+    helpers.worker = this;
+  }
+};
 globalThis.helpers = {
   id: (id) => document.getElementById(id),
   part: (letter, name) => document.querySelector('[data-letter="' + letter + '"] [data-part="' + name + '"]'),
@@ -68,7 +78,7 @@ globalThis.helpers = {
 const browser = await Browser.open();
 
 const quote = (value) => JSON.stringify(value);
-const settle = () => browser.until("document.getElementById('main').getAttribute('aria-busy') === 'false'");
+const settle = () => browser.until("document.querySelector('[aria-busy=\"true\"]') === null");
 const textOf = (id) => browser.run(`helpers.id(${quote(id)}).textContent`);
 
 async function setPane(letter, text, format = "3") {
@@ -412,6 +422,13 @@ async function testHistory() {
   }
   await click("undo");
   checkEqual((await texts()).slice(0, 2), ["1/0", "1/1"], "the texts before the drop");
+  await browser.run(`helpers.set(helpers.part("A", "text"), "7".repeat(200_001))`);
+  await settle();
+  checkEqual([(await texts())[0], await browser.run("helpers.part('A', 'fileName').textContent")],
+    ["", "Text, 200,001 bytes"], "a long text in the field");
+  await click("undo");
+  checkEqual([(await texts())[0], await browser.run("helpers.isShown(helpers.part('A', 'card'))")], ["1/0", false],
+    "the text before the long one");
   check(await browser.run("helpers.id('undo').disabled && !helpers.id('redo').disabled"),
     "there is nothing more to undo");
 }
@@ -442,8 +459,10 @@ async function testLinks() {
   await browser.run("helpers.id('script').open = true");
   await setControl("script-text", "add 0/1 é\nread 0/0-11");
   await browser.run("helpers.id('copy-link').click()");
-  await browser.until("location.hash.length > 10");
-  const link = await browser.run("location.href"), result = await textOf("result-text");
+  await browser.until("helpers.copied !== undefined");
+  const link = await browser.run("helpers.copied"), result = await textOf("result-text");
+  checkEqual([link.startsWith(`${URL_OF_PAGE}#1`), await browser.run("location.href"), await textOf("page-status")],
+    [true, URL_OF_PAGE, "Link copied."], "the copied link, and the address of the page");
   await load(link);
   const state = await browser.run(`[...helpers.texts(), helpers.part("B", "format").value,
     ...["operation", "output-format", "grid-order", "script-text"].map((id) => helpers.id(id).value),
@@ -454,6 +473,117 @@ async function testLinks() {
   await load(`${URL_OF_PAGE}#1damaged`);
   checkEqual(await textOf("page-status"), "The link is damaged.", "the message about a damaged link");
   check((await paneState("A")).status.startsWith("Valid"), "the page works after a damaged link");
+  const openState = async (coverages) => {
+    await browser.run(`location.hash = ${quote(await encodeState({ coverages, settings: { gridOrder: "2" } }))}`);
+    await browser.until("helpers.id('grid-order').value === '2'");
+    await settle();
+  };
+  await setControl("grid-order", "4");
+  await browser.run("helpers.id('sky').focus()");
+  await browser.press("ArrowLeft");
+  await openState([{ text: FIRST, format: 3 }]);
+  checkEqual([await browser.run("helpers.texts()"), await textOf("cell-order")], [[FIRST, ""], "2"],
+    "the texts and the order of the cell after a link with one coverage");
+  await click("undo");
+  checkEqual(await textOf("cell-order"), "4", "the order of the cell after Undo");
+  await openState([{ text: "1".repeat(200_001), format: 3 }]);
+  checkEqual(await browser.run("[helpers.texts()[0], helpers.part('A', 'fileName').textContent]"),
+    ["", "Text, 200,001 bytes"], "a long text of a link");
+  await click("undo");
+  for (const letter of ["A", "B"]) {
+    await browser.run(`helpers.part("${letter}", "text").value = "é".repeat(190_000)`);
+  }
+  await setControl("script-text", "x".repeat(3_500_000));
+  await browser.run("helpers.id('script').open = true; helpers.id('copy-link').click()");
+  await browser.until("helpers.id('page-status').textContent.includes('link')");
+  checkEqual(await textOf("page-status"), "The texts are too long for a link.", "the message about long texts");
+}
+
+// A job that does not end keeps the page from showing results of the text before.
+async function testStaleResults() {
+  await load(URL_OF_PAGE);
+  await setPane("A", "1/0 2/x");
+  await browser.run(`helpers.set(helpers.part("A", "text"), "1/0 2/3")`);
+  checkEqual(await browser.run(`[helpers.isShown(helpers.part("A", "goto")), helpers.part("A", "marks").textContent]`),
+    [false, ""], "the button and the mark after a change");
+  await settle();
+  await browser.run(`(async () => {
+    const send = helpers.worker.postMessage;
+    helpers.jobs = [];
+    helpers.worker.postMessage = function (message) { helpers.jobs.push(message.job); send.call(this, message); };
+    helpers.set(helpers.part("A", "text"), "1/0 2/x");
+    while (!helpers.jobs.includes("examine")) await new Promise((resolve) => setTimeout(resolve, 1));
+    helpers.set(helpers.part("A", "text"), "1/0 1/1 1/2");
+    helpers.marks = [];
+    new MutationObserver(() => helpers.marks.push(helpers.part("A", "marks").textContent))
+      .observe(helpers.part("A", "marks"), { childList: true });
+  })()`);
+  await settle();
+  checkEqual(await browser.run("helpers.marks.filter(Boolean)"), [], "the marks of the text before");
+  checkEqual((await paneState("A")).status, "Valid: ASCII, 3 cells.", "the status of the new text");
+}
+
+async function testDrops() {
+  await load(URL_OF_PAGE);
+  await setPane("A", "1/0", "2");
+  await drop("A", "list.txt", Buffer.from("16\n17\n"));
+  checkEqual((await paneState("A")).status, "Valid: a NUNIQ list, 2 cells.", "a dropped list");
+  const twice = `(() => { const read = File.prototype.arrayBuffer;
+    File.prototype.arrayBuffer = async function () {
+      if (this.name === "slow") await new Promise((resolve) => setTimeout(resolve, 100));
+      return read.call(this);
+    };
+    helpers.drop("A", "slow", new TextEncoder().encode("18"));
+    helpers.drop("A", "quick", new TextEncoder().encode("19"));
+    return new Promise((resolve) => setTimeout(resolve, 200)); })()`;
+  await browser.run(twice);
+  await settle();
+  checkEqual((await browser.run("helpers.texts()"))[0], "19", "the text after two drops");
+  const dropText = `(() => { const transfer = new DataTransfer();
+    transfer.setData("text/plain", "1/0");
+    return ["dragover", "drop"].map((type) => helpers.part("A", "text").dispatchEvent(
+      new DragEvent(type, { dataTransfer: transfer, bubbles: true, cancelable: true }))); })()`;
+  checkEqual(await browser.run(dropText), [true, true], "a text may be dropped into a field");
+  const dropFile = `(() => { const transfer = new DataTransfer();
+    transfer.items.add(new File(["1/0"], "file.txt"));
+    return ["dragover", "drop"].map((type) => document.body.dispatchEvent(
+      new DragEvent(type, { dataTransfer: transfer, bubbles: true, cancelable: true }))); })()`;
+  checkEqual(await browser.run(dropFile), [false, false], "the browser does not open a dropped file");
+}
+
+// The fields of the cell are those of the new cell at once, or "…".
+async function testSelection() {
+  await load(URL_OF_PAGE);
+  await browser.run("helpers.id('sky').focus()");
+  await browser.press("ArrowLeft");
+  await settle();
+  const { longitude, latitude } = centreOnSky(cellOfNumber(3, 0n));
+  checkEqual([await textOf("cell-longitude"), await textOf("cell-latitude")],
+    [`${longitude.toFixed(9)}°`, `${latitude.toFixed(9)}°`], "the centre of the selected cell");
+  const fields = `["live", "ring", "share", "pixels"].map((name) => (
+    name === "live" ? helpers.id("cell").ariaLive : helpers.id("cell-" + name).textContent))`;
+  await browser.press("ArrowLeft");
+  await settle();
+  const press = (key) => `helpers.id("sky").dispatchEvent(new KeyboardEvent("keydown", { key: "${key}" }))`;
+  checkEqual(await browser.run(`${press("ArrowDown")}, ${fields}`), ["polite", "…", "…", "…"],
+    "the fields before the measurement");
+  await settle();
+  check(!(await browser.run(fields)).includes("…"), "the fields after the measurement");
+  const [x, y] = await browser.run(`(() => { helpers.id("sky").scrollIntoView({ block: "center" });
+    const { left, top, width, height } = helpers.id("sky").getBoundingClientRect();
+    return [left + width / 2, top + height / 2]; })()`);
+  await browser.movePointer(x, y);
+  await settle();
+  checkEqual(await browser.run("helpers.id('cell').ariaLive"), "off", "the announcement of the cell under the pointer");
+}
+
+async function testWorkerFailure() {
+  await load(URL_OF_PAGE);
+  await browser.run(`globalThis.failed = helpers.worker;
+    failed.dispatchEvent(new ErrorEvent("error", { message: "the worker failed" }))`);
+  await setPane("A", "1/0 1/1");
+  checkEqual([(await paneState("A")).status, await browser.run("failed !== helpers.worker")],
+    ["Valid: ASCII, 2 cells.", true], "the status after a failure of the worker");
 }
 
 async function testExamples() {
@@ -468,14 +598,28 @@ async function testExamples() {
     const shown = await textOf("result-text");
     check(shown.length > 0, `the example ${name} has a result`);
   }
+  await load(URL_OF_PAGE);
+  await setControl("script-text", "");
+  for (const [name, { coverages, script }] of Object.entries(EXAMPLES)) {
+    await browser.run(`helpers.id("example").value = ${quote(name)}`);
+    await click("load-example");
+    if (coverages) checkEqual(await browser.run("helpers.texts()"), coverages.map(({ text }) => text),
+      `the texts of the example ${name}`);
+    if (!script) continue;
+    const replies = await shownReplies();
+    check(replies.every((reply) => !reply.startsWith("fault")), `the example ${name} has no error: ${replies}`);
+    checkEqual(replies, moc(script, "run").trimEnd().split("\n"), `the replies of the example ${name}`);
+  }
 }
+
+const shownReplies = () => browser.run(
+  "[...helpers.id('script-replies').children].map((line) => line.textContent.trim())");
 
 async function testScripts() {
   const script = "add 3/10 12-15\n\ncount 3/10\nclaim 3/12 ; near 1 1\nnonsense\nread 0/0-11";
   await browser.run("helpers.id('script').open = true");
   await setControl("script-text", script);
-  const replies = await browser.run(
-    "[...helpers.id('script-replies').children].map((line) => line.textContent.trim())");
+  const replies = await shownReplies();
   const expected = moc(script, "run").trimEnd().split("\n");
   expected.splice(1, 0, "");
   checkEqual(replies, expected, "the replies beside the lines");
@@ -704,7 +848,8 @@ try {
   await load(URL_OF_PAGE);
   for (const test of [testErrors, testGoingToErrors, testHints, testFiles, testOperations, testListsOnly, testChanges,
     testPictures,
-    testStatistics, testCells, testScripts, testHistory, testOperands, testLinks, testExamples, testLargeTexts,
+    testStatistics, testCells, testScripts, testHistory, testOperands, testLinks, testExamples, testStaleResults,
+    testDrops, testSelection, testWorkerFailure, testLargeTexts,
       testKeyboard, testNames,
     testContrast, testWidths, testPrint]) {
     const before = failed;

@@ -9,17 +9,21 @@ import { cpSync, mkdtempSync, readFileSync, rmSync, writeFileSync } from "node:f
 import { tmpdir } from "node:os";
 import { dirname, join } from "node:path";
 import { fileURLToPath } from "node:url";
+import { deflateRawSync } from "node:zlib";
 import { contentBytes, fileContent, formatToRead, isBlank, textContent } from "../scripts/content.js";
 import { characterRange, errorRange, excerpt } from "../scripts/error_place.js";
 import { describeReport, offerFor, parseReport } from "../scripts/error_report.js";
 import { Format } from "../scripts/formats.js";
-import { decodeBase64, decodeState, encodeBase64, encodeState } from "../scripts/link.js";
+import { MAX_LINK_BYTES, decodeBase64, decodeState, encodeBase64, encodeState } from "../scripts/link.js";
 import { Status, CoverageModule } from "../scripts/module.js";
 import { parseMeasurement } from "../scripts/picture_pane.js";
-import { cellAt, cellOfNumber, centre, diamonds, neighbour, nuniq, rowCells } from "../scripts/projection.js";
+import {
+  cellAt, cellOfNumber, centre, centreOnSky, diamonds, neighbour, nuniq, rowCells,
+} from "../scripts/projection.js";
 import { repliesByLine } from "../scripts/script_pane.js";
 import { groupDigits, parseStatistics, splitExamination } from "../scripts/statistics.js";
 import { UndoHistory } from "../scripts/undo_history.js";
+import { WorkerClient } from "../scripts/worker_client.js";
 
 const WEB = dirname(dirname(fileURLToPath(import.meta.url)));
 const utf8 = new TextEncoder();
@@ -70,6 +74,13 @@ const PLACES = [
   ["16\n〈3〉", "line 2: `3`"],
   ["〈3/7-5〉", "text 2, byte 0, line 1, byte 0 of it: `3/7-5`"],
   ["7", "text 1"],
+  ['{"1":[0],〈"line 1, column 2"〉:[1]}', "name 1: `line 1, column 2`"],
+  ['{"1":[0],〈"byte 3, line 1, byte 3 of it"〉:[1]}', "name 1: `byte 3, line 1, byte 3 of it`"],
+  ['{〈"order 3"〉:[1]}', "name 0: `order 3`"],
+  ["16\n〈order 3〉\n", "line 2: `order 3`"],
+  ['〈"order 3〉\n', 'line 1: `"order 3`'],
+  ['"order 3\n', "order 3"],
+  [`〈1/${"é".repeat(700)}〉 2/3`, "byte 2, line 1, byte 2 of it: `1/\\xc3`"],
 ];
 
 function testPlaces() {
@@ -95,6 +106,8 @@ function testExcerpts() {
   check(cut.before.startsWith("…") && cut.before.length < 200 && cut.marked === "x" && cut.after === "",
     "a long line is cut");
   checkEqual(cut.line, 1, "the line of the excerpt of a long line");
+  const word = excerpt(utf8.encode("x".repeat(100_000)), [0, 100_000]);
+  check(word.marked.length + word.after.length < 1000, "the excerpt of a long word is short");
 }
 
 // ---- reports
@@ -219,6 +232,30 @@ function testProjection() {
     [2, ["768,128 896,256 768,384 640,256"]], "diamonds");
 }
 
+function testDirections() {
+  const shown = (order, cell) => {
+    const { longitude, latitude } = centreOnSky(cellOfNumber(order, cell));
+    return [longitude.toFixed(7), latitude.toFixed(7)];
+  };
+  checkEqual([shown(0, 0n), shown(0, 4n), shown(0, 8n)],
+    [["45.0000000", "41.8103149"], ["0.0000000", "0.0000000"], ["45.0000000", "-41.8103149"]], "centres of order 0");
+  for (let order = 0; order <= 4; order += 1) {
+    let isRight = true;
+    for (let number = 0; number < 12 * 4 ** order; number += 1) {
+      const expected = directionOf(order, number);
+      const { longitude, latitude } = centreOnSky(cellOfNumber(order, BigInt(number)));
+      const turn = longitude - expected.longitude * 180 / Math.PI;
+      isRight &&= Math.abs(turn - 360 * Math.round(turn / 360)) < 1e-10 && longitude >= 0 && longitude < 360;
+      isRight &&= Math.abs(Math.sin(latitude * Math.PI / 180) - expected.z) < 1e-14;
+    }
+    check(isRight, `each cell of order ${order} has its centre`);
+  }
+  // The colatitude of the cell at a pole is 2 arcsin(1 / (2^29 sqrt 6)).
+  const { longitude, latitude } = centreOnSky(cellOfNumber(29, 4n ** 29n - 1n));
+  const expected = 2 / (2 ** 29 * Math.sqrt(6)) * 180 / Math.PI;
+  checkEqual([longitude, ((90 - latitude) / expected).toFixed(5)], [45, "1.00000"], "the centre of the cell at a pole");
+}
+
 function testNeighbours() {
   const opposite = { north: "south", south: "north", east: "west", west: "east" };
   let isInverse = true, isAdjacent = true;
@@ -311,7 +348,13 @@ async function testLinks() {
     await encodeState({ coverages: Array(20).fill({ text: 5, format: "9" }), settings: { output: { a: 1 } } }));
   checkEqual([odd.coverages.length, odd.coverages[0], odd.settings.output, "script" in odd],
     [8, { text: "5", format: 3, file: null }, "[object Object]", false], "values of other types");
-  const large = await encodeState({ coverages: [{ text: "1".repeat(5_000_000), format: 3 }], settings: {} });
+  const withText = (length) => ({ coverages: [{ text: "1".repeat(length), format: 3 }], settings: {} });
+  const wrapped = JSON.stringify(withText(0)).length;
+  checkEqual(await encodeState(withText(MAX_LINK_BYTES - wrapped + 1)), null, "the fragment of too long a text");
+  const longest = await decodeState(await encodeState(withText(MAX_LINK_BYTES - wrapped)));
+  checkEqual([longest.coverages[0].text, longest.coverages[0].file.bytes.length],
+    ["", MAX_LINK_BYTES - wrapped], "the longest text in a link");
+  const large = `#1${encodeBase64(deflateRawSync(JSON.stringify(withText(5_000_000))))}`;
   for (const damaged of ["#1", "#1%", "#1AAAA", `${fragment.slice(0, -8)}`, await encodeState({}), large]) {
     const isRejected = await decodeState(damaged).then(() => false, () => true);
     check(isRejected, `the fragment ${damaged.slice(0, 20)} is rejected`);
@@ -355,6 +398,7 @@ function fakeModule(needed) {
       if (capacity >= BigInt(needed)) new Uint8Array(memory.buffer, Number(output), needed).fill(bytes[0]);
     },
   };
+  exported.web_measure = exported.web_job;
   return { exported, allocated, calls };
 }
 
@@ -388,12 +432,81 @@ function testModuleCalls() {
     checkEqual([long.output.length, fake.calls.length, Number(fake.calls[1].capacity), fake.allocated.size],
       [3_000_000, 2, 3_000_000, 0],
       "a call with too short a buffer");
+    fake = fakeModule(1500);
+    const measured = new CoverageModule(null).call("measure", [0], new Uint8Array(5000));
+    checkEqual([measured.output.length, fake.calls.map(({ capacity }) => Number(capacity))], [1500, [1024, 1500]],
+      "the capacities of a measurement");
     fake = fakeModule(30_000_000);
     checkEqual([new CoverageModule(null).call("job", [0], utf8.encode("c")).status, fake.allocated.size],
       [Status.OUT_OF_MEMORY, 0],
       "a call without space for the output");
   } finally {
     WebAssembly.Instance = original;
+  }
+}
+
+// ---- the client of the worker
+
+// Workers that answer nothing by themselves.
+function fakeWorkers() {
+  const workers = [];
+  return { workers, Worker: class {
+    messages = [];
+    isTerminated = false;
+
+    constructor() {
+      workers.push(this);
+    }
+
+    postMessage(message) {
+      this.messages.push(message);
+    }
+
+    terminate() {
+      this.isTerminated = true;
+    }
+
+    reply(status) {
+      this.onmessage({ data: { id: this.messages.at(-1).id, status } });
+    }
+  } };
+}
+
+async function testWorkerClient() {
+  const original = globalThis.Worker, { workers, Worker } = fakeWorkers();
+  const turn = () => new Promise((resolve) => { setTimeout(resolve, 0); });
+  globalThis.Worker = Worker;
+  try {
+    const client = new WorkerClient(""), start = client.start(new Uint8Array([1, 2]));
+    workers[0].reply(Status.DONE);
+    checkEqual((await start).status, Status.DONE, "the status of the start");
+    const jobs = [client.call("one", [], new Uint8Array()), client.call("two", [], new Uint8Array())];
+    await turn();
+    checkEqual(workers[0].messages.map(({ job }) => job ?? "start"), ["start", "one", "two"], "the messages");
+    workers[0].onerror({ message: "broken" });
+    const ended = await Promise.all(jobs);
+    checkEqual(ended.map(({ status, error }) => [status, error]),
+      [[Status.TRAPPED, "broken"], [Status.TRAPPED, "broken"]], "the jobs of a worker that fails");
+    const next = client.call("three", [], new Uint8Array());
+    await turn();
+    checkEqual([workers[0].isTerminated, workers.length, [...workers[1].messages[0].compressed]], [true, 2, [1, 2]],
+      "the new worker");
+    workers[1].reply(Status.DONE);
+    await turn();
+    workers[0].onerror({ message: "late" });
+    workers[1].reply(Status.DONE);
+    checkEqual([(await next).status, workers[1].messages.at(-1).job], [Status.DONE, "three"],
+      "the job of the new worker");
+    workers[1].onmessageerror();
+    globalThis.Worker = class { constructor() { throw new Error("no workers"); } };
+    const without = await client.call("four", [], new Uint8Array());
+    checkEqual([without.status, without.error], [Status.TRAPPED, "Error: no workers"], "a job without a worker");
+    globalThis.Worker = Worker;
+    const last = client.call("five", [], new Uint8Array());
+    workers[2].onerror({ message: "not started" });
+    checkEqual((await last).error, "not started", "the job of a worker that does not start");
+  } finally {
+    globalThis.Worker = original;
   }
 }
 
@@ -449,12 +562,14 @@ testExcerpts();
 testReports();
 testStatistics();
 testProjection();
+testDirections();
 testNeighbours();
 testHistory();
 testContents();
 await testLinks();
 testReplies();
 testModuleCalls();
+await testWorkerClient();
 testBundle();
 console.log(`${passed} passed, ${failed} failed`);
 process.exitCode = failed ? 1 : 0;
