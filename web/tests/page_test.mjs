@@ -50,6 +50,7 @@ Object.defineProperty(navigator, "clipboard", { value: { writeText: async (text)
 const OriginalWorker = Worker;
 globalThis.Worker = class extends OriginalWorker {
   constructor(address) {
+    if (location.hash === "#no-worker") throw new Error("no workers");
     super(address);
     helpers.worker = this;
   }
@@ -569,6 +570,20 @@ async function testSelection() {
     "the fields before the measurement");
   await settle();
   check(!(await browser.run(fields)).includes("…"), "the fields after the measurement");
+  await browser.run(`(async () => {
+    const send = helpers.worker.postMessage;
+    helpers.jobs = [];
+    helpers.worker.postMessage = function (message) { helpers.jobs.push(message.job); send.call(this, message); };
+    ${press("ArrowDown")};
+    while (!helpers.jobs.includes("measure")) await new Promise((resolve) => setTimeout(resolve, 1));
+    ${press("ArrowDown")};
+    helpers.rings = [];
+    new MutationObserver(() => helpers.rings.push(helpers.id("cell-ring").textContent))
+      .observe(helpers.id("cell-ring"), { childList: true });
+  })()`);
+  await settle();
+  checkEqual(await browser.run("helpers.rings"), [await textOf("cell-ring")],
+    "the ring numbers that are shown after a change of the cell during a measurement");
   const [x, y] = await browser.run(`(() => { helpers.id("sky").scrollIntoView({ block: "center" });
     const { left, top, width, height } = helpers.id("sky").getBoundingClientRect();
     return [left + width / 2, top + height / 2]; })()`);
@@ -584,6 +599,11 @@ async function testWorkerFailure() {
   await setPane("A", "1/0 1/1");
   checkEqual([(await paneState("A")).status, await browser.run("failed !== helpers.worker")],
     ["Valid: ASCII, 2 cells.", true], "the status after a failure of the worker");
+  await browser.goTo("about:blank");
+  await browser.goTo(`${URL_OF_PAGE}#no-worker`);
+  await browser.until("helpers.id('page-status').textContent !== ''");
+  checkEqual(await textOf("page-status"), "This browser cannot run the page: Error: no workers",
+    "the message without a worker");
 }
 
 async function testExamples() {
