@@ -50,6 +50,7 @@ Object.defineProperty(navigator, "clipboard", { value: { writeText: async (text)
 const OriginalWorker = Worker;
 globalThis.Worker = class extends OriginalWorker {
   constructor(address) {
+    if (location.hash === "#no-worker") throw new Error("no workers");
     super(address);
     helpers.worker = this;
   }
@@ -70,6 +71,16 @@ globalThis.helpers = {
     transfer.items.add(new File([bytes], name));
     helpers.part(letter,
       "field").dispatchEvent(new DragEvent("drop", { dataTransfer: transfer, bubbles: true, cancelable: true }));
+  },
+  // Runs an action once, after a job with a name is sent and before its result arrives.
+  afterSending(job, action) {
+    const { worker } = helpers;
+    worker.postMessage = (message) => {
+      OriginalWorker.prototype.postMessage.call(worker, message);
+      if (message.job !== job) return;
+      delete worker.postMessage;
+      action();
+    };
   },
   texts: () => [...document.querySelectorAll('[data-part="text"]')].map((field) => field.value),
   isShown: (element) => element.checkVisibility(),
@@ -499,7 +510,7 @@ async function testLinks() {
   checkEqual(await textOf("page-status"), "The texts are too long for a link.", "the message about long texts");
 }
 
-// A job that does not end keeps the page from showing results of the text before.
+// The page does not show the result of a job about a text that has changed since.
 async function testStaleResults() {
   await load(URL_OF_PAGE);
   await setPane("A", "1/0 2/x");
@@ -507,19 +518,17 @@ async function testStaleResults() {
   checkEqual(await browser.run(`[helpers.isShown(helpers.part("A", "goto")), helpers.part("A", "marks").textContent]`),
     [false, ""], "the button and the mark after a change");
   await settle();
-  await browser.run(`(async () => {
-    const send = helpers.worker.postMessage;
-    helpers.jobs = [];
-    helpers.worker.postMessage = function (message) { helpers.jobs.push(message.job); send.call(this, message); };
-    helpers.set(helpers.part("A", "text"), "1/0 2/x");
-    while (!helpers.jobs.includes("examine")) await new Promise((resolve) => setTimeout(resolve, 1));
-    helpers.set(helpers.part("A", "text"), "1/0 1/1 1/2");
-    helpers.marks = [];
+  await browser.run(`helpers.marks = [];
     new MutationObserver(() => helpers.marks.push(helpers.part("A", "marks").textContent))
       .observe(helpers.part("A", "marks"), { childList: true });
-  })()`);
+    helpers.afterSending("examine", () => {
+      helpers.hasChanged = true;
+      helpers.set(helpers.part("A", "text"), "1/0 1/1 1/2");
+    });
+    helpers.set(helpers.part("A", "text"), "1/0 2/x")`);
   await settle();
-  checkEqual(await browser.run("helpers.marks.filter(Boolean)"), [], "the marks of the text before");
+  checkEqual(await browser.run("[helpers.hasChanged, helpers.marks.filter(Boolean)]"), [true, []],
+    "the marks of the text before");
   checkEqual((await paneState("A")).status, "Valid: ASCII, 3 cells.", "the status of the new text");
 }
 
@@ -569,6 +578,16 @@ async function testSelection() {
     "the fields before the measurement");
   await settle();
   check(!(await browser.run(fields)).includes("…"), "the fields after the measurement");
+  await browser.run(`helpers.afterSending("measure", () => {
+      ${press("ArrowDown")};
+      helpers.rings = [];
+      new MutationObserver(() => helpers.rings.push(helpers.id("cell-ring").textContent))
+        .observe(helpers.id("cell-ring"), { childList: true });
+    });
+    ${press("ArrowDown")}`);
+  await settle();
+  checkEqual(await browser.run("helpers.rings"), [await textOf("cell-ring")],
+    "the ring numbers that are shown after a change of the cell during a measurement");
   const [x, y] = await browser.run(`(() => { helpers.id("sky").scrollIntoView({ block: "center" });
     const { left, top, width, height } = helpers.id("sky").getBoundingClientRect();
     return [left + width / 2, top + height / 2]; })()`);
@@ -584,6 +603,11 @@ async function testWorkerFailure() {
   await setPane("A", "1/0 1/1");
   checkEqual([(await paneState("A")).status, await browser.run("failed !== helpers.worker")],
     ["Valid: ASCII, 2 cells.", true], "the status after a failure of the worker");
+  await browser.goTo("about:blank");
+  await browser.goTo(`${URL_OF_PAGE}#no-worker`);
+  await browser.until("helpers.id('page-status').textContent !== ''");
+  checkEqual(await textOf("page-status"), "This browser cannot run the page: Error: no workers",
+    "the message without a worker");
 }
 
 async function testExamples() {
