@@ -6,7 +6,7 @@ import { pathToFileURL } from "node:url";
 import { Browser } from "./browser.mjs";
 
 const [page, file] = process.argv.slice(2);
-const browser = await Browser.open({ width: 1200, height: 800 });
+const browser = await Browser.open({ width: 1400, height: 800 });
 await browser.goTo(pathToFileURL(resolve(page)).href);
 await browser.until("document.documentElement.dataset.ready === 'true'");
 await browser.until("document.querySelector('[aria-busy=\"true\"]') === null && document.querySelector('main img') !== null");
