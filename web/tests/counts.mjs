@@ -13,6 +13,14 @@ export function check(holds, statement) {
   if (failed <= MAX_SHOWN) console.log(`does not hold: ${statement}`);
 }
 
+const textOf = (value) => JSON.stringify(value, (_, item) => (typeof item === "bigint" ? `${item}n` : item));
+
+// Counts a check that two values are equal.
+export function checkEqual(actual, expected, subject) {
+  const [one, other] = [actual, expected].map(textOf);
+  check(one === other, `${subject} is ${one}, and should be ${other}`);
+}
+
 // Prints `N passed, M failed`, and sets the exit status.
 export function finish() {
   console.log(`${passed} passed, ${failed} failed`);

@@ -6,27 +6,11 @@
 // filled with a byte, and must keep it. Allocations fail when the memory is full, and succeed again when it is free. Products and shifts are
 // compared with those of BigInt. The last line printed is `N passed, M failed`.
 import { readFileSync } from "node:fs";
+import { check, finish, randomNumbers } from "./counts.mjs";
 
 const STEPS = 20_000, SLOTS = 300, ROUNDS = 5_000, MAX_MEMORY = 4 * 2 ** 20;
 const exported = new WebAssembly.Instance(new WebAssembly.Module(readFileSync(process.argv[2]))).exports;
-let passed = 0, failed = 0;
-
-function check(holds, statement) {
-  if (holds) {
-    passed += 1;
-    return;
-  }
-  failed += 1;
-  console.log(`does not hold: ${statement}`);
-}
-
-// A generator of random numbers below a bound, as in the tests in C.
-let state = 2005n;
-function randomBits(count) {
-  state = BigInt.asUintN(64, state * 6364136223846793005n + 1442695040888963407n);
-  return state >> BigInt(64 - count);
-}
-const randomBelow = (bound) => Number(randomBits(32) % BigInt(bound));
+const { bits: randomBits, below: randomBelow } = randomNumbers(2005);
 
 // The memory has another buffer after it has grown.
 const bytes = () => new Uint8Array(exported.memory.buffer);
@@ -109,5 +93,4 @@ function testNumbers() {
 
 testNumbers();
 testHeap();
-console.log(`${passed} passed, ${failed} failed`);
-process.exitCode = failed ? 1 : 0;
+finish();

@@ -14,28 +14,13 @@ import { EXAMPLES } from "../scripts/examples.js";
 import { encodeState } from "../scripts/link.js";
 import { cellOfNumber, centre, centreOnSky, neighbour } from "../scripts/projection.js";
 import { Browser } from "./browser.mjs";
+import { check, checkEqual, finish } from "./counts.mjs";
 
 const [, , PAGE, PROGRAM] = process.argv;
 const URL_OF_PAGE = pathToFileURL(PAGE).href;
 const LARGE_TEXT_LIMIT = 10_000;
 const FORMATS = { 0: "ascii", 1: "json", 2: "uniq", 3: "auto" };
 const LEAST_CONTRAST = 4.5;
-
-let passed = 0, failed = 0;
-
-function check(holds, statement) {
-  if (holds) {
-    passed += 1;
-    return;
-  }
-  failed += 1;
-  console.log(`does not hold: ${statement}`);
-}
-
-function checkEqual(actual, expected, subject) {
-  check(JSON.stringify(actual) === JSON.stringify(expected),
-    `${subject} is ${JSON.stringify(actual)}, and should be ${JSON.stringify(expected)}`);
-}
 
 function moc(input, ...words) {
   const { stdout, stderr } = spawnSync(PROGRAM, words, { input, maxBuffer: 2 ** 28, encoding: "utf8" });
@@ -870,16 +855,11 @@ async function testPrint() {
 try {
   await browser.send("Page.addScriptToEvaluateOnNewDocument", { source: HELPERS });
   await load(URL_OF_PAGE);
-  for (const test of [testErrors, testGoingToErrors, testHints, testFiles, testOperations, testListsOnly, testChanges,
-    testPictures,
-    testStatistics, testCells, testScripts, testHistory, testOperands, testLinks, testExamples, testStaleResults,
-    testDrops, testSelection, testWorkerFailure, testLargeTexts,
-      testKeyboard, testNames,
-    testContrast, testWidths, testPrint]) {
-    const before = failed;
-    await test();
-    if (process.env.VERBOSE) console.log(`${test.name}: ${failed - before} failed`);
-  }
+  const tests = [testErrors, testGoingToErrors, testHints, testFiles, testOperations, testListsOnly, testChanges,
+    testPictures, testStatistics, testCells, testScripts, testHistory, testOperands, testLinks, testExamples,
+    testStaleResults, testDrops, testSelection, testWorkerFailure, testLargeTexts, testKeyboard, testNames,
+    testContrast, testWidths, testPrint];
+  for (const test of tests) await test();
   checkEqual(browser.log, [], "the messages of the page");
   const others = browser.requests
     .filter((url) => !url.startsWith("blob:") && !url.startsWith("data:") && !url.startsWith(URL_OF_PAGE));
@@ -890,5 +870,4 @@ try {
 } finally {
   await browser.close();
 }
-console.log(`${passed} passed, ${failed} failed`);
-process.exitCode = failed ? 1 : 0;
+finish();

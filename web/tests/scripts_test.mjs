@@ -24,25 +24,10 @@ import { repliesByLine } from "../scripts/script_pane.js";
 import { groupDigits, parseStatistics, splitExamination } from "../scripts/statistics.js";
 import { UndoHistory } from "../scripts/undo_history.js";
 import { WorkerClient } from "../scripts/worker_client.js";
+import { check, checkEqual, finish } from "./counts.mjs";
 
 const WEB = dirname(dirname(fileURLToPath(import.meta.url)));
 const utf8 = new TextEncoder();
-let passed = 0, failed = 0;
-
-function check(holds, statement) {
-  if (holds) {
-    passed += 1;
-    return;
-  }
-  failed += 1;
-  console.log(`does not hold: ${statement}`);
-}
-
-function checkEqual(actual, expected, subject) {
-  const [one, other] = [actual, expected]
-    .map((value) => JSON.stringify(value, (_, it) => (typeof it === "bigint" ? `${it}n` : it)));
-  check(one === other, `${subject} is ${one}, and should be ${other}`);
-}
 
 // ---- places of errors
 
@@ -571,5 +556,4 @@ testReplies();
 testModuleCalls();
 await testWorkerClient();
 testBundle();
-console.log(`${passed} passed, ${failed} failed`);
-process.exitCode = failed ? 1 : 0;
+finish();
