@@ -77,7 +77,10 @@ void clients()
         CHECK(!one.claim(1, {4}) && one.claim(1, {20}) && late->count(1, {20, 21}) == BASE / 4 && late->contains(1, {20}));
         CHECK(one.execute("count 0/0 ; near 1 5") == "total 288230376151711744 ; near yes" && late->execute("read 0/0") == "cover 0/0");
         Error error = error_of([&] { one.execute("ADD 0/0"); });
-        CHECK(error.code == MOC_LINE_UNKNOWN_WORD);
+        CHECK(error.code == MOC_LINE_UNKNOWN_WORD && one.answer() == "total 288230376151711744 ; near yes");
+        one.apply("add 0/9 ; count 0/9");
+        CHECK(one.answer() == "changed 288230376151711744 ; total 288230376151711744" && late->answer() == "cover 0/0");
+        CHECK(error_of([&] { one.apply("remove 0/9 ; ADD 0/0"); }).code == MOC_LINE_UNKNOWN_WORD && one.remove(0, {9}) == BASE);
         Client moved = std::move(one);
         CHECK(moved.remove(1, {20}) == BASE / 4 && moved.coverage(store) == store.ascii("0/0 1/4-5"));
         CHECK(error_of([&] { one.execute("count 0/0"); }).code == MOC_NULL);

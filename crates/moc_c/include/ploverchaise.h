@@ -3,9 +3,10 @@
    A store has coverages, each with an id. A call returns a result: MOC_OK with a value, or the code of an error with its position. A call
    that fails leaves the store unchanged. Threads that change one coverage at the same time share a map, and each has a client of it.
 
-   Any thread may use any store and any client. A call waits until no other call uses the same store or client. So threads that must work
-   side by side have a store each, or a client each. A fork waits until no other thread is in a call with a store or a client, and the child
-   may use all of them. Calls that open or close wait for such a fork.
+   Any thread may use any store and any client. A call waits until no other call uses the same store or client, and no timeout limits this
+   wait. So threads that must work side by side have a store each, or a client each. A call that waits for a part of a map holds no lock
+   between two tries. A fork waits until no other thread is in a call with a store or a client. The child may use all of them; they are
+   copies, and no part of a map is held there. Calls that open or close wait for such a fork.
 
    The caller must ensure the following, which nothing checks:
    - A store that is not zeroed was opened by `moc_store_open`, and was not closed by `moc_store_close` through a copy of it. Only these
@@ -13,7 +14,9 @@
      `moc_client_close`. A store or client that is opened again without a close is never freed.
    - An array is a pointer and a length in elements, and has as many elements. During a call, no other thread changes its arrays, or reads
      what it writes.
-   - No call is made from a signal handler, and no signal handler forks. A thread in a call is not cancelled asynchronously.
+   - No call is made from a signal handler, and no signal handler forks. A thread in a call is not cancelled asynchronously. Deferred
+     cancellation is safe: a call is only cancelled while it waits for a part of a map, and has no effect then.
+   - A call has 32 kB of free stack, and `moc_read_json` 128 kB.
    - malloc, calloc, realloc and free belong to one allocator, and its blocks are aligned as C requires.
 
    All other arguments are allowed. An invalid id, order, cell or length gets its code. An order or a number of clients above 255 is
@@ -351,7 +354,13 @@ MOC_CHECKED moc_result moc_neighbours(uint32_t order, const uint64_t *cells, siz
    text.
 
    A call that needs a part that another client holds waits until the timeout of its client. Then it fails with MOC_BUSY, and the map is
-   unchanged. While it waits, other threads may use the client. */
+   unchanged; the call may be repeated. While it waits, other threads may use the client, and a signal that a handler catches does not end
+   the wait. Calls of a map cannot deadlock. Nothing is guaranteed about fairness: a client may starve, and a call with MOC_NO_TIMEOUT may
+   wait forever.
+
+   Each call on a map is one atomic step, and sees all earlier calls of its client. Nothing is guaranteed about the order of calls of
+   different clients, even if their threads signal each other. If the order matters, make both calls with one client, the second after the
+   first has returned. */
 
 /* Opens a client without a map at `out`, and returns true; or returns false, as `moc_store_open`. Its timeout is 0: its calls do not
    wait. */
@@ -367,18 +376,20 @@ MOC_CHECKED moc_result moc_map_begin(moc_client *client, const moc_store *store,
    then MOC_NO_MAP, then MOC_NO_CLIENT if all clients of the map are open. */
 MOC_CHECKED moc_result moc_map_join(moc_client *client, moc_client *other);
 /* Sets for how many milliseconds later calls of a client wait for parts. 0: they do not wait. MOC_NO_TIMEOUT: they wait until the parts are
-   free. If another call of the map goes first because it has failed to get its parts, a call with a timeout leaves out up to sixteen tries,
-   also before its first try. It sleeps for at least 20 microseconds instead of each, in addition to the timeout. */
+   free. A call that waits keeps its timeout. If another call of the map goes first because it has failed to get its parts, a call with a
+   timeout leaves out up to sixteen tries, also before its first try. It sleeps for at least 20 microseconds instead of each, in addition to
+   the timeout. Together these sleeps take about a millisecond on Linux. */
 moc_result moc_map_busy_timeout(moc_client *client, uint32_t milliseconds);
 
 /* Executes the commands of a line, separated by `;`, as `moc run` does: all of them in one atomic step, or none. The replies are those that
    `moc run` writes, with a line feed; `first` is their length. MOC_NO_MAP, then MOC_LINE_TOO_MANY_COMMANDS, then another MOC_LINE_.. for
    the first invalid command, then MOC_BUSY; the map is unchanged then. The line may end with one line feed, which is not part of it, and
-   does not end with a 0. After MOC_MEMORY the line may have been executed. */
+   does not end with a 0. It has at most 16 commands, and no limit of length. After MOC_MEMORY the line may have been executed. */
 MOC_CHECKED moc_result moc_map_execute(moc_client *client, const uint8_t *line, size_t length, moc_text *replies);
 /* Executes a line without making its replies. After MOC_MEMORY the map is unchanged. */
 MOC_CHECKED moc_result moc_map_apply(moc_client *client, const uint8_t *line, size_t length);
-/* The replies to the last line that the client executed; empty before the first line. `first` is their length. */
+/* The replies to the last line that the client executed; empty before the first line. `first` is their length. If several threads use the
+   client, the line may be that of another thread. */
 MOC_CHECKED moc_result moc_map_answer(moc_client *client, moc_text *replies);
 /* Commands without a line, on the cells of an order with these nested indices, in any order. Each is one atomic step, as a line of one
    command, and leaves the replies to the last line as they are. `first` is the number of pixels of order 29 that were added or removed;
@@ -396,7 +407,8 @@ MOC_CHECKED moc_result moc_map_remove_coverage(moc_client *client, const moc_sto
 MOC_CHECKED moc_result moc_map_claim_coverage(moc_client *client, const moc_store *store, uint64_t a);
 MOC_CHECKED moc_result moc_map_count_coverage(moc_client *client, const moc_store *store, uint64_t a);
 MOC_CHECKED moc_result moc_map_contains_coverage(moc_client *client, const moc_store *store, uint64_t a);
-/* Stores a copy of the map's coverage under a new id, as the functions that make coverages. MOC_NO_MAP, then MOC_BUSY. */
+/* Stores a copy of the map's coverage under a new id, as the functions that make coverages. MOC_NO_MAP, then MOC_BUSY, of which `second`
+   has both numbers. */
 MOC_CHECKED moc_result moc_map_coverage(moc_client *client, moc_store *store);
 
 #ifdef __cplusplus

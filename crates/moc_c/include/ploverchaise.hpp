@@ -306,7 +306,8 @@ private:
 
 class Client {
 public:
-    /* Begins a map with a coverage, for up to `clients` clients at the same time, and returns one of them. Its calls do not wait. */
+    /* Begins a map with a coverage, for up to `clients` clients at the same time, and returns one of them. Its calls do not wait: until
+       `set_timeout`, they throw `Busy` if a part is held. */
     static Client begin(const Coverage &start, unsigned clients = MOC_MAX_CLIENTS)
     {
         Client client;
@@ -314,7 +315,7 @@ public:
         return client;
     }
 
-    /* Returns another client of the map. Its calls do not wait. */
+    /* Returns another client of the map. Its calls do not wait until `set_timeout`. */
     Client join()
     {
         Client client;
@@ -336,7 +337,8 @@ public:
 
     std::uint64_t number() const noexcept { return number_; }
 
-    /* Sets how long later calls wait for parts that other clients hold. Without a time, they wait without a limit. */
+    /* Sets how long later calls wait for parts that other clients hold. Without a time, and for MOC_NO_TIMEOUT milliseconds or more, they
+       wait without a limit. A negative time is 0. */
     void set_timeout(std::optional<std::chrono::milliseconds> time)
     {
         constexpr std::int64_t LONGEST = MOC_NO_TIMEOUT;
@@ -344,13 +346,13 @@ public:
         detail::checked(moc_map_busy_timeout(&client_, static_cast<std::uint32_t>(milliseconds)));
     }
 
-    /* Executes the commands of a line, and returns the replies without a line feed. */
-    std::string execute(std::string_view line)
-    {
-        detail::Text text;
-        detail::checked(moc_map_execute(&client_, detail::bytes(line), line.size(), &text.text));
-        return std::string(text.text.bytes, text.text.length ? text.text.length - 1 : 0);
-    }
+    /* Executes the commands of a line, and returns the replies without a line feed. If it throws `std::bad_alloc`, the line may have been
+       executed; `apply` and `answer` do the same in two steps. */
+    std::string execute(std::string_view line) { return replies(moc_map_execute, detail::bytes(line), line.size()); }
+    /* Executes the commands of a line without making the replies. If it throws, the map is unchanged. */
+    void apply(std::string_view line) { detail::checked(moc_map_apply(&client_, detail::bytes(line), line.size())); }
+    /* The replies to the last line that the client executed, without a line feed; empty before the first line. */
+    std::string answer() { return replies(moc_map_answer); }
 
     /* Commands on cells of an order. They return the number of pixels of order 29 that were added or removed, or that the map has. */
     std::uint64_t add(unsigned order, Span<std::uint64_t> cells) { return command(moc_map_add, order, cells); }
@@ -378,6 +380,12 @@ private:
             throw std::bad_alloc();
     }
 
+    template <class Call, class... Arguments> std::string replies(Call call, Arguments... arguments)
+    {
+        detail::Text text;
+        detail::checked(call(&client_, arguments..., &text.text));
+        return std::string(text.text.bytes, text.text.length ? text.text.length - 1 : 0);
+    }
     template <class Call> std::uint64_t command(Call call, unsigned order, Span<std::uint64_t> cells)
     {
         return detail::checked(call(&client_, order, cells.data(), cells.size())).first;
