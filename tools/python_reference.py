@@ -26,15 +26,22 @@ This page is the reference of the Python package `ploverchaise`, for Python prog
 examples by task. `tools/python_reference.py --write` takes the text from the docstrings, and CI compares the page and runs the examples.
 
 A **MOC** (Multi-Order Coverage map, [MOC 2.0](https://www.ivoa.net/documents/MOC/)) is a set of
-[HEALPix](https://healpix.sourceforge.io/) cells. A **pixel** is a cell of order 29, by its nested number. If a description does not state
-otherwise, n is the number of ranges of the MOC.
+[HEALPix](https://healpix.sourceforge.io/) cells of **orders** 0 to 29. Order k has 12·4^k cells, with nested numbers from 0. The **NUNIQ**
+number of cell i of order k is 4^(k+1) + i. A **pixel** is a cell of order 29, by its nested number. If a description does not state
+otherwise, n is the number of ranges of the MOC. After a signature is the type of the result, if it does not depend on the arguments. The
+types of arguments are in the lists of parameters.
 
 ## Contents
 
 """
 COLUMNS = 140
+# The groups of the methods of a class in the contents, each with its first method.
+GROUPS = {"MOC": {"new_empty": "Constructors", "union": "Set operations", "issubset": "Comparisons and queries",
+                  "ranges": "Ranges, cells and texts"}}
 # A heading of a section of a docstring, and the sections whose entries are indented descriptions.
 SECTION = re.compile(r"^(\w[\w ]*)\n-+\n", re.MULTILINE)
+# The indentation of the description of an entry.
+INDENTATION = "    "
 WITH_ENTRIES = frozenset(["Parameters", "Returns", "Yields", "Raises", "Attributes"])
 Function = Union[ast.FunctionDef, ast.AsyncFunctionDef]
 
@@ -53,11 +60,19 @@ def decorators_of(function: Function) -> list[str]:
     return [ast.unparse(decorator).split("(")[0].split(".")[-1] for decorator in function.decorator_list]
 
 
+def result_of(name: str, function: Function) -> str:
+    """Returns the type of the result of a function, or nothing if it depends on the arguments."""
+    if function.returns is None or function.name == "__init__" or ast.unparse(function.returns) == "Any":
+        return ""
+    return re.sub(r"\bSelf\b", name.split(".")[0], ast.unparse(function.returns))
+
+
 def signature_of(name: str, function: Function) -> str:
-    """Returns the name and the arguments of a function, without `self` and types."""
+    """Returns the name and the arguments of a function, without `self` and types, and the type of its result."""
     kinds = decorators_of(function)
+    result = result_of(name, function)
     if "property" in kinds:
-        return name
+        return f"{name}: {result}"
     arguments = function.args
     is_bound = "." in name and "staticmethod" not in kinds
     for argument in (*arguments.posonlyargs, *arguments.args, *arguments.kwonlyargs, arguments.vararg, arguments.kwarg):
@@ -65,7 +80,7 @@ def signature_of(name: str, function: Function) -> str:
             argument.annotation = None
     if is_bound:
         (arguments.posonlyargs or arguments.args).pop(0)
-    return f"{name}({ast.unparse(arguments)})"
+    return f"{name}({ast.unparse(arguments)})" + (f" -> {result}" if result else "")
 
 
 def members_of(name: str, nodes: list[ast.stmt]) -> dict[str, Function]:
@@ -108,7 +123,7 @@ def entry_lines(text: str) -> list[str]:
     lines: list[str] = []
     for line in text.strip("\n").splitlines():
         if line.startswith(" ") or not line:
-            lines.append(f"  {line.strip()}" if line else "")
+            lines.append(f"  {line.removeprefix(INDENTATION)}" if line else "")
         else:
             name, separator, kind = line.partition(" : ")
             lines.append(f"- `{name}`: {kind}. " if separator else f"- {line}: ")
@@ -120,7 +135,7 @@ def entry_lines(text: str) -> list[str]:
         wrapped += textwrap.wrap(" ".join(parts[0].split()), COLUMNS, subsequent_indent="  ", break_long_words=False,
                                  break_on_hyphens=False)
         for part in parts[1:]:
-            wrapped += ["", *(f"  {line.strip()}" for line in part.splitlines())]
+            wrapped += ["", *part.splitlines()]
     return wrapped
 
 
@@ -144,23 +159,45 @@ def anchor_of(heading: str) -> str:
     return re.sub(r"[^\w\- ]", "", heading.lower()).replace(" ", "-")
 
 
+def link_to(entry: Entry) -> str:
+    """Returns a link to an entry, with the name of a member alone."""
+    return f"[`{entry.name.split('.')[-1]}`](#{anchor_of(entry.name)})"
+
+
+def contents_of(all_entries: list[Entry]) -> list[str]:
+    """Returns the contents: a line for each class or function, and below a class a line for each group of members."""
+    lines: list[str] = []
+    for entry in all_entries:
+        if entry.level == 2:
+            lines.append(f"- {link_to(entry)}")
+            continue
+        class_name, _, member = entry.name.partition(".")
+        group = GROUPS.get(class_name, {}).get(member)
+        if group is not None or not lines[-1].startswith("  "):
+            lines.append(f"  - {group or 'Methods'}: {link_to(entry)}")
+        else:
+            lines[-1] += f", {link_to(entry)}"
+    return [part for line in lines
+            for part in textwrap.wrap(line, COLUMNS, subsequent_indent="    ", break_long_words=False, break_on_hyphens=False)]
+
+
 def make_files() -> dict[str, str]:
     """Returns the page."""
-    lines = []
-    contents = []
+    lines: list[str] = []
     for entry in entries():
-        indent = "  " * (entry.level - 2)
-        contents.append(f"{indent}- [`{entry.name}`](#{anchor_of(entry.name)})")
         lines += ["", f"{'#' * entry.level} `{entry.name}`", ""]
         if entry.signature:
             lines += ["```text", *textwrap.wrap(entry.signature, COLUMNS, subsequent_indent="    "), "```", ""]
         lines += docstring_lines(entry.docstring)
-    return {PAGE: HEAD + "\n".join([*contents, *lines]) + "\n"}
+    return {PAGE: HEAD + "\n".join([*contents_of(entries()), *lines]) + "\n"}
 
 
 def find_failures() -> list[str]:
-    """Returns what has no docstring."""
-    return [f"{entry.name} has no docstring" for entry in entries() if not entry.docstring]
+    """Returns what has no docstring, and the first methods of groups that do not exist."""
+    names = {entry.name for entry in entries()}
+    unknown = [f"{class_name}.{method}" for class_name, groups in GROUPS.items() for method in groups]
+    return [*(f"{entry.name} has no docstring" for entry in entries() if not entry.docstring),
+            *(f"{name} does not exist" for name in unknown if name not in names)]
 
 
 def main() -> int:
