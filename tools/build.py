@@ -334,7 +334,7 @@ class Build:
         return verdict is not None
 
     def run(self, with_program: bool = False) -> bool:
-        """Proves the libraries, and the program if it is wanted. Reports the progress. Returns whether all are proved."""
+        """Proves the libraries, and with `with_program` the program. Reports the progress. Returns whether all are proved."""
         shutil.rmtree(WORKSPACES, ignore_errors=True)
         with self.progress.reports():
             succeeded = self.prove_libraries() and (not with_program or self.build_program())

@@ -144,17 +144,17 @@ def make_module(folder: str, exports: Iterable[str], llvm_module: str | None = N
     ModuleError
         If a program of the toolchain fails, if the module needs an import, or if its exports are others.
     """
-    wanted, linked = sorted(exports), os.path.join(folder, "linked.wasm")
+    names, linked = sorted(exports), os.path.join(folder, "linked.wasm")
     objects = compile_parts(folder, llvm_module)
     run_tool("ld.lld", *LINK_OPTIONS, "-z", f"stack-size={stack_size}", f"--max-memory={max_memory}",
-             *(f"--export={name}" for name in wanted), "-o", linked, *objects)
+             *(f"--export={name}" for name in names), "-o", linked, *objects)
     with open(linked, "rb") as file:
         module = file.read()
     try:
         lowered = lower_module(module)
     except UnknownModule as error:
         raise ModuleError(f"web/lower.py does not accept the module: {error}") from None
-    expected = sorted({*wanted, *COMMON_EXPORTS})
+    expected = sorted({*names, *COMMON_EXPORTS})
     if exports_of(lowered) != expected:
         raise ModuleError(f"the module exports {', '.join(exports_of(lowered))} instead of {', '.join(expected)}")
     return lowered

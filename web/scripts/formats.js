@@ -8,7 +8,7 @@ const BLANKS = new Set([0x20, 0x09, 0x0d, 0x0a]);
 const BRACE = 0x7b;
 
 /**
- * Returns the first byte of a text that is not a blank, or undefined if there is none.
+ * Returns the first byte of a text that is not a blank, or undefined if all bytes are blank.
  * @param {Uint8Array} bytes
  * @returns {number | undefined}
  */

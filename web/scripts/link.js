@@ -40,7 +40,7 @@ export async function encodeState(state) {
 }
 
 /**
- * Returns the state of a link's fragment, or null if the fragment has none. Throws an error if the fragment is damaged.
+ * Returns the state of a link's fragment, or null if the fragment is empty. Throws an error if the fragment is damaged.
  * @param {string} fragment
  * @returns {Promise<object | null>}
  */

@@ -47,7 +47,7 @@ export class ScriptPane {
 }
 
 /**
- * Returns the reply to each line of a script. A line of blanks has none.
+ * Returns the reply to each line of a script. A line of blanks has no reply.
  * @param {string} script
  * @param {string[]} replies
  * @returns {string[]}

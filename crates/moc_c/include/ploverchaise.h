@@ -407,8 +407,8 @@ MOC_CHECKED moc_result moc_map_remove_coverage(moc_client *client, const moc_sto
 MOC_CHECKED moc_result moc_map_claim_coverage(moc_client *client, const moc_store *store, uint64_t a);
 MOC_CHECKED moc_result moc_map_count_coverage(moc_client *client, const moc_store *store, uint64_t a);
 MOC_CHECKED moc_result moc_map_contains_coverage(moc_client *client, const moc_store *store, uint64_t a);
-/* Stores a copy of the map's coverage under a new id, as the functions that make coverages. MOC_NO_MAP, then MOC_BUSY, of which `second`
-   has both numbers. */
+/* Stores a copy of the map's coverage under a new id, as the functions that make coverages. MOC_NO_MAP, then MOC_BUSY, with both numbers
+   in `second`. */
 MOC_CHECKED moc_result moc_map_coverage(moc_client *client, moc_store *store);
 
 #ifdef __cplusplus

@@ -16,7 +16,7 @@ use std::fmt;
 /// A whole cell in parts of 10^12.
 const WHOLE: u128 = 1_000_000_000_000;
 
-/// Returns the cell with an order and an index, or `None` if there is none.
+/// Returns the cell with an order and an index, or `None` if it does not exist.
 pub(crate) fn cell_of(order: u32, index: u64) -> Option<Cell>
     ensures { result ≡ cell_with_numbers order index }
 {
