@@ -40,7 +40,8 @@ export async function encodeState(state) {
 }
 
 /**
- * Returns the state of a link's fragment, or null if the fragment is empty. Throws an error if the fragment is damaged.
+ * Returns the state of a link's fragment, or null if it is not one of `encodeState`. Throws an error if the
+ * fragment is damaged.
  * @param {string} fragment
  * @returns {Promise<object | null>}
  */
