@@ -1,6 +1,6 @@
 -- The outputs of jobs.
-use Rattle.std.specs.Prelude.{◌≡◌, ◌⊎◌, ◌*◌, ◌/◌, ◌^◌, ℕ, List, [], ◌∷◌, ◌++◌, codes, decimal, Option, None, Some, Err}
-use Rattle.std.specs.Prelude.{nat_lt, if◌then◌else◌, option_and_then}
+use Rattle.std.specs.Prelude.{◌≡◌, ◌≢◌, ◌⊎◌, ◌*◌, ◌/◌, ◌^◌, ℕ, List, [], ◌∷◌, ◌++◌, codes, decimal, nat_lt}
+use Rattle.std.specs.Prelude.{Option, None, Some, Err, if◌then◌else◌, option_and_then}
 use Rattle.std.specs.FinSet as set
 use Rattle.moc_sphere.specs.CellNumber.{CellNumber, cell_count, cell_number, cell_size}
 use Rattle.moc_sphere.specs.Rings.{ring_number}
@@ -19,7 +19,7 @@ use Rattle.std.specs.List.{before_first}
 use Rattle.moc_lists.specs.RangeList.{NumberSet}
 use Rattle.moc_lines.specs.Runs.{Runs, answers_of, line_limit, name_of_run_error, script_rules}
 use Rattle.moc_lines.specs.declared.run_error.RunError.{RunError}
-use Rattle.moc_lines.specs.declared.run_error.RunError.TheVariants.{Write}
+use Rattle.moc_lines.specs.declared.run_error.RunError.TheVariants.{Read, Write}
 use Rattle.moc_web.specs.Numbers.{order_with_number}
 use Rattle.moc_web.specs.Results.{Fills, Reports, done}
 use Rattle.moc_web.specs.declared.job_result.JobResult.{JobResult}
@@ -70,11 +70,12 @@ cell_lines cell count =
 abbrev pub Measures : CellNumber → ParsedCoverage → List ℕ → Type 0
 Measures cell parsed text = text ≡ cell_lines cell (pixels_in parsed.set cell)
 
--- a run of a script ends with this error
+-- a run of a script ends with this error; reading a script in memory does not fail
 abbrev pub FailsRunning : List ℕ → RunError → Type 0
 FailsRunning script error =
-    (reading reading' : SourceState) × (writing writing' : SinkState) × (reading.left ≡ Some script)
-    × Runs line_limit script_rules set.empty reading reading' writing writing' (Err error)
+    (error ≢ Read)
+    × ((reading reading' : SourceState) × (writing writing' : SinkState) × (reading.left ≡ Some script)
+    × Runs line_limit script_rules set.empty reading reading' writing writing' (Err error))
 
 -- the name by which the error of a script is reported: a write into memory fails only if an allocation fails
 abbrev pub name_of_script_error : RunError → List ℕ

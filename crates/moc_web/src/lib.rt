@@ -14,3 +14,4 @@ mod jobs;
 mod measuring;
 mod scripts;
 mod text_sink;
+mod text_source;

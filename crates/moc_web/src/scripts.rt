@@ -6,8 +6,9 @@ ghost use Rattle.moc_web.specs.Jobs.{FailsRunning, RunsScript, name_of_script_er
 
 use crate::job_result::{JobResult, fill_done, fill_report};
 use crate::text_sink::TextSink;
+use crate::text_source::TextSource;
 use moc_conversion::report_error;
-use moc_devices::{DeviceFault, OverReader};
+use moc_devices::DeviceFault;
 use moc_lines::{RunError, run};
 use std::alloc::Global;
 
@@ -31,7 +32,7 @@ fn replies(alloc: Global, script: &[u8]) -> Result<Vec<u8>, RunError>
     ensures error { IfErr result (FailsRunning script.now) }
 {
     let mut sink = TextSink::new(alloc);
-    run(alloc, &mut OverReader::new(script), &mut sink)?;
+    run(alloc, &mut TextSource::new(script), &mut sink)?;
     let TextSink { text, .. } = sink;
     Ok(text)
 }
