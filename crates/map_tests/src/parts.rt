@@ -498,6 +498,40 @@ fn is_executed(
     assert!(rt; got == reply);
 }
 
+/// Checks the reply of a map to a command on a cell of order 29.
+fn replies_to_pixel(
+    rt: &impl Abort,
+    alloc: Global,
+    map: &mut Map,
+    action: CellAction,
+    pixel: u64,
+    reply: Reply,
+) {
+    let cell = cell_of(rt, 29, pixel);
+    let got = map
+        .answer_cell(alloc, &CellCommand { action, cell })
+        .expect(rt, "memory");
+    assert!(rt; got == reply);
+}
+
+#[test]
+fn commands_on_cells_of_a_map(rt: HostRuntime) {
+    let alloc = rt.alloc();
+    let mut map = map_of(&rt, alloc, &[(0, 4), (BASE, BASE + 10)]);
+    let (add, remove) = (CellAction::Add, CellAction::Remove);
+    let (claim, count) = (CellAction::Claim, CellAction::Count);
+    replies_to_pixel(&rt, alloc, &mut map, add, 4, Reply::Changed(1));
+    replies_to_pixel(&rt, alloc, &mut map, add, BASE + 9, Reply::Changed(0));
+    replies_to_pixel(&rt, alloc, &mut map, remove, BASE, Reply::Changed(1));
+    replies_to_pixel(&rt, alloc, &mut map, claim, 2 * BASE, Reply::Claimed);
+    replies_to_pixel(&rt, alloc, &mut map, claim, 2 * BASE, Reply::Taken(1));
+    replies_to_pixel(&rt, alloc, &mut map, count, BASE, Reply::Total(0));
+    replies_to_pixel(&rt, alloc, &mut map, count, 4, Reply::Total(1));
+    has_in_part(&rt, &map, 0, 5);
+    has_in_part(&rt, &map, 1, 9);
+    has_in_part(&rt, &map, 2, 1);
+}
+
 // The cell 28/0 has the pixels 0 to 3, 28/2 the pixels 8 to 11, and 28/3 the pixels 12 to 15.
 #[test]
 fn commands_on_cells_of_a_set(rt: HostRuntime) {

@@ -512,6 +512,39 @@ fn tries_cell(
     assert!(rt; tried == *reply);
 }
 
+/// Checks the reply to a command on a cell by a call that may wait.
+fn answers_cell<R: Abort + Wait>(
+    rt: &R,
+    map: &SharedMap,
+    client: &mut Client,
+    command: CellCommand,
+    reply: Reply,
+)
+    requires { IsClientOf map.now client.old }
+    ensures { IsClientOf map.now client.new }
+{
+    let answer = map
+        .answer_cell(rt, client, &command)
+        .expect(rt, "memory");
+    assert!(rt; answer == reply);
+}
+
+#[test]
+fn commands_on_one_cell_that_may_wait(rt: HostRuntime) {
+    let alloc = rt.alloc();
+    let (map, mut a, _) = two(&rt, alloc, Coverage::empty(alloc));
+    let add = on_cell(&rt, CellAction::Add, 5, 3072);
+    answers_cell(&rt, &map, &mut a, add, Reply::Changed(CELL));
+    let claim = on_cell(&rt, CellAction::Claim, 5, 3072);
+    answers_cell(&rt, &map, &mut a, claim, Reply::Taken(CELL));
+    let claim = on_cell(&rt, CellAction::Claim, 5, 3073);
+    answers_cell(&rt, &map, &mut a, claim, Reply::Claimed);
+    let remove = on_cell(&rt, CellAction::Remove, 5, 3072);
+    answers_cell(&rt, &map, &mut a, remove, Reply::Changed(CELL));
+    let count = on_cell(&rt, CellAction::Count, 4, 768);
+    answers_cell(&rt, &map, &mut a, count, Reply::Total(CELL));
+}
+
 /// Checks that a map replies to a command on a cell as another map with the same set replies to the command on the set
 /// of the cell.
 fn both_reply(

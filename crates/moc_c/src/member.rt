@@ -118,6 +118,20 @@ impl Member {
         self.map.try_answer_cell(&mut self.client, command)
     }
 
+    /// Executes a command on one cell as [`Member::answer_cell`] does, and returns its reply as a list.
+    pub(crate) fn apply_cell(
+        &mut self,
+        alloc: Global,
+        command: &CellCommand,
+    ) -> Result<Replies, TryError>
+        ensures { Tries self.old self.new (command_on_cell command.now ∷ []) result }
+    {
+        // Every allocation that can fail precedes the first change of the map.
+        let mut replies = Replies::one(alloc, Reply::Claimed)?;
+        replies.set_only(self.answer_cell(command)?);
+        Ok(replies)
+    }
+
     /// Returns a copy of the map's set by a query of the whole sky. Allocates its ranges. Fails if another client
     /// holds a part, or if an allocation fails.
     pub(crate) fn read(&mut self, alloc: Global) -> Result<Coverage, TryError>

@@ -13,7 +13,7 @@ use crate::member::Member;
 use crate::store::Store;
 use crate::table::CoverageTable;
 use crate::texts::fill_text;
-use moc_lines::{LineError, answer_text, place_of_error, read_batch};
+use moc_lines::{LineError, answer_text, place_of_error, read_batch, read_cell_command};
 use moc_ranges::Memory;
 use moc_shared::MAX_CLIENTS;
 use std::alloc::Global;
@@ -104,11 +104,14 @@ impl ClientState {
         let Some(member) = &mut self.member else {
             return CallResult::of(CallError::NoMap);
         };
-        let batch = match read_batch(alloc, line) {
-            Ok(batch) => batch,
-            Err(error) => return CallResult::of(line_error(alloc, line, error)),
+        let tried = match read_cell_command(line) {
+            Some(command) => member.apply_cell(alloc, &command),
+            None => match read_batch(alloc, line) {
+                Ok(batch) => member.apply(&batch),
+                Err(error) => return CallResult::of(line_error(alloc, line, error)),
+            },
         };
-        match member.apply(&batch) {
+        match tried {
             Ok(replies) => {
                 self.replies = Some(replies);
                 CallResult::success()

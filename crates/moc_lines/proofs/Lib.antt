@@ -7,6 +7,7 @@ pub mod Progress
 pub mod Endings
 pub mod ReportedInput
 pub mod Batching
+pub mod CellLines
 pub mod NearLemmas
 pub mod WholeReading
 pub mod NumberingLemmas

@@ -6,4 +6,5 @@ pub mod Input
 pub mod Finding
 pub mod TextErrors
 pub mod Verbs
+pub mod CellLines
 pub mod Placing

@@ -8,13 +8,13 @@ ghost use Rattle.moc_lines.specs.Language.{AnswersLine, batch_of, command_of, is
 ghost use Rattle.moc_lines.specs.Language.{name_of_line_error};
 ghost use Rattle.moc_lines.specs.Runs.{script_rules};
 
-use crate::batch::{first_semicolon, read_batch_at, read_only_piece};
+use crate::batch::{first_semicolon, only_cell_command, read_batch_at, read_only_piece};
 use crate::error::{LineError, push_error};
 use crate::executor::Executor;
 use crate::reply_text::push_reply_line;
 use crate::responder::Responder;
 use crate::words::is_blank_text;
-use moc_parts::{Batch, Command, Map, Replies, Reply};
+use moc_parts::{Batch, CellCommand, Command, Map, Replies, Reply};
 use moc_ranges::Memory;
 use std::alloc::Global;
 use std::slice;
@@ -40,6 +40,10 @@ pub fn answer_commands<E: Executor>(
     let first = first_semicolon(line);
     if first < line.len() {
         return answer_batch(executor, alloc, line, first, text);
+    }
+    if let Some(command) = only_cell_command(line) {
+        let reply = executor.execute_on_cell(alloc, &command)?;
+        return push_reply_line(alloc, slice::from_ref(&reply), text);
     }
     match read_only_piece(alloc, line) {
         Ok(command) => {
@@ -94,6 +98,10 @@ impl Executor for Map {
 
     fn execute(&mut self, alloc: Global, command: Command) -> Result<Reply, Memory> {
         self.answer(alloc, &command)
+    }
+
+    fn execute_on_cell(&mut self, alloc: Global, command: &CellCommand) -> Result<Reply, Memory> {
+        self.answer_cell(alloc, command)
     }
 
     fn execute_batch(&mut self, alloc: Global, batch: &Batch) -> Result<Replies, Memory> {

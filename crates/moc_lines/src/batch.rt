@@ -1,14 +1,15 @@
 //! The batch of commands of a line.
-ghost use Rattle.std.specs.Prelude.{◌≡◌, ◌≤◌, ◌∷◌, [], length, nat_lt, if◌then◌else◌, OnOk};
+ghost use Rattle.std.specs.Prelude.{◌≡◌, ◌≤◌, ◌∷◌, [], length, nat_lt, if◌then◌else◌, IfSome, Ok, OnOk};
 ghost use Rattle.std.specs.List.{count_by, position_or_len};
 ghost use Rattle.moc_lines.specs.Language.{command_of, piece_command, batch_of, commands_of, ParsesAs};
+ghost use Rattle.moc_parts.specs.CellCommands.{command_on_cell};
 ghost use Rattle.moc_text.specs.Lines.{is_semicolon, pieces_of};
 
 use crate::bytes::first_or_len;
-use crate::command::read_command;
+use crate::command::{cell_command, read_command};
 use crate::error::LineError;
 use crate::words::is_blank_text;
-use moc_parts::{Batch, Command, MAX_COMMANDS};
+use moc_parts::{Batch, CellCommand, Command, MAX_COMMANDS};
 use std::alloc::Global;
 
 /// Returns the position of the first semicolon of a line, or the length of the line if it contains no semicolon.
@@ -42,6 +43,18 @@ pub(crate) fn read_only_piece(alloc: Global, line: &[u8]) -> Result<Command, Lin
     ensures { ParsesAs (λ command. command ∷ []) result (batch_of command_of line.now) }
 {
     read_piece(alloc, line)
+}
+
+/// Returns the command of a line without semicolons if it is one on a single cell, such as `add 3/7`. Returns `None`
+/// for any other line.
+pub(crate) fn only_cell_command(line: &[u8]) -> Option<CellCommand>
+    requires { length line.now ≤ position_or_len is_semicolon line.now }
+    ensures { IfSome result (λ c. batch_of command_of line.now ≡ Ok (command_on_cell c ∷ [])) }
+{
+    if is_blank_text(line) {
+        return None;
+    }
+    cell_command(line)
 }
 
 /// Parses the pieces of a line. The first piece ends at `first`. Fails if there are more than 16; the error is then

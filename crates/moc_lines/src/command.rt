@@ -1,16 +1,18 @@
 //! The commands of pieces of lines.
-ghost use Rattle.std.specs.Prelude.{◌≡◌, false};
+ghost use Rattle.std.specs.Prelude.{◌≡◌, false, IfSome, Ok};
+ghost use Rattle.moc_parts.specs.CellCommands.{command_on_cell};
 ghost use Rattle.moc_lines.specs.Language.{coverage_of, order_of, plain_operand_of, operand_of, invert_of, degrade_of};
 ghost use Rattle.moc_lines.specs.Language.{near_of, command_named, command_with, command_of, ParsesAs};
+ghost use Rattle.moc_lines.specs.Private.CellLines.{action_of_word};
 ghost use Rattle.moc_lines.specs.Private.Verbs.{verb_command, word_command, near_command};
 
 use crate::error::LineError;
 use crate::fields::{only_field, two_fields};
 use crate::words::{is_blank_text, is_word, parse_decimal, split_word, without_blanks};
-use moc_parts::{Command, Operand};
+use moc_parts::{CellAction, CellCommand, Command, Operand};
 use moc_ranges::Coverage;
 use moc_sphere::{Cell, Order};
-use moc_text::read_ascii;
+use moc_text::{only_cell, read_ascii};
 use std::alloc::Global;
 
 /// Parses a coverage in the ASCII format.
@@ -180,6 +182,37 @@ fn read_with_operand(alloc: Global, word: &[u8], text: &[u8]) -> Result<Command,
     };
     let operand = read_operand(alloc, text)?;
     Ok(verb.of(operand))
+}
+
+/// Returns the action on a cell of a command with this word, or `None` if no command with this word can be on a cell.
+fn cell_action(word: &[u8]) -> Option<CellAction>
+    ensures { result ≡ action_of_word word.now }
+{
+    if is_word(word, "add") {
+        Some(CellAction::Add)
+    } else if is_word(word, "remove") {
+        Some(CellAction::Remove)
+    } else if is_word(word, "claim") {
+        Some(CellAction::Claim)
+    } else if is_word(word, "count") {
+        Some(CellAction::Count)
+    } else {
+        None
+    }
+}
+
+/// Returns the command of a piece of a line if it is one on a single cell. Returns `None` for any other piece.
+#[tactic(auto, using(crate::proofs::CellLines::command_on_cell_of))]
+pub(crate) fn cell_command(piece: &[u8]) -> Option<CellCommand>
+    ensures { IfSome result (λ c. command_of piece.now ≡ Ok (command_on_cell c)) }
+{
+    let (word, text) = split_word(piece);
+    let action = cell_action(word)?;
+    if has_order(text) {
+        return None;
+    }
+    let cell = only_cell(text)?;
+    Some(CellCommand { action, cell })
 }
 
 /// Parses the command of a piece of a line.

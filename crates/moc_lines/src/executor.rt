@@ -1,9 +1,10 @@
 //! The interface of what executes commands.
 ghost use Rattle.std.specs.Prelude.{◌∷◌, [], IfOk, List};
+ghost use Rattle.moc_parts.specs.CellCommands.{command_on_cell};
 ghost use Rattle.moc_parts.specs.declared.command.Command.{Command};
 ghost use Rattle.moc_parts.specs.declared.reply.Reply.{Reply};
 
-use moc_parts::{Batch, Command, Replies, Reply};
+use moc_parts::{Batch, CellCommand, Command, Replies, Reply};
 use moc_ranges::Memory;
 use std::alloc::Global;
 
@@ -23,6 +24,16 @@ pub trait Executor {
         requires ready { ready self.old }
         ensures ready { ready self.new }
         ensures reply { IfOk result (λ reply. executes self.old (command ∷ []) (reply ∷ []) self.new) };
+
+    /// Executes a command on one cell, like the command on the set of the cell.
+    ///
+    /// # Errors
+    /// Fails with `Memory` if an allocation fails.
+    fn execute_on_cell(&mut self, alloc: Global, command: &CellCommand) -> Result<Reply, Memory>
+        requires ready { ready self.old }
+        ensures ready { ready self.new }
+        ensures reply { IfOk result (λ reply.
+            executes self.old (command_on_cell command.now ∷ []) (reply ∷ []) self.new) };
 
     /// Executes the commands of a batch, in order.
     ///

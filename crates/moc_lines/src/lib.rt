@@ -27,7 +27,7 @@ pub use answer::answer_commands;
 pub use error::{LineError, push_error};
 pub use executor::Executor;
 pub use fields::{only_field, two_fields};
-pub use language::{answer_text, read_batch};
+pub use language::{answer_text, read_batch, read_cell_command};
 pub use line_reader::LINE_LIMIT;
 pub use numbering::{NumberError, Numbering};
 pub use places::{LinePlace, place_of_error};

@@ -2,6 +2,7 @@
 ghost use Rattle.std.specs.Prelude.{◌≡◌, ◌<◌, IfOk, OnOk, OnErr, length};
 ghost use Rattle.moc_ranges.specs.Operations.{part_of, IsWithin, pixels};
 ghost use Rattle.moc_parts.specs.Batches.{replies_on, set_after_all};
+ghost use Rattle.moc_parts.specs.CellCommands.{command_on_cell};
 ghost use Rattle.moc_parts.specs.Commands.{reply_on, set_after, NeedsOnly};
 ghost use Rattle.moc_parts.specs.Private.Drafts.{current_lists};
 ghost use Rattle.moc_parts.specs.Prepared.{given_sets};
@@ -12,6 +13,7 @@ use crate::command::Command;
 use crate::draft::Draft;
 use crate::lists::Lists;
 use crate::part::Part;
+use crate::part_command::{CellCommand, PartCommand};
 use crate::reply::{Replies, Reply};
 use crate::whole::{merge_parts, split_by_base_pixel};
 use moc_ranges::{Coverage, Memory};
@@ -121,16 +123,33 @@ impl Map {
         }
     }
 
+    /// Executes a command on one cell, and returns its reply. The result is that of `answer` on the `Command` on the
+    /// set of the cell, without allocating this set.
+    ///
+    /// # Errors
+    /// Fails with `Memory` if an allocation fails; the map is then unchanged.
+    ///
+    /// # Complexity
+    /// As `Coverage::insert_cell`, `remove_cell` or `count_cell` on the list of the part that has the cell. A claim
+    /// counts and then inserts. A count allocates nothing.
+    pub fn answer_cell(&mut self, alloc: Global, command: &CellCommand) -> Result<Reply, Memory>
+        ensures set { OnOk result (self.new ≡ set_after self.old (command_on_cell command.now)) }
+        ensures reply { IfOk result (λ r. r ≡ reply_on self.old (command_on_cell command.now)) }
+        ensures unchanged { OnErr result (self.new ≡ self.old) }
+    {
+        self.answer_in_part(alloc, command, command.part())
+    }
+
     /// Executes a command on the list of its single part.
-    fn answer_in_part(
+    fn answer_in_part<C: PartCommand>(
         &mut self,
         alloc: Global,
-        command: &Command,
+        command: &C,
         part: Part,
     ) -> Result<Reply, Memory>
-        requires { NeedsOnly command.now part }
-        ensures set { OnOk result (self.new ≡ set_after self.old command.now) }
-        ensures reply { IfOk result (λ r. r ≡ reply_on self.old command.now) }
+        requires { NeedsOnly (C.command command.now) part }
+        ensures set { OnOk result (self.new ≡ set_after self.old (C.command command.now)) }
+        ensures reply { IfOk result (λ r. r ≡ reply_on self.old (C.command command.now)) }
         ensures unchanged { OnErr result (self.new ≡ self.old) }
     {
         command.execute_on(alloc, &mut self.parts[part.index()])

@@ -10,6 +10,7 @@ mod writing;
 pub use error::TextError;
 pub use reading::{read_ascii, readings_are_unique};
 pub use scan::{digits, is_separator};
+pub use single::only_cell;
 pub use writing::{
     capacity_for, deepest_of, depth_of, if_deeper, is_too_coarse, push_ascii, write_ascii,
 };

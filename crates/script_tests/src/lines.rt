@@ -5,9 +5,10 @@ use moc_devices::{OverReader, OverWriter};
 use moc_lines::{
     LINE_LIMIT, LineError, LinePlace, RunError, answer_all_lines, answer_text, is_blank_text,
     is_word, line_after_last, only_field, parse_decimal, place_of_error, push_count, push_cover,
-    push_error, push_reply_line, read_all, read_batch, split_line, split_word, two_fields,
+    push_error, push_reply_line, read_all, read_batch, read_cell_command, split_line, split_word,
+    two_fields,
 };
-use moc_parts::{Map, Reply};
+use moc_parts::{CellAction, Map, Reply};
 use moc_ranges::Coverage;
 use moc_sphere::{Cell, Order};
 use std::alloc::Global;
@@ -112,6 +113,36 @@ fn batches(rt: HostRuntime) {
     ] {
         let read = read_batch(rt.alloc(), line.as_bytes());
         assert!(rt; matches!(read, Err(seen) if seen == error), "{line}");
+    }
+}
+
+#[test]
+fn commands_on_one_cell(rt: HostRuntime) {
+    for (line, action, order, index) in [
+        ("add 3/7", CellAction::Add, 3, 7),
+        (" remove\t29/0 \r", CellAction::Remove, 29, 0),
+        ("claim 0/11,", CellAction::Claim, 0, 11),
+        ("count 1/47", CellAction::Count, 1, 47),
+    ] {
+        let command = read_cell_command(line.as_bytes()).expect(&rt, "a command on a cell");
+        assert!(rt; command.action == action, "{line}");
+        let cell = command.cell;
+        assert_eq!(rt; (cell.order().get(), cell.index()), (order, index), "{line}");
+    }
+    for line in [
+        "",
+        "add",
+        "add 3/7 8",
+        "add 3/7 ; add 3/8",
+        "add 3/7;",
+        "add @2 3/7",
+        "add 0/12",
+        "keep 3/7",
+        "read 3/7",
+        "adds 3/7",
+        "near 3 7",
+    ] {
+        assert!(rt; read_cell_command(line.as_bytes()).is_none(), "{line}");
     }
 }
 

@@ -1,6 +1,8 @@
 use super::{Q0, Q1, Q2, assert_set, every_second, repeated};
 use moc_sphere::Order;
-use moc_text::{TextError, WriteError, is_separator, push_ascii, read_ascii, write_ascii};
+use moc_text::{
+    TextError, WriteError, is_separator, only_cell, push_ascii, read_ascii, write_ascii,
+};
 use std::alloc::Global;
 use std::process::Abort;
 
@@ -48,6 +50,22 @@ fn separators(rt: HostRuntime) {
     }
     for byte in [b'/', b'-', b';', b'\x0b', b'0'] {
         assert!(rt; !is_separator(byte));
+    }
+}
+
+#[test]
+fn texts_of_one_cell(rt: HostRuntime) {
+    for (text, order, index) in [
+        ("0/11", 0, 11),
+        (" ,3/7\r\n", 3, 7),
+        ("29/3458764513820540927", 29, 3_458_764_513_820_540_927),
+        ("0003/007", 3, 7),
+    ] {
+        let cell = only_cell(text.as_bytes()).expect(&rt, "a cell");
+        assert_eq!(rt; (cell.order().get(), cell.index()), (order, index), "{text}");
+    }
+    for text in ["", "3/", "7", "3/7 8", "3/7-8", "s3/7", "0/12", "30/0", "3/7;"] {
+        assert!(rt; only_cell(text.as_bytes()).is_none(), "{text}");
     }
 }
 

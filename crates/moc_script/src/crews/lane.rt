@@ -8,7 +8,7 @@ use crate::crews::gate::Gate;
 use crate::crews::lines::LaneLines;
 use crate::crews::texts::Texts;
 use moc_lines::{Executor, answer_commands};
-use moc_parts::{Batch, Command, Replies, Reply};
+use moc_parts::{Batch, CellCommand, Command, Replies, Reply};
 use moc_ranges::Memory;
 use moc_shared::{Client, SharedMap};
 use std::alloc::Global;
@@ -83,6 +83,10 @@ impl<'a, R: Wait> Executor for LaneClient<'a, R> {
 
     fn execute(&mut self, _alloc: Global, command: Command) -> Result<Reply, Memory> {
         self.map.answer(self.rt, &mut self.client, command)
+    }
+
+    fn execute_on_cell(&mut self, _alloc: Global, command: &CellCommand) -> Result<Reply, Memory> {
+        self.map.answer_cell(self.rt, &mut self.client, command)
     }
 
     fn execute_batch(&mut self, _alloc: Global, batch: &Batch) -> Result<Replies, Memory> {

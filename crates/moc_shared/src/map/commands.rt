@@ -79,6 +79,32 @@ impl SharedMap {
         }
     }
 
+    /// Executes a command on one cell like `answer` with the `Command` on the set of the cell. Waits for its part if it
+    /// is held; the waiting time is unbounded. Does not allocate the set of the cell.
+    ///
+    /// # Errors
+    /// Fails with `Memory` if an allocation fails. The map is then unchanged, and the client holds no part.
+    ///
+    /// # Complexity
+    /// As `try_answer_cell`.
+    pub fn answer_cell<R: Wait>(
+        &self,
+        rt: &R,
+        client: &mut Client,
+        command: &CellCommand,
+    ) -> Result<Reply, Memory>
+        requires map { IsClientOf self.now client.old }
+        ensures map { IsClientOf self.now client.new }
+        ensures number { number_of client.new ≡ number_of client.old }
+        ensures ok { IfOk result (λ r. TakesEffectAfterWaiting self.now
+            (call_of client.old (command_on_cell command.now ∷ []) (r ∷ []))
+            (record_of client.old) (record_of client.new)) }
+        ensures err { OnErr result (FailsOutOfMemoryWaiting self.now (command_on_cell command.now ∷ [])
+            (record_of client.old) (record_of client.new)) }
+    {
+        self.execute_in_part(rt, client, command, command.part())
+    }
+
     /// Executes a command on one cell like `try_answer` with the `Command` on the set of the cell. Does not wait, and
     /// does not allocate this set.
     ///
@@ -164,16 +190,16 @@ impl SharedMap {
     }
 
     /// Executes a command on its single part.
-    fn execute_in_part<R: Wait>(
+    fn execute_in_part<R: Wait, C: PartCommand>(
         &self,
         rt: &R,
         client: &mut Client,
-        command: &Command,
+        command: &C,
         part: Part,
     ) -> Result<Reply, Memory>
         requires map { IsClientOf self.now client.old }
-        requires single { NeedsOnly command.now part }
-        ensures { IsCommandResult self.now command.now client.old client.new result }
+        requires single { NeedsOnly (C.command command.now) part }
+        ensures { IsCommandResult self.now (C.command command.now) client.old client.new result }
     {
         let mark = client.mark();
         let table = &self.table.shared;

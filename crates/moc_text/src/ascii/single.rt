@@ -5,6 +5,7 @@ ghost use Rattle.moc_ranges.specs.Cells.{span};
 ghost use Rattle.moc_text.specs.Ascii.{Represents, is_separator as is_separator_byte};
 ghost use Rattle.moc_text.specs.Private.AsciiReading.{Progress};
 ghost use Rattle.moc_text.specs.Private.Scan.{scan_word};
+ghost use Rattle.moc_text.specs.Reading.{reading_of};
 
 use crate::ascii::number::Numeral;
 use crate::ascii::scan::{after, is_end, is_separator, number};
@@ -51,9 +52,20 @@ fn order_and_cell(len: usize, bytes: &[u8]) -> Option<(Numeral, Numeral, &[u8])>
     Some((order, cell, rest))
 }
 
-/// Returns the cell of a text of one word, an order and a cell of this order. Returns `None` for any other text.
+/// Returns the cell of an ASCII text of one word that has an order and one cell, such as `3/7`. Returns `None` for any
+/// other text, also if it is valid.
+///
+/// # Complexity
+/// Linear in the length of the text; allocates nothing.
+///
+/// # Source
+/// MOC 2.0, ASCII serialization.
 pub fn only_cell(text: &[u8]) -> Option<Cell>
-    ensures { IfSome result (λ cell. Represents text.now (span cell.order cell.index) (Some cell.order)) }
+    ensures represents { IfSome result (λ cell. Represents text.now (span cell.order cell.index) (Some cell.order)) }
+
+    // `read_ascii` returns the set of this cell.
+    ensures reading { IfSome result (λ cell.
+        reading_of text.now ≡ Ok (span cell.order cell.index, Some cell.order)) }
 {
     let front = skip_separators(text);
     if front.is_empty() {

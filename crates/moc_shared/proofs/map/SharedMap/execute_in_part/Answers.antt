@@ -38,15 +38,15 @@ returns g c =
     record {
       map = idle_after c.args.self.now c.args.client.now record { number = c.args.client.now.number; seat = c.execute_single.new.seat } c.requires.map
           (client_unchanged_alone old mid new part slots t.0 held
-          (client_unchanged_after_reply (c.args.command.now ∷ []) mid new c.execute_single.result c.execute_single.ensures.ok c.execute_single.ensures.err))
+          (client_unchanged_after_reply ((g.C.PartCommand.command c.args.command.now) ∷ []) mid new c.execute_single.result c.execute_single.ensures.ok c.execute_single.ensures.err))
           refl (c.execute_single.ensures.same.0 ∙ c.wait_for_slot-pointer.ensures.same.0 ∙ c.requires.map.table)
           c.execute_single.ensures.idle;
       number = refl;
       ok = IfOk-weaker c.execute_single.result _ _
-          (λ reply determined. ended_alone c.args.command.now part c.requires.single.met c.args.self.now reply c.args.client.now.number old mid new slots t.0
+          (λ reply determined. ended_alone (g.C.PartCommand.command c.args.command.now) part c.requires.single.met c.args.self.now reply c.args.client.now.number old mid new slots t.0
           c.requires.map.start c.requires.map.clients c.requires.map.number held t.2 determined)
           c.execute_single.ensures.ok;
       err = on_err_weaker c.execute_single.result
-          (λ gave. undone_alone c.args.command.now part c.requires.single.met c.args.self.now old mid new slots t.0 c.requires.map.clients held t.2 gave)
+          (λ gave. undone_alone (g.C.PartCommand.command c.args.command.now) part c.requires.single.met c.args.self.now old mid new slots t.0 c.requires.map.clients held t.2 gave)
           c.execute_single.ensures.err;
     }

@@ -5,6 +5,7 @@ use Rattle.moc_sphere.specs.CellNumber.{cell_count}
 use Rattle.moc_ranges.specs.Cells.{span}
 use Rattle.moc_text.specs.Ascii.{is_separator, Represents}
 use Rattle.moc_text.proofs.ReadWords.{progress_none}
+use Rattle.moc_text.proofs.Represented.{reading_is}
 use Rattle.moc_text.proofs.SingleCell.{represents_cell}
 use Rattle.moc_text.proofs.ascii.single.only_cell.Goals as goal
 
@@ -17,8 +18,8 @@ none : (rest : List ℕ) → eqb (length rest) 0 ≡ true → rest ≡ []
 none [] e = refl
 none (b ∷ rest) e = absurd (omega (arith, eqb-true (length (b ∷ rest)) 0 e))
 
-pub returns : goal.returns
-returns c =
+pub returns-clause-represents : goal.returns-clause-represents
+returns-clause-represents c =
     let text = c.args.text.now in
     let front = c.skip_separators-front in
     let order = c.in-Ok.ensures.0 in
@@ -28,3 +29,6 @@ returns c =
     let is = represents_cell text front.result.now c.in_ok-order.rest.now c.skip_separators.result.now c.in_ok-order.order c.in_ok-order.cell (front.ensures.progress text set.empty None None (progress_none text))
     word.0 word.1 c.in_ok-order.ensures order.0 within (c.skip_separators.ensures.progress text) (none c.skip_separators.result.now (sym c.is_empty-2.ensures ∙ c.if-not-is_empty.false)) in
     rw cell.1 (subst (λ (k : ℕ). Represents text (span k c.in_ok-order.cell.value) (Some k)) (sym order.1) is)
+
+pub returns-clause-reading : goal.returns-clause-reading
+returns-clause-reading c = reading_is c.args.text.now _ _ (returns-clause-represents c)
