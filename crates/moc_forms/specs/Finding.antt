@@ -5,6 +5,7 @@ use Rattle.std.specs.Char.{is_ascii_digit}
 use Rattle.std.specs.List.{find, list_all, list_any, starts_with}
 use Rattle.std.specs.Option.{option_map_or, option_or}
 use Rattle.moc_sphere.specs.Names.{is_slash}
+use Rattle.moc_text.specs.Lines.{is_line_feed}
 use Rattle.moc_forms.specs.Formats.{format_name}
 use Rattle.moc_forms.specs.declared.finding.Content.{Content}
 use Rattle.moc_forms.specs.declared.finding.Content.TheVariants.{Coverage, MarkedUtf8, Utf16, Gzip, Fits, Markup}
@@ -61,10 +62,10 @@ looks_like_ascii text =
     option_map_or begins_word (first_nonblank_byte text) false && list_any is_ascii_digit text
     && list_any is_slash text
 
--- whether a text looks like a NUNIQ list: it has digits and blanks only, and at least one digit
+-- whether a text looks like a NUNIQ list: it has digits and line feeds only, and at least one digit
 abbrev pub looks_like_uniq : List ℕ → Bool
 looks_like_uniq text =
-    list_any is_ascii_digit text && list_all (λ b. is_ascii_digit b || is_blank_byte b) text
+    list_any is_ascii_digit text && list_all (λ b. is_ascii_digit b || is_line_feed b) text
 
 -- the format that a text looks like, if it looks like one
 abbrev pub likely_format : List ℕ → Option Format
