@@ -224,9 +224,7 @@ pub fn hint_line(content: Content) -> &'static str
     ensures { result.now ≡ hint_text content }
 {
     match content {
-        Content::Coverage(Format::Ascii) => "this looks like ASCII\n",
-        Content::Coverage(Format::Json) => "this looks like JSON\n",
-        Content::Coverage(Format::Uniq) => "this looks like a NUNIQ list\n",
+        Content::Coverage(format) => format.hint_line(),
         Content::MarkedUtf8 => "this looks like UTF-8 with a byte order mark\n",
         Content::Utf16 => "this looks like UTF-16\n",
         Content::Gzip => "this looks like gzip\n",
