@@ -39,8 +39,8 @@ IsQuotedText bytes e found =
 abbrev pub is_not_digit : ℕ → Bool
 is_not_digit b = not (is_ascii_digit b)
 
--- the position of an error in the faulty part: that of its byte in a word, of the first byte in a line that is not a
--- digit, and the start of a name or an item of JSON
+-- The position of an error in the faulty part. In a word, it is that of the byte of the error. In a line, it is that of
+-- the first byte that is not a digit. In a name or an item of JSON, it is the start.
 abbrev pub quoted_at : List ℕ → FormatError → ℕ
 quoted_at bytes e =
     option_map_or (λ json. 0) (json_error e)
