@@ -19,8 +19,9 @@ use std::alloc::Global;
 /// fields, or a word and an operand S: a coverage in the ASCII format of MOC 2.0 (the empty text is the empty set),
 /// after `@` and an order if it is to be degraded first.
 ///
-/// The words of the commands are those of the variants of `moc_parts::Command`, in lower case. The page
-/// `docs/SCRIPTS.md` has a table of the commands and their answers.
+/// The words of the commands are the names of the variants of `moc_parts::Command`, in lower case. The text of a reply
+/// is the name of the variant of `moc_parts::Reply`, in lower case, and its value: `changed 4`, `claimed` or
+/// `near yes`.
 ///
 /// An invalid line changes nothing. Its answer is `fault NAME`, for the first invalid command from the left. Answers
 /// are written before each read that may wait.
