@@ -11,6 +11,7 @@ Each function takes at least half a minute of processor time. `--of-the-day` sel
 the year; CI uses this option. The last line printed is `N passed, M failed`."""
 from __future__ import annotations
 
+import glob
 import os
 import re
 import shutil
@@ -49,13 +50,24 @@ class Body(NamedTuple):
 OUT_OF_MEMORY = "Err(Memory)"
 OUT_OF_MEMORY_AT_LINE = "Err(RunError::Memory { line: 0 })"
 INPUT_OUT_OF_MEMORY = "Err(InputError::Memory)"
+# A function of `moc_text` that reads or writes a text: its name and the type of its error.
+TEXT_FUNCTION = re.compile(r"^pub fn ((?:read|write|push)_\w+)\b[^{]*? -> Result<.*, (\w+)>$", re.MULTILINE)
+
+
+def text_bodies() -> list[Body]:
+    """Returns a body for each function of `moc_text` that reads or writes a text."""
+    source = os.path.join(TOP, "crates", "moc_text", "src")
+    bodies = []
+    for path in sorted(glob.glob(os.path.join(source, "**", "*.rt"), recursive=True)):
+        with open(path, encoding="utf-8") as file:
+            for name, error in TEXT_FUNCTION.findall(file.read()):
+                value = f"Err({error}::Memory)" if error.endswith("Error") else f"Err({error})"
+                bodies.append(Body("moc_text", os.path.relpath(path, source).removesuffix(".rt"), name, value, "coverage_tests"))
+    return bodies
+
+
 BODIES = [
-    Body("moc_text", "ascii/reading", "read_ascii", "Err(TextError::Memory)", "coverage_tests"),
-    Body("moc_text", "json_format/reading", "read_json", "Err(JsonError::Memory)", "coverage_tests"),
-    Body("moc_text", "uniq", "read_uniq", "Err(UniqError::Memory)", "coverage_tests"),
-    Body("moc_text", "ascii/writing", "write_ascii", "Err(WriteError::Memory)", "coverage_tests"),
-    Body("moc_text", "json_format/writing", "write_json", "Err(WriteError::Memory)", "coverage_tests"),
-    Body("moc_text", "uniq", "write_uniq", "Err(OutOfMemory)", "coverage_tests"),
+    *text_bodies(),
     Body("moc_steps", "schedule", "replay", "Err(ReplayError { at: 0, why: StepError::Memory })", "map_tests"),
     Body("moc_steps", "world", "new", OUT_OF_MEMORY, "map_tests"),
     Body("moc_steps", "world", "step", "Err(StepError::Memory)", "map_tests"),
@@ -100,7 +112,6 @@ BODIES = [
     Body("moc_script", "crews", "crew", "Err(RunError::Memory { line: 0 })", "script_tests"),
     Body("moc_script", "crews", "crew", "Err(RunError::Spawn)", "script_tests"),
     Body("moc_lines", "answer", "answer_commands", OUT_OF_MEMORY, "script_tests"),
-    Body("moc_text", "ascii/writing", "push_ascii", "Err(OutOfMemory)", "coverage_tests"),
     Body("moc_ranges", "coverage/removing", "remove_range", OUT_OF_MEMORY, "coverage_tests"),
     Body("moc_ranges", "coverage/removing", "remove_all", OUT_OF_MEMORY, "coverage_tests"),
     Body("moc_ranges", "coverage/cells", "insert_cell", OUT_OF_MEMORY, "coverage_tests"),

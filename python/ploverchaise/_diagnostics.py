@@ -35,7 +35,7 @@ def likely_format(text: bytes) -> str | None:
     has_digit = re.search(rb"[0-9]", text) is not None
     if first and first in b"0123456789s," and has_digit and b"/" in text:
         return "ascii"
-    return "uniq" if has_digit and re.fullmatch(rb"[0-9 \t\r\n]*", text) else None
+    return "uniq" if has_digit and re.fullmatch(rb"[0-9\n]*", text) else None
 
 
 def likely_content(text: bytes, format: str) -> str | None:

@@ -96,7 +96,8 @@ class Commands(CommandCase):
                                  "standard input: words look like 3/, 10, 12-14 or 3/10\nstandard input: this looks like HTML or XML\n"))
         # A NUNIQ list is recognized by its content, and has one number on a line.
         self.assertEqual(self.run_command("check", "-", text="4\n12 13\n"), (1, "", (
-            "standard input: fault BadByte\nstandard input: line 2: `12 13`\nstandard input: each line is one number, of digits only\n")))
+            "standard input: fault NoOrder\nstandard input: byte 0, line 1, byte 0 of it: `4`\n"
+            "standard input: an order comes first, as in 3/\n")))
         self.assertEqual(self.run_command("check", "*.none"), (3, "", "*.none: fault Read\n*.none: no file matches\n"))
         # A pattern without a file does not stop the check of the other files.
         self.assertEqual(self.run_command("check", "*.none", "a.moc"), (3, "a.moc: ok\n", "*.none: fault Read\n*.none: no file matches\n"))

@@ -237,6 +237,9 @@ fn hints(rt: HostRuntime) {
         (Format::Ascii, "0/x", ""),
         (Format::Ascii, "9:1,5", ""),
         (Format::Json, ",4\n5", ""),
+        (Format::Ascii, "12 13", ""),
+        (Format::Ascii, "4\r\n5\r\n", ""),
+        (Format::Ascii, "\n\n", ""),
         (Format::Json, " \t\r\n", ""),
         (Format::Uniq, "", ""),
     ] {

@@ -30,8 +30,8 @@ max_node_blocks = 16
 abbrev pub AreBlocks : List (List (ℕ × ℕ)) → Type 0
 AreBlocks blocks = ObeysFillRule max_block_ranges blocks
 
--- a search increased the counter from `old` to `new`: by at most 8 more than the number of binary digits of the number
--- of blocks, for some blocks whose concatenated ranges are the normal range list of the set
+-- A search increased the counter from `old` to `new`, by at most 8 more than the number of binary digits of the number
+-- of blocks. The concatenated ranges of these blocks are the normal range list of the set.
 pub record IsSearchOf (a : NumberSet) (old new : ℕ) : Type 0 where
   pub blocks : List (List (ℕ × ℕ))
   pub sized : AreBlocks blocks

@@ -101,8 +101,8 @@ DrawsAll choice names source source' picture =
     IsAll input_limit (λ text.
     IsPictureOf choice names (before_first is_semicolon text) (second_text text) picture) source source'
 
--- the error is the first one of a text, with the number of the text if texts are counted, its position, a quote, the
--- order of the cells there, and what else the text looks like
+-- The error is the first one of a text, with its position and a quote. It also has the order of the cells there, what
+-- else the text looks like, and the number of the text if texts are counted.
 pub record ReportsError (format : Format) (text : List ℕ) (number : Option ℕ) (e : InputError) : Type 0 where
   pub error : FormatError
   pub is_first : IsFirstFormatError format text error

@@ -11,8 +11,8 @@ abbrev pub changed_set : Change → NumberSet → NumberSet
 changed_set (Degrade order) a = degrade a order
 changed_set Complement a = complement a
 
--- the MOC order that is stated after a change: for a degraded set the coarser of the text's MOC order and the order
--- that it is degraded to, for a complement the text's MOC order; none if the text states none
+-- The MOC order that is stated after a change. For a degraded set, it is the coarser of the text's MOC order and the
+-- order that the set is degraded to. For a complement, it is the text's MOC order. If the text states none, it is none.
 abbrev pub changed_order : Change → Option ℕ → Option ℕ
 changed_order (Degrade order) moc_order = option_map (λ k. min k order) moc_order
 changed_order Complement moc_order = moc_order

@@ -9,8 +9,8 @@ use Rattle.moc_forms.specs.declared.diagnostic.Diagnostic.{Diagnostic}
 use Rattle.moc_forms.specs.declared.format.Format.{Format}
 use Rattle.moc_forms.specs.declared.format.FormatError.{FormatError}
 
--- the diagnostic has an error of a text that was read in a format, its position, its quote, the order of the cells
--- there, and what else the text looks like
+-- The diagnostic has an error of a text that was read in a format, the position of the error, and its quote. It also
+-- has the order of the cells there, and what else the text looks like.
 pub record Diagnoses (format : Format) (text : List ℕ) (error : FormatError) (d : Diagnostic) : Type 0 where
   pub error_is : d.error ≡ error
   pub place_is : IsPlace text error d.place

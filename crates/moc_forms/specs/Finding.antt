@@ -1,11 +1,12 @@
 -- Detection of the format of a text by its first byte that is not a blank, and of what an invalid text looks like.
-use Rattle.std.specs.Prelude.{ℕ, Bool, true, false, ◌==◌, ◌&&◌, ◌||◌, not, if◌then◌else◌, List, [], ◌∷◌, codes}
+use Rattle.std.specs.Prelude.{ℕ, Bool, false, ◌==◌, ◌&&◌, ◌||◌, not, if◌then◌else◌, List, [], ◌∷◌, codes}
 use Rattle.std.specs.Prelude.{Option, None, Some, option_and_then, option_map}
 use Rattle.std.specs.Char.{is_ascii_digit}
 use Rattle.std.specs.List.{find, list_all, list_any, starts_with}
 use Rattle.std.specs.Option.{option_map_or, option_or}
 use Rattle.moc_sphere.specs.Names.{is_slash}
-use Rattle.moc_forms.specs.Formats.{format_name}
+use Rattle.moc_text.specs.Lines.{is_line_feed}
+use Rattle.moc_forms.specs.Formats.{format_hint, format_name, same_format}
 use Rattle.moc_forms.specs.declared.finding.Content.{Content}
 use Rattle.moc_forms.specs.declared.finding.Content.TheVariants.{Coverage, MarkedUtf8, Utf16, Gzip, Fits, Markup}
 use Rattle.moc_forms.specs.declared.finding.FormatChoice.{FormatChoice}
@@ -61,10 +62,10 @@ looks_like_ascii text =
     option_map_or begins_word (first_nonblank_byte text) false && list_any is_ascii_digit text
     && list_any is_slash text
 
--- whether a text looks like a NUNIQ list: it has digits and blanks only, and at least one digit
+-- whether a text looks like a NUNIQ list: it has digits and line feeds only, and at least one digit
 abbrev pub looks_like_uniq : List ℕ → Bool
 looks_like_uniq text =
-    list_any is_ascii_digit text && list_all (λ b. is_ascii_digit b || is_blank_byte b) text
+    list_any is_ascii_digit text && list_all (λ b. is_ascii_digit b || is_line_feed b) text
 
 -- the format that a text looks like, if it looks like one
 abbrev pub likely_format : List ℕ → Option Format
@@ -76,13 +77,6 @@ likely_format text =
 abbrev pub looks_like : List ℕ → Option Content
 looks_like text =
     option_or (content_by_first_bytes text) (option_map (λ format. Coverage format) (likely_format text))
-
--- whether two formats are the same
-abbrev pub same_format : Format → Format → Bool
-same_format Ascii Ascii = true
-same_format Json Json = true
-same_format Uniq Uniq = true
-same_format a b = false
 
 -- whether a content is a coverage in this format
 abbrev pub is_in_format : Format → Content → Bool
@@ -96,9 +90,7 @@ hint_of format text =
 
 -- the line that states what a text looks like
 abbrev pub hint_text : Content → List ℕ
-hint_text (Coverage Ascii) = codes "this looks like ASCII\n"
-hint_text (Coverage Json) = codes "this looks like JSON\n"
-hint_text (Coverage Uniq) = codes "this looks like a NUNIQ list\n"
+hint_text (Coverage format) = format_hint format
 hint_text MarkedUtf8 = codes "this looks like UTF-8 with a byte order mark\n"
 hint_text Utf16 = codes "this looks like UTF-16\n"
 hint_text Gzip = codes "this looks like gzip\n"

@@ -6,6 +6,7 @@ use Rattle.moc_text.specs.AsciiText.{ascii_text, IsTooCoarse}
 use Rattle.moc_text.specs.JsonFormat.{RepresentsJson, IsJsonError}
 use Rattle.moc_text.specs.JsonText.{json_text}
 use Rattle.moc_text.specs.Names.{name_of_json, name_of_text, name_of_uniq}
+use Rattle.moc_text.specs.Places.{error_byte, error_line}
 use Rattle.moc_text.specs.UniqList.{RepresentsUniq, uniq_error, uniq_text}
 use Rattle.moc_text.specs.declared.ascii.error.TextError.{TextError}
 use Rattle.moc_text.specs.declared.ascii.error.TextError.TheVariants as text
@@ -26,6 +27,19 @@ format_name Ascii = codes "ascii"
 format_name Json = codes "json"
 format_name Uniq = codes "uniq"
 
+-- whether two formats are the same
+abbrev pub same_format : Format → Format → Bool
+same_format Ascii Ascii = true
+same_format Json Json = true
+same_format Uniq Uniq = true
+same_format a b = false
+
+-- the line that states that a text looks like a format
+abbrev pub format_hint : Format → List ℕ
+format_hint Ascii = codes "this looks like ASCII\n"
+format_hint Json = codes "this looks like JSON\n"
+format_hint Uniq = codes "this looks like a NUNIQ list\n"
+
 -- the set and the MOC order of a text in a format; a NUNIQ list states no MOC order
 abbrev pub FormatRepresents : Format → List ℕ → NumberSet → Option ℕ → Type 0
 FormatRepresents Ascii text a moc_order = Represents text a moc_order
@@ -43,6 +57,21 @@ abbrev pub name_of_format_error : FormatError → List ℕ
 name_of_format_error (error.Ascii e) = name_of_text e
 name_of_format_error (error.Json e) = name_of_json e
 name_of_format_error (error.Uniq e) = name_of_uniq e
+
+-- the offset of the byte at an error, in a format whose errors are at bytes
+abbrev pub byte_of_error : FormatError → Option ℕ
+byte_of_error (error.Ascii e) = error_byte e
+byte_of_error e = None
+
+-- the line of an error, in a format whose errors are at lines
+abbrev pub line_of_error : FormatError → Option ℕ
+line_of_error (error.Uniq e) = error_line e
+line_of_error e = None
+
+-- the error of a JSON text
+abbrev pub json_error : FormatError → Option JsonError
+json_error (error.Json e) = Some e
+json_error e = None
 
 -- whether the error is an allocation failure
 abbrev pub is_memory : FormatError → Bool

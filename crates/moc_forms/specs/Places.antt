@@ -1,15 +1,14 @@
 -- Positions of errors in texts.
 use Rattle.std.specs.Prelude.{◌≡◌, ℕ, ◌+◌, List, [], ◌∷◌, ◌++◌, ◌⊎◌, length, take, Option, None, Some}
-use Rattle.std.specs.Prelude.{option_map, decimal, codes, count_by}
+use Rattle.std.specs.Prelude.{option_map, decimal, codes, count_by, MatchOption}
 use Rattle.std.specs.List.{after_last}
-use Rattle.std.specs.Option.{option_map_or}
+use Rattle.std.specs.Option.{option_map_or, option_or}
 use Rattle.moc_text.specs.JsonFormat.{NameIsOrder}
 use Rattle.moc_text.specs.Lines.{is_line_feed}
-use Rattle.moc_text.specs.Places.{error_byte, error_line}
 use Rattle.moc_text.specs.declared.json_format.error.JsonError.{JsonError}
 use Rattle.moc_text.specs.declared.json_format.error.JsonError.TheVariants as json
+use Rattle.moc_forms.specs.Formats.{byte_of_error, json_error, line_of_error}
 use Rattle.moc_forms.specs.declared.format.FormatError.{FormatError}
-use Rattle.moc_forms.specs.declared.format.FormatError.TheVariants as error
 use Rattle.moc_forms.specs.declared.place.Place.{Place}
 use Rattle.moc_forms.specs.declared.place.Place.TheVariants.{Byte, Line, JsonSyntax, Name, Order, Number}
 
@@ -34,11 +33,15 @@ IsJsonPlace bytes (json.NotWhole name number) found = IsOfOrder bytes name (λ k
 IsJsonPlace bytes (json.CellTooLarge name number) found = IsOfOrder bytes name (λ k. Number k number) found
 IsJsonPlace bytes json.Memory found = found ≡ None
 
+-- the position of an error of a text that is not JSON: its byte, or its line
+abbrev pub byte_or_line_place : List ℕ → FormatError → Option Place
+byte_or_line_place bytes e =
+    option_or (option_map (byte_place bytes) (byte_of_error e)) (option_map (λ line. Line line) (line_of_error e))
+
 -- the position of an error of a text in a format
 abbrev pub IsPlace : List ℕ → FormatError → Option Place → Type 0
-IsPlace bytes (error.Ascii e) found = found ≡ option_map (byte_place bytes) (error_byte e)
-IsPlace bytes (error.Json e) found = IsJsonPlace bytes e found
-IsPlace bytes (error.Uniq e) found = found ≡ option_map (λ line. Line line) (error_line e)
+IsPlace bytes e found =
+    MatchOption (json_error e) (found ≡ byte_or_line_place bytes e) (λ json. IsJsonPlace bytes json found)
 
 -- a position in words
 abbrev pub place_text : Place → List ℕ

@@ -4,13 +4,14 @@ use Rattle.std.specs.Prelude.{List, [], ◌∷◌, ◌++◌, length, slice_index
 use Rattle.std.specs.Prelude.{option_map}
 use Rattle.std.specs.Char.{is_ascii_digit}
 use Rattle.std.specs.List.{after_last, before_first, flat_map, position_or_len}
-use Rattle.std.specs.Option.{option_map_or}
+use Rattle.std.specs.Option.{option_map_or, option_or}
 use Rattle.moc_text.specs.Ascii.{is_separator}
 use Rattle.moc_text.specs.JsonFormat.{HasText}
 use Rattle.moc_text.specs.Lines.{lines_of}
-use Rattle.moc_text.specs.Places.{error_byte, error_line, json_error_at}
+use Rattle.moc_text.specs.Places.{json_error_at}
+use Rattle.moc_text.specs.declared.json_format.error.JsonError.{JsonError}
+use Rattle.moc_forms.specs.Formats.{byte_of_error, json_error, line_of_error}
 use Rattle.moc_forms.specs.declared.format.FormatError.{FormatError}
-use Rattle.moc_forms.specs.declared.format.FormatError.TheVariants as error
 
 -- the word around a position: from after the last separator before it up to the next one
 abbrev pub word_around : List ℕ → ℕ → List ℕ
@@ -20,25 +21,31 @@ word_around bytes at = after_last is_separator (take at bytes) ++ before_first i
 abbrev pub line_numbered : List ℕ → ℕ → List ℕ
 line_numbered bytes line = slice_index_or (lines_of bytes) (line - 1) []
 
--- the faulty part of a text: its word, its line, or the name or the item of JSON at the error
+-- the faulty part of a JSON text: the name or the item at the error
+abbrev pub IsJsonPart : List ℕ → JsonError → Option (List ℕ) → Type 0
+IsJsonPart bytes e found = MatchOption (json_error_at e) (found ≡ None) (λ at. HasText bytes at.0 at.1 found)
+
+-- the faulty part of a text that is not JSON: the word at the error, or the line
+abbrev pub word_or_line : List ℕ → FormatError → Option (List ℕ)
+word_or_line bytes e =
+    option_or (option_map (word_around bytes) (byte_of_error e)) (option_map (line_numbered bytes) (line_of_error e))
+
+-- the faulty part of a text in a format
 abbrev pub IsQuotedText : List ℕ → FormatError → Option (List ℕ) → Type 0
-IsQuotedText bytes (error.Ascii e) found = found ≡ option_map (word_around bytes) (error_byte e)
-IsQuotedText bytes (error.Json e) found =
-    MatchOption (json_error_at e) (found ≡ None) (λ at. HasText bytes at.0 at.1 found)
-IsQuotedText bytes (error.Uniq e) found = found ≡ option_map (line_numbered bytes) (error_line e)
+IsQuotedText bytes e found =
+    MatchOption (json_error e) (found ≡ word_or_line bytes e) (λ json. IsJsonPart bytes json found)
 
 -- not a digit
 abbrev pub is_not_digit : ℕ → Bool
 is_not_digit b = not (is_ascii_digit b)
 
--- the position of an error in the faulty part: that of its byte in a word, of the first byte in a line that is not a
--- digit, and the start of a name or an item of JSON
+-- The position of an error in the faulty part. In a word, it is that of the byte of the error. In a line, it is that of
+-- the first byte that is not a digit. In a name or an item of JSON, it is the start.
 abbrev pub quoted_at : List ℕ → FormatError → ℕ
-quoted_at bytes (error.Ascii e) =
-    option_map_or (λ at. length (after_last is_separator (take at bytes))) (error_byte e) 0
-quoted_at bytes (error.Json e) = 0
-quoted_at bytes (error.Uniq e) =
-    option_map_or (λ line. position_or_len is_not_digit (line_numbered bytes line)) (error_line e) 0
+quoted_at bytes e =
+    option_map_or (λ json. 0) (json_error e)
+    (option_map_or (λ at. length (after_last is_separator (take at bytes))) (byte_of_error e)
+    (option_map_or (λ line. position_or_len is_not_digit (line_numbered bytes line)) (line_of_error e) 0))
 
 -- the hexadecimal digit of a number below 16
 abbrev pub hex_digit : ℕ → ℕ

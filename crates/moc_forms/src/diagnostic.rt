@@ -1,11 +1,10 @@
 //! Diagnostics of invalid texts.
-ghost use Rattle.std.specs.Prelude.{◌≡◌, IfOk, IsErr, IsTrue, option_map};
+ghost use Rattle.std.specs.Prelude.{◌≡◌, IfOk, IsErr, IsTrue};
 ghost use Rattle.moc_text.specs.JsonFormat.{NameIsOrder};
-ghost use Rattle.moc_text.specs.Places.{error_byte, error_line};
 ghost use Rattle.moc_forms.specs.Formats.{is_memory};
 ghost use Rattle.moc_forms.specs.Diagnostics.{Diagnoses};
-ghost use Rattle.moc_forms.specs.Places.{IsJsonPlace, IsOfOrder, IsPlace, byte_place};
-ghost use Rattle.moc_forms.specs.declared.place.Place.TheVariants.{Line, Number};
+ghost use Rattle.moc_forms.specs.Places.{IsJsonPlace, IsOfOrder, IsPlace, byte_or_line_place};
+ghost use Rattle.moc_forms.specs.declared.place.Place.TheVariants.{Number};
 
 use crate::expectation::order_at_error;
 use crate::finding::{Content, hint};
@@ -14,13 +13,13 @@ use crate::place::Place;
 use crate::quoting::quote;
 use moc_ranges::Memory;
 use moc_sphere::Order;
-use moc_text::{JsonError, JsonPlace, TextError, UniqError, json_content_at, json_syntax_error};
+use moc_text::{JsonError, JsonPlace, json_content_at, json_syntax_error};
 use std::alloc::Global;
-use thiserror::Error;
+use std::fmt;
 
-/// An error of a text, with its position, a quote of the text there, and what the text looks like.
-#[derive(Debug, Drop, Error)]
-#[error("{error}")]
+/// The report about an error of a text: the error, its position, a quote of the text there, and what the text looks
+/// like.
+#[derive(Debug, Drop)]
 pub struct Diagnostic {
     /// The error.
     pub error: FormatError,
@@ -66,29 +65,31 @@ impl Diagnostic {
     }
 }
 
+/// Writes the error, without its position.
+impl fmt::Display for Diagnostic {
+    fn fmt<W: fmt::Write>(&self, f: &mut fmt::Formatter<W>) -> fmt::Result {
+        write!(f, "{}", self.error)
+    }
+}
+
 /// Returns the position of an error.
 fn place_of(alloc: Global, text: &[u8], error: FormatError) -> Result<Option<Place>, Memory>
     ensures { IfOk result (λ place. IsPlace text.now error place) }
 {
-    match error {
-        FormatError::Ascii(error) => Ok(place_in_ascii(text, error)),
-        FormatError::Json(error) => place_in_json(alloc, text, error),
-        FormatError::Uniq(error) => Ok(place_in_list(error)),
+    match error.json() {
+        Some(error) => place_in_json(alloc, text, error),
+        None => Ok(byte_or_line(text, error)),
     }
 }
 
-/// Returns the position of an error of an ASCII text.
-fn place_in_ascii(text: &[u8], error: TextError) -> Option<Place>
-    ensures { result ≡ option_map (byte_place text.now) (error_byte error) }
+/// Returns the position of an error of a text that is not JSON: its byte, or its line.
+fn byte_or_line(text: &[u8], error: FormatError) -> Option<Place>
+    ensures { result ≡ byte_or_line_place text.now error }
 {
-    Some(Place::of_byte(text, error.place()?))
-}
-
-/// Returns the position of an error of a NUNIQ list.
-fn place_in_list(error: UniqError) -> Option<Place>
-    ensures { result ≡ option_map (λ line. Line line) (error_line error) }
-{
-    Some(Place::Line(error.line()?))
+    match error.byte() {
+        Some(at) => Some(Place::of_byte(text, at)),
+        None => Some(Place::Line(error.line()?)),
+    }
 }
 
 /// Returns the position of an error of a JSON text. Parses the text again to find the order.

@@ -2,6 +2,7 @@
 ghost use Rattle.std.specs.Prelude.{◌≡◌, ◌||◌};
 ghost use Rattle.std.specs.Char.{is_ascii_digit};
 ghost use Rattle.std.specs.List.{list_all, list_any};
+ghost use Rattle.moc_text.specs.Lines.{is_line_feed};
 ghost use Rattle.moc_forms.specs.Combining.{are_blanks};
 ghost use Rattle.moc_forms.specs.Finding.{content_by_first_bytes, first_nonblank_byte as first_nonblank_byte_of};
 ghost use Rattle.moc_forms.specs.Finding.{format_for, hint_of, hint_text, is_blank_byte as is_blank_byte_of};
@@ -124,7 +125,7 @@ pub enum Content {
 /// Returns what a text looks like if this is not the given format. UTF-8 and UTF-16 with a byte order mark, gzip, FITS,
 /// and HTML or XML have their first bytes. A text looks like JSON if its first byte that is not a blank is `{`. It
 /// looks like ASCII if this byte is a digit, `s` or a comma, and the text has a digit and a slash. It looks like a
-/// NUNIQ list if it has digits and blanks only, and at least one digit.
+/// NUNIQ list if it has digits and line feeds only, and at least one digit.
 ///
 /// Linear in the length of the text; allocates nothing.
 pub fn hint(format: Format, text: &[u8]) -> Option<Content>
@@ -191,7 +192,7 @@ fn is_like_ascii(text: &[u8]) -> bool
 fn is_like_uniq(text: &[u8]) -> bool
     ensures { result ≡ looks_like_uniq text.now }
 {
-    has_digit(text) && is_digits_and_blanks(text)
+    has_digit(text) && is_digits_and_line_feeds(text)
 }
 
 /// Returns whether a text has a digit.
@@ -206,12 +207,12 @@ fn has_digit(text: &[u8]) -> bool
     false
 }
 
-/// Returns whether each byte of a text is a digit or a blank.
-fn is_digits_and_blanks(text: &[u8]) -> bool
-    ensures { result ≡ list_all (λ b. is_ascii_digit b || is_blank_byte_of b) text.now }
+/// Returns whether each byte of a text is a digit or a line feed.
+fn is_digits_and_line_feeds(text: &[u8]) -> bool
+    ensures { result ≡ list_all (λ b. is_ascii_digit b || is_line_feed b) text.now }
 {
     for byte in text {
-        if !byte.is_ascii_digit() && !is_blank_byte(*byte) {
+        if !byte.is_ascii_digit() && *byte != b'\n' {
             return false;
         }
     }
@@ -223,9 +224,7 @@ pub fn hint_line(content: Content) -> &'static str
     ensures { result.now ≡ hint_text content }
 {
     match content {
-        Content::Coverage(Format::Ascii) => "this looks like ASCII\n",
-        Content::Coverage(Format::Json) => "this looks like JSON\n",
-        Content::Coverage(Format::Uniq) => "this looks like a NUNIQ list\n",
+        Content::Coverage(format) => format.hint_line(),
         Content::MarkedUtf8 => "this looks like UTF-8 with a byte order mark\n",
         Content::Utf16 => "this looks like UTF-16\n",
         Content::Gzip => "this looks like gzip\n",

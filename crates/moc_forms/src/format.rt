@@ -1,8 +1,8 @@
 //! The text formats of a coverage as one type.
 ghost use Rattle.std.specs.Prelude.{◌≡◌, IfErr, IfOk};
 ghost use Rattle.std.specs.String.{string_bytes};
-ghost use Rattle.moc_forms.specs.Formats.{FormatFails, FormatRepresents};
-ghost use Rattle.moc_forms.specs.Formats.{IsWriteError, format_text, is_memory, name_of_format_error};
+ghost use Rattle.moc_forms.specs.Formats.{FormatFails, FormatRepresents, IsWriteError, byte_of_error, format_hint};
+ghost use Rattle.moc_forms.specs.Formats.{format_text, is_memory, json_error, line_of_error, name_of_format_error};
 
 use moc_ranges::Coverage;
 use moc_sphere::{InvalidName, Order};
@@ -49,6 +49,38 @@ impl FormatError {
             FormatError::Ascii(error) => error.name(),
             FormatError::Json(error) => error.name(),
             FormatError::Uniq(error) => error.name(),
+        }
+    }
+
+    /// Returns the offset of the byte at the error. Returns `None` if the errors of the format are not at bytes, or if
+    /// the error has no position.
+    pub(crate) fn byte(self) -> Option<usize>
+        ensures { result ≡ byte_of_error self }
+    {
+        match self {
+            FormatError::Ascii(error) => error.place(),
+            _ => None,
+        }
+    }
+
+    /// Returns the line of the error, counted from 1. Returns `None` if the errors of the format are not at lines, or
+    /// if the error has no position.
+    pub(crate) fn line(self) -> Option<usize>
+        ensures { result ≡ line_of_error self }
+    {
+        match self {
+            FormatError::Uniq(error) => error.line(),
+            _ => None,
+        }
+    }
+
+    /// Returns the error of a JSON text, or `None` if the text has another format.
+    pub(crate) fn json(self) -> Option<JsonError>
+        ensures { result ≡ json_error self }
+    {
+        match self {
+            FormatError::Json(error) => Some(error),
+            _ => None,
         }
     }
 
@@ -104,6 +136,17 @@ impl fmt::Display for Format {
 }
 
 impl Format {
+    /// Returns the line that states that a text looks like this format.
+    pub(crate) fn hint_line(self) -> &'static str
+        ensures { result.now ≡ format_hint self }
+    {
+        match self {
+            Format::Ascii => "this looks like ASCII\n",
+            Format::Json => "this looks like JSON\n",
+            Format::Uniq => "this looks like a NUNIQ list\n",
+        }
+    }
+
     /// Parses a text: returns the set and the MOC order that the text states. A NUNIQ list states none.
     ///
     /// # Errors

@@ -5,7 +5,7 @@ ghost use Rattle.std.specs.List.{after_last, before_first, position_or_len};
 ghost use Rattle.std.specs.String.{string_bytes};
 ghost use Rattle.moc_text.specs.Ascii.{is_separator as is_separator_byte};
 ghost use Rattle.moc_text.specs.Lines.{is_line_feed, lines_of};
-ghost use Rattle.moc_forms.specs.Quotes.{IsQuote, IsQuotedText, byte_quoted, bytes_quoted, hex_digit, is_not_digit};
+ghost use Rattle.moc_forms.specs.Quotes.{IsJsonPart, IsQuote, byte_quoted, bytes_quoted, hex_digit, is_not_digit};
 ghost use Rattle.moc_forms.specs.Quotes.{is_plain as is_plain_byte, line_numbered, max_quote_bytes, omission};
 ghost use Rattle.moc_forms.specs.Quotes.{quote_start as quote_start_of, quote_text, quoted_at, word_around};
 
@@ -31,26 +31,21 @@ const MAX_QUOTE_BYTES: usize = 40;
 pub fn quote(alloc: Global, text: &[u8], error: FormatError) -> Result<Option<String>, Memory>
     ensures { IfOk result (λ quote. IsQuote text.now error (option_map string_bytes quote)) }
 {
-    match error {
-        FormatError::Ascii(error) => {
-            let Some(at) = error.place() else {
-                return Ok(None);
-            };
-            let word = word_around_place(text, at);
-            Ok(Some(quote_of(alloc, word, offset_in_word(text, at))?))
-        }
-        FormatError::Uniq(error) => {
-            let Some(line) = error.line() else {
-                return Ok(None);
-            };
-            let line = line_at(text, line);
-            Ok(Some(quote_of(alloc, line, leading_digit_count(line))?))
-        }
-        FormatError::Json(error) => match json_piece(alloc, text, error)? {
+    if let Some(error) = error.json() {
+        return match json_piece(alloc, text, error)? {
             Some(piece) => Ok(Some(quote_of(alloc, piece.as_bytes(), 0)?)),
             None => Ok(None),
-        },
+        };
     }
+    if let Some(at) = error.byte() {
+        let word = word_around_place(text, at);
+        return Ok(Some(quote_of(alloc, word, offset_in_word(text, at))?));
+    }
+    let Some(number) = error.line() else {
+        return Ok(None);
+    };
+    let line = line_at(text, number);
+    Ok(Some(quote_of(alloc, line, leading_digit_count(line))?))
 }
 
 /// Returns the quote of a part of a text around a position.
@@ -238,7 +233,7 @@ fn line_before_feed(bytes: &[u8]) -> &[u8]
 
 /// Returns the name or the item at the error of a JSON text.
 fn json_piece(alloc: Global, text: &[u8], error: JsonError) -> Result<Option<String>, Memory>
-    ensures { IfOk result (λ piece. IsQuotedText text.now (FormatError.Json error) (option_map string_bytes piece)) }
+    ensures { IfOk result (λ piece. IsJsonPart text.now error (option_map string_bytes piece)) }
 {
     let Some(place) = error.place() else {
         return Ok(None);

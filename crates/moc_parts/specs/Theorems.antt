@@ -28,8 +28,8 @@ DegradedOperandsMeetTheSameParts =
 abbrev pub QueriesLeaveTheSet : Type 0
 QueriesLeaveTheSet = (cs : List Command) → list_any is_update cs ≡ false → (a : NumberSet) → set_after_all a cs ≡ a
 
--- Twelve sets, each within its own base pixel, are the parts of their union. The union is within the sky, and a pixel
--- is in the union if and only if it is in the set of its base pixel.
+-- Twelve sets, each within its own base pixel, are the parts of their union. The union is within the sky. A pixel is in
+-- the union if and only if it is in the set of its base pixel.
 pub record SetsAreUnitedByParts : Type 0 where
   pub parts : (sets : List NumberSet) → AreWithinParts sets → sets ≡ parts_below (union_of sets) part_count
   pub within : (sets : List NumberSet) → AreWithinParts sets → IsWithin (union_of sets) pixels

@@ -23,8 +23,8 @@ pub fn queries_leave_the_set()
     ensures { QueriesLeaveTheSet }
 {}
 
-/// Twelve sets, each within its own base pixel, are the parts of their union. The union is within the sky, and a pixel
-/// is in the union if and only if it is in the set of its base pixel.
+/// Twelve sets, each within its own base pixel, are the parts of their union. The union is within the sky. A pixel is
+/// in the union if and only if it is in the set of its base pixel.
 pub fn sets_are_united_by_parts()
     ensures { SetsAreUnitedByParts }
 {}

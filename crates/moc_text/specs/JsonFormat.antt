@@ -112,8 +112,8 @@ abbrev pub IsTextAt : Option ℕ → Option (List ℕ × Data) → Option (List 
 IsTextAt None found text = text ≡ option_map (λ (m : List ℕ × Data). m.0) found
 IsTextAt (Some place) found text = IsTextOf (option_and_then (λ (m : List ℕ × Data). at place m.1) found) text
 
--- In the text, the name with this number, counted from 0 in byte order, or the item at this index of its array, counted
--- from 0, has this text, if it exists.
+-- The name with this number in a text, or the item at this index of its array, has this text, if it exists. Names are
+-- counted from 0 in byte order, and items from 0.
 abbrev pub HasText : List ℕ → ℕ → Option ℕ → Option (List ℕ) → Type 0
 HasText bytes number place text = (d : Data) × IsJson bytes d × IsTextAt place (object_member number d) text
 

@@ -34,8 +34,9 @@ out_of_memory = 4
 abbrev pub HasNoOutput : ℕ → List ℕ → List ℕ → JobResult → Type 0
 HasNoOutput status old new result = (new ≡ old) × (result ≡ job_result status 0)
 
--- An output is at the front of the buffer, the rest of the buffer is unchanged, and the result has this status and the
--- length of the output; or the buffer is too short and unchanged, and the result has the length that the output needs.
+-- An output is at the front of the buffer, and the rest of the buffer is unchanged. The result has this status and the
+-- length of the output. Otherwise the buffer is too short and unchanged, and the result has the length that the output
+-- needs.
 abbrev pub Fills : ℕ → List ℕ → List ℕ → List ℕ → JobResult → Type 0
 Fills status output old new result =
     ((take (length output) new ≡ output) × (drop (length output) new ≡ drop (length output) old)

@@ -26,8 +26,8 @@ pub record IsSkipping {T : Type 0} (ranges : T → List (ℕ × ℕ)) (runs : Li
   pub near : place ≤ low + size
   pub past : EndsAfterAt ranges runs limit place
 
--- the invariant of a count: the first `place` runs end at or before the limit, and if they are fewer than the runs that
--- were read from `low` on, the next run ends after it
+-- The invariant of a count: the first `place` runs end at or before the limit. If they are fewer than the runs that
+-- were read from `low` on, the next run ends after the limit.
 pub record IsCounting {T : Type 0} (ranges : T → List (ℕ × ℕ)) (runs : List T) (limit low read place : ℕ) : Type 0 where
   pub least : low ≤ place
   pub most : place ≤ low + read

@@ -10,8 +10,8 @@ use Rattle.moc_lines.specs.declared.line_reader.LineKind.TheVariants.{Line, Last
 use Rattle.moc_lines.specs.declared.run_error.RunError.{RunError}
 use Rattle.moc_lines.specs.declared.run_error.RunError.TheVariants.{Read, LineTooLong, Memory}
 
--- the bytes that were in the buffer or read in this call, `bytes`, are the line, its end and the rest of the buffer, or
--- explain the error
+-- The bytes that were in the buffer or read in this call are `bytes`. They are the line, its end and the rest of the
+-- buffer, or they explain the error.
 abbrev pub SplitsLine : ℕ → List ℕ → ReaderState → SourceState → Result LineKind RunError → Type 0
 SplitsLine limit bytes held source (Ok Line) =
     (bytes ≡ held.line ++ 10 ∷ held.unread) × HasNoLineFeed held.line × (length held.line ≤ limit)
@@ -34,8 +34,8 @@ ReadsLine limit old source new source' result =
 abbrev pub has_line : List ℕ → Bool
 has_line unread = nat_lt (position_or_len is_line_feed unread) (length unread)
 
--- a reader permits a read in each state up to which no line feed came after the unread bytes, which have none, and no
--- further call failed
+-- A reader permits a read in each state up to which no further call failed and no line feed came after the unread
+-- bytes. The unread bytes have no line feed.
 abbrev pub PermitsReadsWithinLine : {R : Type 0} → (R → SourceState) → (R → Bool) → (R → Type 0) → List ℕ → R → Type 0
 PermitsReadsWithinLine reading mark may_read unread reader =
     (reader' : _) (came : List ℕ) → Delivers (reading reader) (reading reader') came → mark reader' ≡ mark reader

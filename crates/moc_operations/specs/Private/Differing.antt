@@ -9,8 +9,8 @@ use Rattle.moc_blocks.specs.Private.Built.{EndsBelow}
 abbrev pub exactly_one : Bool → Bool → Bool
 exactly_one a b = (a && not b) || (b && not a)
 
--- a range x, which ends before y does, was removed from both: the numbers that are in exactly one of them were
--- appended, and z is the rest of y, or x and y merged if they touch
+-- A range x, which ends before y does, was removed from both. The numbers that are in exactly one of them were
+-- appended. Then z is the rest of y, or x and y merged if they touch.
 pub record IsRemovedFromBoth (x y z : ℕ × ℕ) (kept kept' : List (ℕ × ℕ)) : Type 0 where
   pub normal : IsNormal kept'
   pub end : z.1 ≡ y.1

@@ -26,8 +26,8 @@ abbrev pub open_of : Option ℕ → List ℕ
 open_of None = []
 open_of (Some bound) = bound ∷ []
 
--- the invariant of bounds: at each number, an odd count of the bounds in the result and the remaining bounds of both
--- lists means that exactly one of the two whole lists contains the number
+-- The invariant of bounds. At each number, count the bounds in the result and the remaining bounds of both lists. If
+-- the count is odd, exactly one of the two whole lists contains the number; if it is even, both or none.
 pub record AreBounds (kept xs ys : List ℕ) (whole_xs whole_ys : List (ℕ × ℕ)) : Type 0 where
   pub first : AreAscendingBounds 0 (kept ++ xs)
   pub second : AreAscendingBounds 0 (kept ++ ys)

@@ -30,8 +30,8 @@ pub record AddsPart (from to : ℕ) (before after : List (ℕ × ℕ)) : Type 0 
   pub below : (f : ℕ) → from ≤ f → to < f → EndsBelow f after
   pub same : (q : ℕ) → in_ranges after q ≡ (in_ranges before q || in_range (from, to) q)
 
--- ranges that end no later than a range were removed from a list, and the numbers that they have in common with it were
--- appended to others
+-- Ranges that end no later than a range were removed from a list. The numbers that they have in common with it were
+-- appended to others.
 pub record MovesCommon (xs xs' : List (ℕ × ℕ)) (range : ℕ × ℕ) (before after : List (ℕ × ℕ)) : Type 0 where
   pub removed : List (ℕ × ℕ)
   pub parts : xs ≡ removed ++ xs'

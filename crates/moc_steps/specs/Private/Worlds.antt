@@ -31,8 +31,8 @@ abbrev pub HasEntryIndex : List ℕ → Running (List Command) → Option ℕ �
 HasEntryIndex ns r entry_index =
     (is_nonempty r.edited ≡ is_some entry_index) × IfSome entry_index (λ i. slice_get ns i ≡ Some r.number)
 
--- The invariant of a world: permitted steps lead to it, the holder of each part is known, the numbers of clients are
--- below 2^32, and the indices of their entries are known.
+-- The invariant of a world: permitted steps lead to it, and the holder of each part is known. The numbers of clients
+-- are below 2^32, and the indices of their entries are known.
 pub record IsWorld (begun : ℕ) (clients : map.FinMap nat_cmp ClientState) (parts : List NumberSet)
     (holders : List (Option ℕ)) (order : List Entry) : Type 0 where
   pub reached : IsReachable batches (world_of begun clients parts order)
