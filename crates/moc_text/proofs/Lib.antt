@@ -5,6 +5,7 @@ pub mod Powers
 pub mod Held
 pub mod Scanning
 pub mod ReadWords
+pub mod AsciiPieces
 pub mod SingleCell
 pub mod UniqueReading
 pub mod Represented

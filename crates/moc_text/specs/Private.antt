@@ -2,6 +2,7 @@
 pub mod Scan
 pub mod Scanned
 pub mod AsciiReading
+pub mod AsciiPieces
 pub mod AsciiWriting
 pub mod UniqReading
 pub mod JsonReading

@@ -9,7 +9,7 @@ mod uniq;
 mod write_error;
 
 pub use ascii::{
-    TextError, is_separator, push_ascii, read_ascii, readings_are_unique, write_ascii,
+    AsciiParser, TextError, is_separator, push_ascii, read_ascii, readings_are_unique, write_ascii,
 };
 pub use depth::deeper;
 pub use json_format::{
