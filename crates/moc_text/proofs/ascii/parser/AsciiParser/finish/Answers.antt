@@ -1,9 +1,7 @@
-use Rattle.std.proofs.Common.{◌≡◌, ◌<◌, ◌+◌, ◌^◌, ◌++◌, ℕ, List, [], length, length-append, arith, sym, ap, subst, ◌∙◌, inl, inr, ◌⊎◌}
+use Rattle.std.proofs.Common.{◌≡◌, ◌<◌, ◌+◌, ◌^◌, ℕ, List, length, length-append, arith, sym, ap, subst}
 use Rattle.std.proofs.lemmas.Result.{err_from_is_err_and}
-use Rattle.moc_text.specs.Ascii.{IsFirstError, Represents}
 use Rattle.moc_text.specs.Pieces.{HasParsed}
 use Rattle.moc_text.specs.Private.AsciiReading.{Progress}
-use Rattle.moc_text.specs.declared.ascii.error.TextError.TheVariants.{Memory}
 use Rattle.moc_text.proofs.ReadWords.{represents_at_end}
 use Rattle.moc_text.proofs.Represented.{reading_is, error_is_reading}
 use Rattle.moc_text.proofs.AsciiPieces.{progress_last}
