@@ -12,6 +12,7 @@ pub mod Represented
 pub mod Join
 pub mod Written
 pub mod UniqLines
+pub mod UniqPieces
 pub mod Deepest
 pub mod JsonOrders
 pub mod JsonMembers

@@ -5,5 +5,6 @@ pub mod AsciiReading
 pub mod AsciiPieces
 pub mod AsciiWriting
 pub mod UniqReading
+pub mod UniqPieces
 pub mod JsonReading
 pub mod JsonWriting

@@ -15,5 +15,5 @@ pub use depth::deeper;
 pub use json_format::{
     JsonContent, JsonError, JsonPlace, json_content_at, json_syntax_error, read_json, write_json,
 };
-pub use uniq::{UniqError, read_uniq, write_uniq};
+pub use uniq::{UniqError, UniqParser, read_uniq, write_uniq};
 pub use write_error::WriteError;
