@@ -1,7 +1,7 @@
 use super::every_second;
 use moc_ranges::Coverage;
 use moc_sphere::Order;
-use moc_text::{AsciiParser, TextError, read_ascii};
+use moc_text::{AsciiParser, TextError, UniqError, UniqParser, read_ascii, read_uniq};
 use std::alloc::Global;
 use std::process::Abort;
 
@@ -119,5 +119,100 @@ fn a_long_ascii_text_in_pieces(rt: HostRuntime) {
         assert_eq!(rt; (set.count(), order), (3000, Order::new(29)));
         assert!(rt; set.contains(0) && set.contains(3000) && set.contains(5998));
         assert!(rt; !set.contains(2999) && !set.contains(5999));
+    }
+}
+
+/// Parses a NUNIQ list in pieces of a length.
+fn uniq_in_pieces(alloc: Global, text: &[u8], len: usize) -> Result<Coverage, UniqError> {
+    let mut parser = UniqParser::new(alloc);
+    for piece in text.chunks(len) {
+        parser.push(piece)?;
+    }
+    parser.finish()
+}
+
+/// Parses a NUNIQ list in two pieces, the first of which has a length.
+fn uniq_in_two(alloc: Global, text: &[u8], len: usize) -> Result<Coverage, UniqError> {
+    let (front, back) = text.split_at(len);
+    let mut parser = UniqParser::new(alloc);
+    parser.push(front)?;
+    parser.push(back)?;
+    parser.finish()
+}
+
+/// Checks that two results are equal, as sets or as errors.
+fn are_equal_sets(
+    rt: &impl Abort,
+    text: &str,
+    one: &Result<Coverage, UniqError>,
+    other: &Result<Coverage, UniqError>,
+) {
+    match (one, other) {
+        (Ok(set), Ok(other_set)) => assert!(rt; set.same(other_set), "{text}"),
+        (Err(error), Err(other_error)) => assert_eq!(rt; error, other_error, "{text}"),
+        _ => assert!(rt; false, "{text}"),
+    }
+}
+
+/// Checks that every cut of a list, and pieces of each length, are parsed as the whole list.
+fn is_list_read_in_pieces(rt: &impl Abort, alloc: Global, text: &str) {
+    let bytes = text.as_bytes();
+    let whole = read_uniq(alloc, bytes);
+    for len in 0..bytes.len() + 1 {
+        are_equal_sets(rt, text, &uniq_in_two(alloc, bytes, len), &whole);
+        are_equal_sets(rt, text, &uniq_in_pieces(alloc, bytes, len + 1), &whole);
+    }
+}
+
+#[test]
+fn lists_in_pieces(rt: HostRuntime) {
+    for text in [
+        "",
+        "\n",
+        "16\n17\n\n18\n19",
+        "16\n17\n\n18\n19\n\n",
+        "4611686018427387903\n0000000000000000000000000004\n4",
+    ] {
+        is_list_read_in_pieces(&rt, rt.alloc(), text);
+    }
+}
+
+// Both errors, on the first line, on a later one, and on the last one, which no line feed follows.
+#[test]
+fn errors_of_lists_in_pieces(rt: HostRuntime) {
+    for text in [
+        "x",
+        "x\n4\n3",
+        "16\r\n",
+        "4\nx",
+        "\n3\nx",
+        "4\n\n5 \n6",
+        "4611686018427387904",
+        "16\n17\n4611686018427387904\n18\n",
+    ] {
+        is_list_read_in_pieces(&rt, rt.alloc(), text);
+    }
+}
+
+// After an error, each call fails with this error, also if the next piece is valid.
+#[test]
+fn an_error_of_a_list_lasts(rt: HostRuntime) {
+    let mut parser = UniqParser::new(rt.alloc());
+    assert_eq!(rt; parser.push(b"4\n3"), Ok(()));
+    assert_eq!(rt; parser.push(b"\n16\n"), Err(UniqError::NotUniq { line: 2 }));
+    assert_eq!(rt; parser.push(b"17\n"), Err(UniqError::NotUniq { line: 2 }));
+    let end = parser.finish();
+    assert!(rt; matches!(end, Err(UniqError::NotUniq { line: 2 })));
+}
+
+// 4^30 is the NUNIQ number of the first cell of order 29.
+#[test]
+fn a_long_list_in_pieces(rt: HostRuntime) {
+    let alloc = rt.alloc();
+    let text = every_second(&rt, alloc, "", 1152921504606846976, "\n", "");
+    for len in [1, 2, 7, 4096] {
+        let set = uniq_in_pieces(alloc, text.as_bytes(), len).expect(&rt, "a set");
+        assert_eq!(rt; set.count(), 1500);
+        assert!(rt; set.contains(0) && set.contains(2998) && !set.contains(1));
     }
 }
