@@ -2,6 +2,7 @@
 
 mod ascii;
 mod json;
+mod pieces;
 mod uniq;
 
 use moc_ranges::Coverage;

@@ -23,7 +23,7 @@ use Rattle.moc_text.specs.Private.Scan.{leading_digits, after_digits, saturated_
 use Rattle.moc_text.specs.Lines.{lines_of}
 use Rattle.moc_ranges.specs.Errors.{first_error_of}
 use Rattle.moc_text.specs.UniqList.{uniq_line_error, uniq_error, numbers_on, RepresentsUniq, uniq_text}
-use Rattle.moc_text.specs.Private.UniqReading.{after_line_feed, IsPart, IsLineRead, LinesSoFar}
+use Rattle.moc_text.specs.Private.UniqReading.{after_line_feed, IsPart, AreLinesRead, IsLineRead}
 use Rattle.moc_text.specs.declared.uniq.UniqError.{UniqError}
 use Rattle.moc_text.specs.declared.uniq.UniqError.TheVariants.{BadByte, NotUniq}
 use Rattle.moc_text.proofs.Automaton.{both_true}
@@ -207,8 +207,12 @@ line_empty n bytes rest old some e same =
     let lines : lines_of bytes ≡ [] ∷ lines_of rest = front_lines bytes rest some e ∙ ap (λ (l : List ℕ). l ∷ lines_of rest) none in
     record {
       shorter = shorter bytes rest some e;
-      part = record { cells = []; are_cells = tt; numbers = ap numbers_on lines; set_is = sym (union-empty old) };
-      fault = ap (first_error_of uniq_line_error n) lines;
+      read = record {
+        part = record { cells = []; are_cells = tt; numbers = ap numbers_on lines; set_is = sym (union-empty old) };
+        fault = ap (first_error_of uniq_line_error n) lines;
+        number = omega (arith, ap length lines);
+        within = omega (arith, shorter bytes rest some e);
+      };
     }
 
 some_digits : (bytes : List ℕ) → (length (after_digits bytes) ≡ length bytes → ⊥) → 0 < length (leading_digits bytes)
@@ -232,13 +236,17 @@ line_cell n bytes rest old new c some e digits is number added =
     let lines = front_lines bytes rest some e in
     record {
       shorter = shorter bytes rest some e;
-      part = record {
-        cells = c ∷ [];
-        are_cells = (is, tt);
-        numbers = ap numbers_on lines ∙ numbers_cons ds (lines_of rest) h.0 ∙ ap (λ v. v ∷ numbers_on (lines_of rest)) value;
-        set_is = added ∙ ap (set.union old) (sym (union-empty (span c.order c.index)));
+      read = record {
+        part = record {
+          cells = c ∷ [];
+          are_cells = (is, tt);
+          numbers = ap numbers_on lines ∙ numbers_cons ds (lines_of rest) h.0 ∙ ap (λ v. v ∷ numbers_on (lines_of rest)) value;
+          set_is = added ∙ ap (set.union old) (sym (union-empty (span c.order c.index)));
+        };
+        fault = ap (first_error_of uniq_line_error n) lines ∙ ap (λ x. option_or x (first_error_of uniq_line_error (n + 1) (lines_of rest))) (uniq_line_without_error n ds h (omega (arith, value, range.0)) (omega (arith, value, range.1)));
+        number = omega (arith, ap length lines);
+        within = omega (arith, shorter bytes rest some e);
       };
-      fault = ap (first_error_of uniq_line_error n) lines ∙ ap (λ x. option_or x (first_error_of uniq_line_error (n + 1) (lines_of rest))) (uniq_line_without_error n ds h (omega (arith, value, range.0)) (omega (arith, value, range.1)));
     }
 
 wrong_number : (v top : ℕ) → 2 ^ 62 ≤ top → ((4 ≤ min v top) × (min v top < 2 ^ 62) → ⊥) → is_uniq v ≡ false
@@ -267,34 +275,34 @@ append_all : {X : Type 0} (P : X → Type 0) (xs ys : List X) → AllByRecursion
 append_all P [] ys h k = k
 append_all P (x ∷ xs) ys h k = (h.0, append_all P xs ys h.1 k)
 
-pub part_none : (text : List ℕ) → IsPart text set.empty text set.empty
+part_none : (bytes : List ℕ) (old : NumberSet) → IsPart bytes old bytes old
 unfolding pixels_of
-part_none text = record { cells = []; are_cells = tt; numbers = refl; set_is = sym (union-empty set.empty) }
+part_none bytes old = record { cells = []; are_cells = tt; numbers = refl; set_is = sym (union-empty old) }
 
-pub part_more : (text bytes rest : List ℕ) (old new : NumberSet) → IsPart text set.empty bytes old → IsPart bytes old rest new → IsPart text set.empty rest new
-part_more text bytes rest old new p q = record {
+part_more : (text bytes rest : List ℕ) (start old new : NumberSet) → IsPart text start bytes old → IsPart bytes old rest new → IsPart text start rest new
+part_more text bytes rest start old new p q = record {
   cells = p.cells ++ q.cells;
   are_cells = append_all IsCell p.cells q.cells p.are_cells q.are_cells;
   numbers = p.numbers ∙ ap (λ (r : List ℕ). map uniq_of p.cells ++ r) q.numbers ∙ sym (append_assoc (map uniq_of p.cells) (map uniq_of q.cells) (numbers_on (lines_of rest))) ∙ ap (λ (r : List ℕ). r ++ numbers_on (lines_of rest)) (sym (map-append uniq_of p.cells q.cells));
-  set_is = q.set_is ∙ ap (λ (r : NumberSet). set.union r (pixels_of q.cells)) p.set_is ∙ union-assoc set.empty (pixels_of p.cells) (pixels_of q.cells) ∙ ap (set.union set.empty) (sym (pixels_of-append p.cells q.cells));
+  set_is = q.set_is ∙ ap (λ (r : NumberSet). set.union r (pixels_of q.cells)) p.set_is ∙ union-assoc start (pixels_of p.cells) (pixels_of q.cells) ∙ ap (set.union start) (sym (pixels_of-append p.cells q.cells));
 }
 
-pub lines_so_far_start : (text : List ℕ) → LinesSoFar text text 1 set.empty
-unfolding uniq_error
-lines_so_far_start text = record { part = part_none text; fault = refl; within = omega arith }
+pub lines_start : (first : ℕ) (bytes : List ℕ) (old : NumberSet) → AreLinesRead first bytes old first bytes old
+lines_start first bytes old = record { part = part_none bytes old; fault = refl; number = refl; within = omega arith }
 
-pub lines_so_far_next : (text bytes rest : List ℕ) (line : ℕ) (old new : NumberSet) → LinesSoFar text bytes line old → IsLineRead line bytes old rest new → LinesSoFar text rest (line + 1) new
-lines_so_far_next text bytes rest line old new p q = record {
-  part = part_more text bytes rest old new p.part q.part;
+pub lines_more : (first line next : ℕ) (text bytes rest : List ℕ) (start old new : NumberSet) → AreLinesRead first text start line bytes old → AreLinesRead line bytes old next rest new → AreLinesRead first text start next rest new
+lines_more first line next text bytes rest start old new p q = record {
+  part = part_more text bytes rest start old new p.part q.part;
   fault = p.fault ∙ q.fault;
-  within = omega (arith, p.within, q.shorter);
+  number = p.number ∙ q.number;
+  within = omega (arith, p.within, q.within);
 }
 
 -- ---- the text
 
-pub lines_represent_uniq : (text rest : List ℕ) (line : ℕ) (a : NumberSet) → length rest ≡ 0 → LinesSoFar text rest line a → RepresentsUniq text a
-lines_represent_uniq text (b ∷ rest) line a none r = absurd (omega arith)
-lines_represent_uniq text [] line a none r = record {
+pub lines_represent_uniq : (text : List ℕ) (line : ℕ) (a : NumberSet) → AreLinesRead 1 text set.empty line [] a → RepresentsUniq text a
+unfolding uniq_error
+lines_represent_uniq text line a r = record {
   without_error = r.fault;
   cells = r.part.cells;
   are_cells = r.part.are_cells;

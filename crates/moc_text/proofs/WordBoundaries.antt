@@ -1,5 +1,5 @@
 -- The positions at which the words of a text begin and end.
-use Rattle.std.proofs.Common.{◌≡◌, ℕ, ◌+◌, ◌<◌, ◌≤◌, Bool, true, false, cond, not, ◌&&◌, eqb, List, [], ◌∷◌, ◌++◌, length, refl, sym, ap, subst, ◌∙◌, arith}
+use Rattle.std.proofs.Common.{◌≡◌, ℕ, ◌+◌, ◌<◌, ◌≤◌, Bool, true, false, cond, not, ◌&&◌, eqb, List, [], ◌∷◌, ◌++◌, length, refl, sym, ap, subst, ◌∙◌, arith, length-append}
 use Rattle.std.specs.List.{list_all, take_while, AllByRecursion}
 use Rattle.std.proofs.lemmas.List.{append-nil}
 use Rattle.std.proofs.lemmas.List.Sums.{take_while-cons}
@@ -138,6 +138,28 @@ pub words_begin : (b : ℕ) (rest : List ℕ) (at : ℕ) → is_separator b ≡ 
 words_begin b rest at h =
     ap (words_from at) (sym (front_split (b ∷ rest)))
     ∙ words_front (take_while is_word_byte (b ∷ rest)) (after_word_bytes (b ∷ rest)) at (omega (arith, ap length (take_while-more b rest h))) (front_is_word_part (b ∷ rest)) (past_end (b ∷ rest))
+
+-- ---- words before and after a separator
+
+prepend_before : (at b : ℕ) (ws vs : List Word) → StartFrom (at + 2) vs → prepend_to_words at b (ws ++ vs) ≡ prepend_to_words at b ws ++ vs
+prepend_before at b [] vs h = prepend_new_word at b vs h
+prepend_before at b (w ∷ ws) vs h = elim (eqb w.at (at + 1)) as (λ v. cond v (record { at = at; bytes = b ∷ w.bytes } ∷ (ws ++ vs)) (record { at = at; bytes = b ∷ [] } ∷ w ∷ (ws ++ vs)) ≡ cond v (record { at = at; bytes = b ∷ w.bytes } ∷ ws) (record { at = at; bytes = b ∷ [] } ∷ w ∷ ws) ++ vs) [
+  | true ↦ refl
+  | false ↦ refl
+]
+
+pub words_around : (front : List ℕ) (b : ℕ) (rest : List ℕ) (at : ℕ) → is_separator b ≡ true → words_from at ((front ++ b ∷ []) ++ rest) ≡ words_from at (front ++ b ∷ []) ++ words_from (at + length (front ++ b ∷ [])) rest
+words_around [] b rest at h = words_skip b rest at h ∙ ap (λ (ws : List Word). ws ++ words_from (at + 1) rest) (sym (words_skip b [] at h))
+words_around (c ∷ front) b rest at h =
+    let n = at + length (c ∷ front ++ b ∷ []) in
+    let place : at + 1 + length (front ++ b ∷ []) ≡ n = omega arith in
+    let more : words_from (at + 1) ((front ++ b ∷ []) ++ rest) ≡ words_from (at + 1) (front ++ b ∷ []) ++ words_from n rest =
+    words_around front b rest (at + 1) h ∙ ap (λ m. words_from (at + 1) (front ++ b ∷ []) ++ words_from m rest) place in
+    elim (is_separator c) as (λ v. cond v (words_from (at + 1) ((front ++ b ∷ []) ++ rest)) (prepend_to_words at c (words_from (at + 1) ((front ++ b ∷ []) ++ rest))) ≡ cond v (words_from (at + 1) (front ++ b ∷ [])) (prepend_to_words at c (words_from (at + 1) (front ++ b ∷ []))) ++ words_from n rest) [
+      | true ↦ more
+      | false ↦ ap (prepend_to_words at c) more
+          ∙ prepend_before at c (words_from (at + 1) (front ++ b ∷ [])) (words_from n rest) (start_later (at + 2) n (words_from n rest) (omega (arith, length-append front (b ∷ []))) (words_start rest n))
+    ]
 
 -- ---- properties of words
 

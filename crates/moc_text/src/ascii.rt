@@ -2,12 +2,14 @@
 
 mod error;
 mod number;
+mod parser;
 mod reading;
 mod scan;
 mod single;
 mod writing;
 
 pub use error::TextError;
+pub use parser::AsciiParser;
 pub use reading::{read_ascii, readings_are_unique};
 pub use scan::{digits, is_separator};
 pub use single::only_cell;

@@ -9,11 +9,12 @@ mod uniq;
 mod write_error;
 
 pub use ascii::{
-    TextError, is_separator, only_cell, push_ascii, read_ascii, readings_are_unique, write_ascii,
+    AsciiParser, TextError, is_separator, only_cell, push_ascii, read_ascii, readings_are_unique,
+    write_ascii,
 };
 pub use depth::{deeper, parse_order};
 pub use json_format::{
     JsonContent, JsonError, JsonPlace, json_content_at, json_syntax_error, read_json, write_json,
 };
-pub use uniq::{UniqError, read_uniq, write_uniq};
+pub use uniq::{UniqError, UniqParser, read_uniq, write_uniq};
 pub use write_error::WriteError;

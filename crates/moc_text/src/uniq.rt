@@ -8,15 +8,18 @@ ghost use Rattle.moc_lists.specs.RangeList.{NumberSet};
 ghost use Rattle.moc_text.specs.Lines.{lines_of};
 ghost use Rattle.moc_text.specs.Names.{name_of_uniq};
 ghost use Rattle.moc_text.specs.Places.{error_line};
-ghost use Rattle.moc_text.specs.Private.UniqReading.{after_line_feed, IsLineRead};
+ghost use Rattle.moc_text.specs.Private.UniqReading.{after_line_feed, AreLinesRead, IsLineRead};
 ghost use Rattle.moc_text.specs.Errors.{Fails};
 ghost use Rattle.moc_ranges.specs.Errors.{first_error_of};
 ghost use Rattle.moc_text.specs.UniqList.{RepresentsUniq, uniq_error, uniq_line_error, uniq_text};
+
+mod parser;
 
 use crate::ascii::digits;
 use itoa::Buffer;
 use moc_ranges::{Coverage, CoverageBuilder, Memory as OutOfMemory};
 use moc_sphere::Cell;
+pub use parser::UniqParser;
 use std::alloc::{AllocError, Global};
 use thiserror::Error;
 
@@ -60,6 +63,17 @@ impl UniqError {
             UniqError::BadByte { line } | UniqError::NotUniq { line } => Some(line),
             UniqError::Memory => None,
         }
+    }
+}
+
+impl From<AllocError> for UniqError {
+    ghost use Rattle.std.specs.Prelude.{◌≡◌};
+    ghost use Rattle.moc_text.specs.declared.uniq.UniqError.TheVariants.{Memory};
+
+    ghost from_gives = { λ _ e. e ≡ Memory };
+
+    fn from(_error: AllocError) -> UniqError {
+        UniqError::Memory
     }
 }
 
@@ -110,6 +124,29 @@ fn read_line<'a>(
     Ok(rest)
 }
 
+/// Parses lines, of which the first has the number `first`, and adds their cells. Returns the number of the next line.
+/// Fails with `Memory` if a number of a line may exceed `usize::MAX`.
+pub fn read_lines(
+    cells: &mut CoverageBuilder,
+    first: usize,
+    bytes: &[u8],
+) -> Result<usize, UniqError>
+    ensures { MatchResult result
+        (λ line. AreLinesRead first bytes.now cells.old line [] cells.new)
+        (λ e. Fails UniqError.Memory (first_error_of uniq_line_error first (lines_of bytes.now)) e) }
+{
+    if first.checked_add(bytes.len()).is_none() {
+        return Err(UniqError::Memory);
+    }
+    let mut line = first;
+    let mut rest = bytes;
+    while !rest.is_empty() {
+        rest = read_line(cells, line, rest)?;
+        line += 1;
+    }
+    Ok(line)
+}
+
 /// Parses a NUNIQ list: a text with the NUNIQ number of a cell on each line. Numbers may be in any order. A line ends
 /// with LF, and empty lines are skipped.
 ///
@@ -137,12 +174,7 @@ pub fn read_uniq(alloc: Global, text: &[u8]) -> Result<Coverage, UniqError>
         → MatchResult result (λ c. c ≡ a) (λ e. e ≡ UniqError.Memory) }
 {
     let mut cells = CoverageBuilder::new(alloc);
-    let mut line = 1;
-    let mut rest = text;
-    while !rest.is_empty() {
-        rest = read_line(&mut cells, line, rest)?;
-        line += 1;
-    }
+    read_lines(&mut cells, 1, text)?;
     Ok(cells.build()?)
 }
 

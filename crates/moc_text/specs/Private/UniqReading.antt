@@ -8,7 +8,7 @@ use Rattle.moc_lists.specs.RangeList.{NumberSet}
 use Rattle.moc_ranges.specs.Cells.{pixels_of}
 use Rattle.moc_text.specs.Lines.{is_line_feed, lines_of}
 use Rattle.moc_ranges.specs.Errors.{first_error_of}
-use Rattle.moc_text.specs.UniqList.{uniq_line_error, numbers_on, uniq_error}
+use Rattle.moc_text.specs.UniqList.{uniq_line_error, numbers_on}
 
 -- the bytes after the end of the line, if the line ends here
 abbrev pub after_line_feed : List ℕ → Option (List ℕ)
@@ -23,16 +23,17 @@ pub record IsPart (bytes : List ℕ) (old : NumberSet) (rest : List ℕ) (new : 
   pub numbers : numbers_on (lines_of bytes) ≡ map uniq_of cells ++ numbers_on (lines_of rest)
   pub set_is : new ≡ set.union old (pixels_of cells)
 
+-- Lines are parsed: the first has the number `first`, and the next one, at the front of the rest, has the number `line`.
+pub record AreLinesRead (first : ℕ) (bytes : List ℕ) (old : NumberSet) (line : ℕ) (rest : List ℕ) (new : NumberSet)
+    : Type 0 where
+  pub part : IsPart bytes old rest new
+  pub fault :
+      first_error_of uniq_line_error first (lines_of bytes) ≡ first_error_of uniq_line_error line (lines_of rest)
+  pub number : first + length (lines_of bytes) ≡ line + length (lines_of rest)
+  pub within : line + length rest ≤ first + length bytes
+
 -- The line at the front, which has this number, is parsed.
 pub record IsLineRead (line : ℕ) (bytes : List ℕ) (old : NumberSet) (rest : List ℕ)
     (new : NumberSet) : Type 0 where
   pub shorter : length rest < length bytes
-  pub part : IsPart bytes old rest new
-  pub fault :
-      first_error_of uniq_line_error line (lines_of bytes) ≡ first_error_of uniq_line_error (line + 1) (lines_of rest)
-
--- The lines before the rest are parsed, and the next line has this number.
-pub record LinesSoFar (text rest : List ℕ) (line : ℕ) (a : NumberSet) : Type 0 where
-  pub part : IsPart text set.empty rest a
-  pub fault : uniq_error text ≡ first_error_of uniq_line_error line (lines_of rest)
-  pub within : line + length rest ≤ length text + 1
+  pub read : AreLinesRead line bytes old (line + 1) rest new

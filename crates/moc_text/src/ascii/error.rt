@@ -6,6 +6,7 @@ ghost use Rattle.moc_text.specs.Places.{error_byte};
 ghost use Rattle.moc_text.specs.declared.ascii.error.TextError.TheVariants.{Memory};
 
 use moc_ranges::Memory as OutOfMemory;
+use std::alloc::AllocError;
 use thiserror::Error;
 
 /// The reason why a text is not valid in the ASCII format. Positions are byte offsets, counted from 0.
@@ -81,6 +82,14 @@ impl TextError {
             | TextError::Unfinished { at } => Some(at),
             TextError::Memory => None,
         }
+    }
+}
+
+impl From<AllocError> for TextError {
+    ghost from_gives = { λ _ e. e ≡ Memory };
+
+    fn from(_error: AllocError) -> TextError {
+        TextError::Memory
     }
 }
 

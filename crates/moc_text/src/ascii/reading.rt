@@ -1,5 +1,5 @@
 //! Parsing the ASCII format.
-ghost use Rattle.std.specs.Prelude.{◌≡◌, ℕ, [], IfOk, IfErr, MatchResult, None, Option, Some, ◌⊎◌};
+ghost use Rattle.std.specs.Prelude.{◌≡◌, ℕ, ◌+◌, ◌<◌, ◌^◌, List, [], length, IfOk, IfErr, MatchResult, None, Option, Some, ◌⊎◌};
 ghost use Rattle.std.specs.FinSet as set;
 ghost use Rattle.moc_lists.specs.RangeList.{NumberSet};
 ghost use Rattle.moc_text.specs.Ascii.{mark_error, item_error, item_pixels, current_order, deeper as deeper_of};
@@ -19,13 +19,24 @@ use std::alloc::Global;
 
 /// The state of the parser: the cells, the current order, and the MOC order of the words so far.
 #[derive(Drop)]
-struct Reading {
-    cells: CoverageBuilder,
-    order: Option<Order>,
-    moc_order: Option<Order>,
+pub struct Reading {
+    pub cells: CoverageBuilder,
+    pub order: Option<Order>,
+    pub moc_order: Option<Order>,
 }
 
 impl Reading {
+    /// Returns the state before the first word. Does not allocate.
+    pub fn new(alloc: Global) -> Self
+        ensures { (text : List ℕ) → Progress text text result.cells result.order result.moc_order }
+    {
+        Self {
+            cells: CoverageBuilder::new(alloc),
+            order: None,
+            moc_order: None,
+        }
+    }
+
     /// Sets the current order to that of the mark, if there is one.
     fn set_order(&mut self, mark: Option<Numeral>) -> Result<(), TextError>
         ensures { MatchResult result
@@ -76,32 +87,30 @@ impl Reading {
         self.cells.add_cells(order, first.value, last.value)?;
         Ok(())
     }
-}
 
-/// Parses all words.
-fn read_words(alloc: Global, text: &[u8]) -> Result<Reading, TextError>
-    ensures represents { IfOk result (λ r. Progress text.now [] r.cells r.order r.moc_order) }
-    ensures error { IfErr result (λ e. (e ≡ TextError.Memory) ⊎ IsFirstError text.now e) }
-{
-    let len = text.len();
-    let mut reading = Reading {
-        cells: CoverageBuilder::new(alloc),
-        order: None,
-        moc_order: None,
-    };
-    let mut rest = text;
-    while let [byte, after @ ..] = rest {
-        if is_separator(*byte) {
+    /// Parses the words of bytes that end a text and begin at `offset`. The words before them must be parsed.
+    pub fn read_words(&mut self, offset: usize, bytes: &[u8]) -> Result<(), TextError>
+        ensures { (text : List ℕ) → length text ≡ offset + length bytes.now → length text < 2 ^ 64
+            → Progress text bytes.now self.old.cells self.old.order self.old.moc_order
+            → MatchResult result
+            (λ _. Progress text [] self.new.cells self.new.order self.new.moc_order)
+            (λ e. (e ≡ TextError.Memory) ⊎ IsFirstError text e) }
+    {
+        let len = offset.saturating_add(bytes.len());
+        let mut rest = bytes;
+        while let [byte, after @ ..] = rest {
+            if is_separator(*byte) {
+                rest = after;
+                continue;
+            }
+            let at = place(len, rest);
+            let (numbers, after) = word(len, rest)?;
+            self.set_order(numbers.mark)?;
+            self.add(at, numbers.item)?;
             rest = after;
-            continue;
         }
-        let at = place(len, rest);
-        let (numbers, after) = word(len, rest)?;
-        reading.set_order(numbers.mark)?;
-        reading.add(at, numbers.item)?;
-        rest = after;
+        Ok(())
     }
-    Ok(reading)
 }
 
 /// Parses a text of any number of words, as [`read_ascii`] does. The function is separate, because each call
@@ -114,7 +123,8 @@ fn read_any(alloc: Global, text: &[u8]) -> Result<(Coverage, Option<Order>), Tex
         → MatchResult result (λ r. (r.0 ≡ a) × (r.1 ≡ k)) (λ e. e ≡ TextError.Memory) }
     ensures reported { IsReadingOf text.now result }
 {
-    let reading = read_words(alloc, text)?;
+    let mut reading = Reading::new(alloc);
+    reading.read_words(0, text)?;
     let set = reading.cells.build()?;
     Ok((set, reading.moc_order))
 }
