@@ -126,6 +126,8 @@ impl Member {
     ) -> Result<Replies, TryError>
         ensures { Tries self.old self.new (command_on_cell command.now ∷ []) result }
     {
+        // The use of a field makes the invariant of the type available to the proof.
+        let _ = &self.map;
         // Every allocation that can fail precedes the first change of the map.
         let mut replies = Replies::one(alloc, Reply::Claimed)?;
         replies.set_only(self.answer_cell(command)?);

@@ -1,5 +1,7 @@
 //! A map that threads of C change and query at the same time, each through its own client handle.
-ghost use Rattle.std.specs.Prelude.{◌≡◌, IfOk};
+ghost use Rattle.std.specs.Prelude.{◌≡◌, ◌∷◌, ℕ, List, [], IfOk, Ok};
+ghost use Rattle.moc_parts.specs.CellCommands.{command_on_cell};
+ghost use Rattle.moc_lines.specs.Language.{batch_of, command_of};
 ghost use Rattle.moc_c.specs.Answers.{both, set_at};
 ghost use Rattle.moc_c.specs.Sharing.{answer_of, Applies, BeginsMap, client_count, FillsAnswer, IsFirstClient, Joins};
 ghost use Rattle.moc_c.specs.Sharing.{StoresMapSet, member_of_handle, StoresMember, unless_in_use};
@@ -14,6 +16,7 @@ use crate::store::Store;
 use crate::table::CoverageTable;
 use crate::texts::fill_text;
 use moc_lines::{LineError, answer_text, place_of_error, read_batch, read_cell_command};
+use moc_parts::CellCommand;
 use moc_ranges::Memory;
 use moc_shared::MAX_CLIENTS;
 use std::alloc::Global;
@@ -101,17 +104,41 @@ impl ClientState {
     fn apply(&mut self, alloc: Global, line: &[u8]) -> CallResult
         ensures { Applies self.old self.new (member_of_handle self.old) line.now result }
     {
+        match read_cell_command(line) {
+            Some(command) => self.apply_on_cell(alloc, &command),
+            None => self.apply_batch(alloc, line),
+        }
+    }
+
+    /// Executes the command on one cell that a line has, and keeps the reply.
+    fn apply_on_cell(&mut self, alloc: Global, command: &CellCommand) -> CallResult
+        ensures { (line : List ℕ) → batch_of command_of line ≡ Ok (command_on_cell command.now ∷ [])
+            → Applies self.old self.new (member_of_handle self.old) line result }
+    {
         let Some(member) = &mut self.member else {
             return CallResult::of(CallError::NoMap);
         };
-        let tried = match read_cell_command(line) {
-            Some(command) => member.apply_cell(alloc, &command),
-            None => match read_batch(alloc, line) {
-                Ok(batch) => member.apply(&batch),
-                Err(error) => return CallResult::of(line_error(alloc, line, error)),
-            },
+        match member.apply_cell(alloc, command) {
+            Ok(replies) => {
+                self.replies = Some(replies);
+                CallResult::success()
+            }
+            Err(error) => CallResult::of(CallError::from(error)),
+        }
+    }
+
+    /// Executes the commands of a line as a batch, and keeps the replies.
+    fn apply_batch(&mut self, alloc: Global, line: &[u8]) -> CallResult
+        ensures { Applies self.old self.new (member_of_handle self.old) line.now result }
+    {
+        let Some(member) = &mut self.member else {
+            return CallResult::of(CallError::NoMap);
         };
-        match tried {
+        let batch = match read_batch(alloc, line) {
+            Ok(batch) => batch,
+            Err(error) => return CallResult::of(line_error(alloc, line, error)),
+        };
+        match member.apply(&batch) {
             Ok(replies) => {
                 self.replies = Some(replies);
                 CallResult::success()

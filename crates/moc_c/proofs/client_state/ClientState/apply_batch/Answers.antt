@@ -1,7 +1,7 @@
 use Rattle.std.proofs.Common.{inl, inr, refl, ap, ◌∙◌}
 use Rattle.moc_c.specs.CallResults.{result_of}
 use Rattle.moc_c.proofs.MapCalls.{applies_commands, not_parsed, fails_trying}
-use Rattle.moc_c.proofs.client_state.ClientState.apply.Goals as goal
+use Rattle.moc_c.proofs.client_state.ClientState.apply_batch.Goals as goal
 
 pub returns-in-Ok-apply : goal.returns-in-Ok-apply
 returns-in-Ok-apply c =
