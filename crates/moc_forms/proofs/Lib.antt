@@ -1,6 +1,5 @@
 pub mod Ends
 pub mod Half
-pub mod Orders
 pub mod Mixed
 pub mod LeadingZeros
 pub mod Pieces

@@ -8,4 +8,3 @@ pub mod Finding
 pub mod Formats
 pub mod Places
 pub mod Quotes
-pub mod Private

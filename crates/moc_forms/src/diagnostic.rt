@@ -16,11 +16,11 @@ use moc_ranges::Memory;
 use moc_sphere::Order;
 use moc_text::{JsonError, JsonPlace, TextError, UniqError, json_content_at, json_syntax_error};
 use std::alloc::Global;
-use thiserror::Error;
+use std::fmt;
 
-/// An error of a text, with its position, a quote of the text there, and what the text looks like.
-#[derive(Debug, Drop, Error)]
-#[error("{error}")]
+/// The report about an error of a text: the error, its position, a quote of the text there, and what the text looks
+/// like.
+#[derive(Debug, Drop)]
 pub struct Diagnostic {
     /// The error.
     pub error: FormatError,
@@ -63,6 +63,13 @@ impl Diagnostic {
             order: order_at_error(text, error, place),
             hint: hint(format, text),
         })
+    }
+}
+
+/// Writes the error, without its position.
+impl fmt::Display for Diagnostic {
+    fn fmt<W: fmt::Write>(&self, f: &mut fmt::Formatter<W>) -> fmt::Result {
+        write!(f, "{}", self.error)
     }
 }
 

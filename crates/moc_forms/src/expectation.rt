@@ -4,13 +4,12 @@ ghost use Rattle.std.specs.List.{after_last, before_last};
 ghost use Rattle.moc_sphere.specs.Names.{is_slash};
 ghost use Rattle.moc_forms.specs.Expectations.{expected_in_place_of, order_at_error as order_at_error_of};
 ghost use Rattle.moc_forms.specs.Expectations.{order_at_number, order_in_force as order_in_force_of};
-ghost use Rattle.moc_forms.specs.Private.Orders.{capped_order};
 ghost use Rattle.moc_forms.specs.Quotes.{is_not_digit};
 
 use crate::format::FormatError;
 use crate::place::Place;
 use moc_sphere::Order;
-use moc_text::{JsonError, TextError, UniqError};
+use moc_text::{JsonError, TextError, UniqError, parse_order};
 
 /// Returns the line that states what a text must have in place of an error. Returns an empty text for `CellTooLarge`,
 /// because the line depends on the order of the cells, and for `Memory`.
@@ -72,11 +71,8 @@ fn order_of_number(place: Option<Place>) -> Option<Order>
 fn order_in_force(text: &[u8], at: usize) -> Option<Order>
     ensures { result ≡ order_in_force_of text.now at }
 {
-    let digits = last_digits(before_last_slash(&text[..at.min(text.len())]));
-    if digits.is_empty() {
-        return None;
-    }
-    order_of_digits(digits)
+    let before_slash = before_last_slash(&text[..at.min(text.len())]);
+    parse_order(last_digits(before_slash))
 }
 
 /// Returns the digits at the end.
@@ -126,21 +122,4 @@ fn last_digit_count(bytes: &[u8]) -> usize
         }
     }
     count
-}
-
-/// Returns the order that digits denote, if any.
-fn order_of_digits(digits: &[u8]) -> Option<Order>
-    ensures { result ≡ capped_order 0 digits.now }
-{
-    let mut order = 0u8;
-    for digit in digits {
-        if !digit.is_ascii_digit() {
-            return None;
-        }
-        order = order
-            .saturating_mul(10)
-            .saturating_add(*digit - b'0')
-            .min(30);
-    }
-    Order::new(order)
 }

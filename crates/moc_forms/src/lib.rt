@@ -26,4 +26,4 @@ pub use format::{Format, FormatError};
 pub use legend::PictureNames;
 pub use place::Place;
 pub use quoting::quote;
-pub use statistics::{Statistics, describe};
+pub use statistics::{Statistics, describe, write_fraction};

@@ -1,11 +1,11 @@
 //! Statistics of a coverage.
-ghost use Rattle.std.specs.Prelude.{◌≡◌, ◌++◌, ◌∷◌, ◌<◌, [], IfOk, slice_index, sum};
+ghost use Rattle.std.specs.Prelude.{◌≡◌, ◌++◌, ◌∷◌, ◌<◌, ◌≤◌, ◌^◌, [], IfOk, slice_index, sum};
 ghost use Rattle.std.specs.Fmt.{WritesOnOk};
 ghost use Rattle.std.specs.String.{string_bytes};
 ghost use Rattle.moc_ranges.specs.CellCounts.{uniq_end};
 ghost use Rattle.moc_lists.specs.RangeList.{pixel_count};
 ghost use Rattle.moc_forms.specs.Describing.{AreStatistics, Describes, area_line, decimal_fraction, moc_order_line};
-ghost use Rattle.moc_forms.specs.Describing.{order_line, order_lines_below, part_of, share_line, share_of};
+ghost use Rattle.moc_forms.specs.Describing.{order_line, order_lines_below, part_of, part_text, share_line, share_of};
 ghost use Rattle.moc_forms.specs.Describing.{sky_area};
 
 use moc_ranges::{Coverage, Memory, PIXEL_COUNT};
@@ -18,6 +18,9 @@ const SKY: u64 = 1_000_000_000_000;
 
 /// The whole sky in parts of 10^24.
 const FINE_SKY: u128 = 1_000_000_000_000_000_000_000_000;
+
+/// The number of units of 10^-12 in one.
+const UNITS: u128 = 1_000_000_000_000;
 
 /// The area of the sky, 129600/π square degrees, in units of 10^-12 square degrees.
 const SKY_AREA: u64 = 41_252_961_249_419_271;
@@ -148,42 +151,45 @@ fn write_moc_order<W: fmt::Write>(
 fn write_sky<W: fmt::Write>(f: &mut fmt::Formatter<W>, pixels: u64) -> fmt::Result
     ensures { WritesOnOk W.write_str_gives f.old result (share_line pixels ++ area_line pixels) f.new }
 {
-    write_share(f, pixels)?;
-    write_area(f, pixels)
+    write_part(f, "share ", pixels, SKY, FINE_SKY)?;
+    write_part(f, "area ", pixels, SKY_AREA, FINE_SKY_AREA)
 }
 
-/// Writes the line of the share of the sky of a number of pixels.
-fn write_share<W: fmt::Write>(f: &mut fmt::Formatter<W>, pixels: u64) -> fmt::Result
-    ensures { WritesOnOk W.write_str_gives f.old result (share_line pixels) f.new }
+/// Writes a line with a word and the part of a quantity of the whole sky that belongs to a number of pixels. The whole
+/// sky has the given numbers of units of 10^-12 and of 10^-24.
+fn write_part<W: fmt::Write>(
+    f: &mut fmt::Formatter<W>,
+    word: &str,
+    pixels: u64,
+    whole: u64,
+    fine: u128,
+) -> fmt::Result
+    requires parts { 10 ^ 12 ≤ whole }
+    requires low { whole < pixel_count }
+    requires fine_parts { fine < 2 ^ 96 }
+    ensures { WritesOnOk W.write_str_gives f.old result (word.now ++ part_text whole fine pixels ++ 10 ∷ []) f.new }
 {
-    let parts = part(pixels, SKY);
+    let parts = part(pixels, whole);
     if parts == 0 && pixels > 0 {
-        let fine = u128::from(pixels) * FINE_SKY / u128::from(PIXEL_COUNT);
-        return write_fine(f, "share ", fine);
+        let fine_parts = u128::from(pixels) * fine / u128::from(PIXEL_COUNT);
+        return write_fine(f, word, fine_parts);
     }
-    write_parts(f, "share ", parts)
+    write_fraction(f, word, u128::from(parts))
 }
 
-/// Writes the line of the area of a number of pixels.
-fn write_area<W: fmt::Write>(f: &mut fmt::Formatter<W>, pixels: u64) -> fmt::Result
-    ensures { WritesOnOk W.write_str_gives f.old result (area_line pixels) f.new }
+/// Writes a line with a word and a number of units of 10^-12, as a decimal fraction with twelve digits after the point.
+/// The word is followed by nothing, so it ends with a space.
+pub fn write_fraction<W: fmt::Write>(
+    f: &mut fmt::Formatter<W>,
+    word: &str,
+    units: u128,
+) -> fmt::Result
+    ensures { WritesOnOk W.write_str_gives f.old result (word.now ++ decimal_fraction 12 units ++ 10 ∷ []) f.new }
 {
-    let parts = part(pixels, SKY_AREA);
-    if parts == 0 && pixels > 0 {
-        let fine = u128::from(pixels) * FINE_SKY_AREA / u128::from(PIXEL_COUNT);
-        return write_fine(f, "area ", fine);
-    }
-    write_parts(f, "area ", parts)
+    writeln!(f, "{word}{}.{:012}", units / UNITS, units % UNITS)
 }
 
-/// Writes a line with a word and a number of parts of 10^12.
-fn write_parts<W: fmt::Write>(f: &mut fmt::Formatter<W>, word: &str, parts: u64) -> fmt::Result
-    ensures { WritesOnOk W.write_str_gives f.old result (word.now ++ decimal_fraction 12 parts ++ 10 ∷ []) f.new }
-{
-    writeln!(f, "{word}{}.{:012}", parts / SKY, parts % SKY)
-}
-
-/// Writes a line with a word and a number of parts of 10^24.
+/// Writes a line with a word and a number of units of 10^-24.
 fn write_fine<W: fmt::Write>(f: &mut fmt::Formatter<W>, word: &str, parts: u128) -> fmt::Result
     ensures { WritesOnOk W.write_str_gives f.old result (word.now ++ decimal_fraction 24 parts ++ 10 ∷ []) f.new }
 {

@@ -11,7 +11,7 @@ mod write_error;
 pub use ascii::{
     TextError, is_separator, push_ascii, read_ascii, readings_are_unique, write_ascii,
 };
-pub use depth::deeper;
+pub use depth::{deeper, parse_order};
 pub use json_format::{
     JsonContent, JsonError, JsonPlace, json_content_at, json_syntax_error, read_json, write_json,
 };

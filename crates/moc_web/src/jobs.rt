@@ -64,10 +64,7 @@ pub extern "C" fn web_convert(
         (λ to. Outputs (MakesFromText (IsConversion to) choice text.now) (FailsText choice text.now)))
         buffer.old buffer.new result }
 {
-    let Some(choice) = choice_of(format) else {
-        return JobResult::bad_number();
-    };
-    let Some(to) = format_of(to) else {
+    let (Some(choice), Some(to)) = (choice_of(format), format_of(to)) else {
         return JobResult::bad_number();
     };
     finish(alloc, convert_text(alloc, choice, to, text), buffer)
@@ -88,10 +85,7 @@ pub extern "C" fn web_change(
         (λ choice. Outputs (MakesFromText (IsChange change) choice text.now) (FailsText choice text.now)))
         buffer.old buffer.new result }
 {
-    let Some(change) = change_of(change) else {
-        return JobResult::bad_number();
-    };
-    let Some(choice) = choice_of(format) else {
+    let (Some(change), Some(choice)) = (change_of(change), choice_of(format)) else {
         return JobResult::bad_number();
     };
     finish(alloc, change_text(alloc, change, choice, text), buffer)
@@ -111,10 +105,7 @@ pub extern "C" fn web_combine(
         (λ choice. Outputs (CombinesTextsOf operation choice text.now) (FailsCombining choice text.now)))
         buffer.old buffer.new result }
 {
-    let Some(operation) = operation_of(operation) else {
-        return JobResult::bad_number();
-    };
-    let Some(choice) = choice_of(format) else {
+    let (Some(operation), Some(choice)) = (operation_of(operation), choice_of(format)) else {
         return JobResult::bad_number();
     };
     finish(alloc, combine_texts(alloc, operation, choice, text), buffer)
@@ -135,10 +126,7 @@ pub extern "C" fn web_measure(
         (λ cell. Outputs (MakesFromText (Measures cell) choice text.now) (FailsText choice text.now)))
         buffer.old buffer.new result }
 {
-    let Some(choice) = choice_of(format) else {
-        return JobResult::bad_number();
-    };
-    let Some(cell) = cell_of(order, index) else {
+    let (Some(choice), Some(cell)) = (choice_of(format), cell_of(order, index)) else {
         return JobResult::bad_number();
     };
     finish(alloc, measure(alloc, choice, cell, text), buffer)

@@ -1,14 +1,12 @@
 //! A cell, and the part of it that a coverage has.
-ghost use Rattle.std.specs.Prelude.{◌≡◌, codes, IfErr, IfOk};
-ghost use Rattle.std.specs.Fmt.{WritesOnOk};
+ghost use Rattle.std.specs.Prelude.{◌≡◌, IfErr, IfOk};
 ghost use Rattle.std.specs.String.{string_bytes};
 ghost use Rattle.moc_conversion.specs.Conversion.{FailsText, MakesFromText};
-ghost use Rattle.moc_forms.specs.Describing.{decimal_fraction};
-ghost use Rattle.moc_web.specs.Jobs.{Measures, cell_with_numbers, number_line, share_of_cell};
+ghost use Rattle.moc_web.specs.Jobs.{Measures, cell_with_numbers, share_of_cell};
 
 use crate::choices::order_of;
 use moc_conversion::{InputError, parse_text};
-use moc_forms::FormatChoice;
+use moc_forms::{FormatChoice, write_fraction};
 use moc_sphere::{Cell, Order};
 use std::alloc::Global;
 use std::fmt;
@@ -58,16 +56,8 @@ impl fmt::Display for CellPart {
     fn fmt<W: fmt::Write>(&self, f: &mut fmt::Formatter<W>) -> fmt::Result {
         writeln!(f, "ring {}", self.cell.ring())?;
         writeln!(f, "pixels {}", self.pixels)?;
-        write_share(f, share_of(self.cell.order(), self.pixels))
+        write_fraction(f, "share ", share_of(self.cell.order(), self.pixels))
     }
-}
-
-/// Writes the line of a share in parts of 10^12.
-fn write_share<W: fmt::Write>(f: &mut fmt::Formatter<W>, parts: u128) -> fmt::Result
-    ensures { WritesOnOk W.write_str_gives f.old result
-        (number_line (codes "share ") (decimal_fraction 12 parts)) f.new }
-{
-    writeln!(f, "share {}.{:012}", parts / WHOLE, parts % WHOLE)
 }
 
 /// Returns the share of a cell of an order that a number of its pixels is, in parts of 10^12, rounded down.

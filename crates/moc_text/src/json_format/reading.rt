@@ -11,41 +11,13 @@ ghost use Rattle.moc_text.specs.JsonFormat.{order_of_name, whole_number, cell_pi
 ghost use Rattle.moc_text.specs.JsonFormat.{elements_error, array_pixels, name_error, members_pixels, members_error};
 ghost use Rattle.moc_text.specs.JsonFormat.{deepest_name, member_at as member_numbered, HasText, IsJson, IsJsonError};
 ghost use Rattle.moc_text.specs.JsonFormat.{IsNotJson, IsTextAt, NameIsOrder, RepresentsJson, object_member};
-ghost use Rattle.moc_text.specs.Private.JsonReading.{capped_order};
 
-use crate::depth::deeper;
+use crate::depth::{deeper, parse_order};
 use crate::json_format::error::{JsonError, JsonPlace};
 use moc_ranges::{Coverage, CoverageBuilder, Memory};
 use moc_sphere::Order;
 use serde_json::{Map, Value};
 use std::alloc::Global;
-
-/// Returns the order that these digits denote, if any.
-fn order_of_digits(digits: &[u8]) -> Option<Order>
-    ensures { result ≡ capped_order 0 digits.now }
-{
-    let mut depth = 0u8;
-    for digit in digits {
-        if !digit.is_ascii_digit() {
-            return None;
-        }
-        depth = depth
-            .saturating_mul(10)
-            .saturating_add(*digit - b'0')
-            .min(30);
-    }
-    Order::new(depth)
-}
-
-/// Returns the order that a name denotes, if any.
-fn order_of(name: &str) -> Option<Order>
-    ensures { result ≡ order_of_name name.now }
-{
-    if name.is_empty() {
-        return None;
-    }
-    order_of_digits(name.as_bytes())
-}
 
 /// Adds the cell that an item denotes.
 fn read_cell(
@@ -101,7 +73,7 @@ fn read_member(
         × (cells.new ≡ set.union cells.old (array_pixels (order_of_name text.now) (as_array (view value.now)))))
         (λ e. Fails JsonError.Memory (name_error name (order_of_name text.now) (as_array (view value.now))) e) }
 {
-    let Some(order) = order_of(text) else {
+    let Some(order) = parse_order(text.as_bytes()) else {
         return Err(JsonError::BadOrder { name });
     };
     let Some(values) = value.as_array() else {
@@ -262,7 +234,7 @@ fn content_at(
         },
     };
     Ok(JsonContent {
-        order: order_of(name.as_str()),
+        order: parse_order(name.as_bytes()),
         text,
     })
 }

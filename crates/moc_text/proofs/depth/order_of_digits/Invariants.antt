@@ -1,6 +1,6 @@
 use Rattle.std.proofs.Common.{◌≡◌, ◌≤◌, drop}
 use Rattle.moc_text.specs.Private.JsonReading.{capped_order}
-use Rattle.moc_text.proofs.json_format.reading.order_of_digits.Given as goal
+use Rattle.moc_text.proofs.depth.order_of_digits.Given as goal
 
 abbrev pub invariant-loop-digit : goal.invariant-loop-digit
 invariant-loop-digit l = record {
