@@ -4,13 +4,15 @@
 usage: tests/soak.py MINUTES [SEED]
 
 `run` and `crew 1` answer a script alike. `play` gives the same answers if each line is begun, takes its parts, edits and gives each part,
-and ends. A coverage is unchanged after any sequence of conversions between the three text formats. CI does not run this script. It prints
-its seed, each difference, and at the end `N passed, M failed`. The environment variable MOC has the path of the program; the default is the
-program of the checkout."""
+and ends. A coverage is unchanged after a conversion from ASCII to any format and back, except that a format may state no order. The commands
+and the formats are those of the help of `run` and `convert`. CI does not run this script. It prints its seed, each difference, and at the
+end `N passed, M failed`. The environment variable MOC has the path of the program; the default is the program of the checkout."""
 from __future__ import annotations
 
+import functools
 import os
 import random
+import re
 import subprocess
 import sys
 import time
@@ -18,10 +20,18 @@ import time
 from tally import Tally
 
 TOP = os.path.dirname(os.path.dirname(os.path.abspath(__file__)))
+sys.path.insert(0, os.path.join(TOP, "tools"))
+from help_pages import parse_values  # noqa: E402
+
 MOC = os.environ.get("MOC", os.path.join(TOP, "crates", "moc_cli", "out", "moc_cli"))
 TIME_LIMIT = 60
-WORDS = ["add", "remove", "keep", "claim", "count", "read", "invert", "degrade", "near", "hop", "Add", ""]
-WEIGHTS = [9, 5, 1, 4, 6, 3, 1, 1, 4, 1, 1, 1]
+# A command in the help of `run`: its name and its fields.
+COMMAND = re.compile(r"^  ([a-z]+)((?: [A-Z]+)*)  ", re.MULTILINE)
+# How often a command is chosen, if not once, and words that are not the name of a command.
+WEIGHTS = {"add": 9, "remove": 5, "claim": 4, "count": 6, "read": 3, "near": 4}
+OTHER_WORDS = {"hop": " MOC", "Add": " MOC", "": ""}
+# The stated order at the end of an ASCII text, which has no cell of this order.
+STATED_ORDER = re.compile(r" ?[0-9]+/$")
 BLANKS = [" ", " ", " ", "\t", "  ", "\r "]
 PARTS = 12
 MAX_CLIENT = 4_294_967_295
@@ -33,6 +43,18 @@ def run_program(arguments: list[str], text: str) -> list[str]:
     if result.returncode == 0:
         return result.stdout.decode().splitlines()
     return [f"status {result.returncode}: {result.stderr.decode()}"]
+
+
+@functools.cache
+def command_fields() -> dict[str, str]:
+    """Returns the fields of each word that a random command may begin with: of the commands in the help of `run`, and of other words."""
+    return dict(COMMAND.findall("\n".join(run_program(["run", "--help"], "")))) | OTHER_WORDS
+
+
+@functools.cache
+def formats() -> list[str]:
+    """Returns the formats that `convert` writes, by its help."""
+    return parse_values("\n".join(run_program(["convert", "--help"], "")))[1]
 
 
 def random_order(rng: random.Random) -> int:
@@ -63,12 +85,13 @@ def random_coverage(rng: random.Random) -> str:
 
 def random_command(rng: random.Random) -> str:
     """Returns a random command, sometimes an invalid one."""
-    word = rng.choices(WORDS, WEIGHTS)[0]
-    if word in ("invert", ""):
+    words = command_fields()
+    word = rng.choices(list(words), [WEIGHTS.get(word, 1) for word in words])[0]
+    if words[word] == "":
         fields = [""] if rng.random() < 0.9 else ["x"]
-    elif word == "degrade":
+    elif words[word] == " K":
         fields = [str(rng.choice([29, 28, 12, 5, 30, random_order(rng)]))]
-    elif word == "near":
+    elif words[word] == " K I":
         order = random_order(rng)
         fields = [str(order), str(random_cell(rng, order))]
     else:
@@ -116,13 +139,13 @@ def check_text(tally: Tally, rng: random.Random) -> None:
     if ascii_text[:1] and ascii_text[0].startswith("status"):
         tally.check(ascii_text[0].startswith("status 1: fault "), f"the coverage {text}\n{ascii_text}")
         return
-    json = run_program(["convert", "ascii", "json"], text)
-    from_json = run_program(["convert", "json", "ascii"], "\n".join(json))
-    uniq = run_program(["convert", "json", "uniq"], "\n".join(json))
-    from_uniq = run_program(["convert", "uniq", "ascii"], "\n".join(uniq))
-    uniq_again = run_program(["convert", "ascii", "uniq"], "\n".join(from_uniq))
-    tally.check(from_json == ascii_text and uniq_again == uniq,
-                f"the coverage {text}\n{ascii_text}\n{json}\n{from_json}\n{uniq}\n{from_uniq}\n{uniq_again}")
+    for name in formats():
+        other = run_program(["convert", "ascii", name], text)
+        back = run_program(["convert", name, "ascii"], "\n".join(other))
+        states_order = run_program(["describe", name], "\n".join(other))[0] != "deepest none"
+        expected = ascii_text if states_order else [STATED_ORDER.sub("", line) for line in ascii_text]
+        tally.check(back == expected, f"the coverage {text}\n{ascii_text}\n{name}: {other}\nback: {back}")
+
 
 
 def main() -> int:

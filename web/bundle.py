@@ -5,7 +5,7 @@ usage: web/bundle.py MODULE OUTPUT
 
 The module is compressed by gzip and encoded as base64url. The scripts are concatenated in the order of their imports,
 without the lines of imports and the keyword `export`. The script of the worker is a separate bundle, which the page
-starts. The security policy of the page has the digests of its style and its script, and blocks all requests.
+starts. The table of commands is that of `docs/SCRIPTS.md`. The security policy of the page has the digests of its style and its script, and blocks all requests.
 
 A script may only have imports of names from files next to it, and one name in each declaration at its top level. The
 tool reports an error if a script has another import, if an imported name is not exported, or if a name is declared
@@ -15,6 +15,7 @@ from __future__ import annotations
 import base64
 import gzip
 import hashlib
+import html
 import os
 import re
 import sys
@@ -22,6 +23,10 @@ import sys
 FOLDER = os.path.dirname(os.path.abspath(__file__))
 SCRIPTS = os.path.join(FOLDER, "scripts")
 PAGE_SCRIPT, WORKER_SCRIPT = "page.js", "worker.js"
+SCRIPTS_PAGE = os.path.join(FOLDER, "..", "docs", "SCRIPTS.md")
+# The table of commands in the page about scripts, and code in a cell of it.
+COMMAND_TABLE = re.compile(r"^\| Command \| Effect \| Reply \|\n\|[-|]+\|\n((?:\| .* \|\n)+)", re.MULTILINE)
+CODE = re.compile(r"`([^`]*)`")
 IMPORT = re.compile(r'import \{ ([\w, ]+) \} from "\./(\w+\.js)";\n')
 DECLARATION = re.compile(r"^(export )?(?:(?:async )?function\*? (\w+)|class (\w+)|(?:const|let) (\w+) =)", re.MULTILINE)
 # Lines at the top level that declare something, or import or export it.
@@ -115,6 +120,29 @@ def fill(page: str, place: str, text: str) -> str:
     return page.replace(mark, text)
 
 
+def command_rows(page: str) -> str:
+    """Returns the rows of the table of commands in HTML.
+
+    Parameters
+    ----------
+    page : str
+        The text of the page about scripts.
+
+    Raises
+    ------
+    BundleError
+        If the page has no table of commands.
+    """
+    table = COMMAND_TABLE.search(page)
+    if table is None:
+        raise BundleError("docs/SCRIPTS.md: no table of commands")
+    rows = []
+    for line in table[1].splitlines():
+        command, effect, reply = (CODE.sub(r"<code>\1</code>", html.escape(cell)) for cell in line[2:-2].split(" | "))
+        rows.append(f'<tr><th scope="row">{command}</th><td>{effect}</td><td>{reply}</td></tr>')
+    return "\n".join(rows)
+
+
 def bundle(module: bytes) -> str:
     """Returns the page for a module of WebAssembly.
 
@@ -131,14 +159,16 @@ def bundle(module: bytes) -> str:
     Raises
     ------
     BundleError
-        If a script has another import, an unknown name or a name that another script declares.
+        If a script has another import, an unknown name or a name that another script declares, or if the page about
+        scripts has no table of commands.
     """
     style, script = read_text(os.path.join(FOLDER, "page.css")), bundle_scripts(SCRIPTS, PAGE_SCRIPT)
     compressed = base64.urlsafe_b64encode(gzip.compress(module, 9, mtime=0)).decode().rstrip("=")
     policy = POLICY.format(style=digest(style), script=digest(script))
     page = read_text(os.path.join(FOLDER, "page.html"))
     for place, text in [("POLICY", policy), ("STYLE", style), ("SCRIPT", script), ("MODULE", compressed),
-                        ("WORKER", bundle_scripts(SCRIPTS, WORKER_SCRIPT))]:
+                        ("WORKER", bundle_scripts(SCRIPTS, WORKER_SCRIPT)),
+                        ("COMMANDS", command_rows(read_text(SCRIPTS_PAGE)))]:
         page = fill(page, place, text)
     return page
 

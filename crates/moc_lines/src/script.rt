@@ -19,17 +19,8 @@ use std::alloc::Global;
 /// fields, or a word and an operand S: a coverage in the ASCII format of MOC 2.0 (the empty text is the empty set),
 /// after `@` and an order if it is to be degraded first.
 ///
-/// | Command | Answer |
-/// |---|---|
-/// | `add S` | `changed N`: S is added, N of its pixels are new |
-/// | `remove S` | `changed N`: S is removed, N of its pixels were in the set |
-/// | `keep S` | `changed N`: the intersection with S is kept, N pixels are removed |
-/// | `claim S` | `claimed`: S is added, no pixel of it was in the set; or `taken N`: N were, and nothing changes |
-/// | `invert` | `changed N`: the set is complemented, N is the number of all pixels |
-/// | `degrade K` | `changed N`: the set is degraded to order K, N pixels are new |
-/// | `count S` | `total N`: the set has N of the pixels of S |
-/// | `read S` | `cover T`: T is the ASCII format of the intersection with S; `cover` alone if it is empty |
-/// | `near K I` | `near yes`: the set has a pixel of the cell I of order K or of a cell that touches it; or `near no` |
+/// The words of the commands are those of the variants of `moc_parts::Command`, in lower case. The page
+/// `docs/SCRIPTS.md` has a table of the commands and their answers.
 ///
 /// An invalid line changes nothing. Its answer is `fault NAME`, for the first invalid command from the left. Answers
 /// are written before each read that may wait.

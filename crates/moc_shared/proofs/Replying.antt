@@ -13,13 +13,11 @@ use Rattle.moc_ranges.specs.Lemmas.Members.{contains-part_of}
 use Rattle.moc_ranges.specs.Operations.{base_pixel_size, pixels, part_of, IsWithin}
 use Rattle.moc_parts.specs.Objects.{IsLocal, AgreeOn, base_pixel}
 use Rattle.moc_parts.specs.Parts.{union_of}
-use Rattle.moc_parts.specs.Commands.{is_update, set_after}
+use Rattle.moc_parts.specs.Commands.{is_update}
 use Rattle.moc_parts.specs.Batches.{batches, footprint_of_all, set_after_all, AreCommands}
-use Rattle.moc_parts.specs.Theorems.{BatchesAreLocal}
+use Rattle.moc_parts.specs.Theorems.{BatchesAreLocal, QueriesLeaveTheSet}
 use Rattle.moc_parts.specs.Prepared.{AreChanges, AreRepliesTo, Preparation, part_if, content_or_empty}
 use Rattle.moc_parts.specs.declared.command.Command.{Command}
-use Rattle.moc_parts.specs.declared.command.Command.TheVariants.{Add, Remove, Keep, Claim, Invert, Degrade, Count, Read}
-use Rattle.moc_parts.specs.declared.command.Command.TheVariants.{Near}
 use Rattle.moc_parts.specs.declared.reply.Reply.{Reply}
 use Rattle.moc_shared.specs.Seats.{note, Pointer}
 use Rattle.moc_shared.specs.Private.Invariant.{parts_of_notes}
@@ -235,27 +233,6 @@ edits_from cs previous edited p long own set_is_valid changes each =
           );
     }
 
-unchanged_by : (c : Command) (a : NumberSet) → is_update c ≡ false → set_after a c ≡ a
-unchanged_by (Add x) a q = absurd (true≢false q)
-unchanged_by (Remove x) a q = absurd (true≢false q)
-unchanged_by (Keep x) a q = absurd (true≢false q)
-unchanged_by (Claim x) a q = absurd (true≢false q)
-unchanged_by Invert a q = absurd (true≢false q)
-unchanged_by (Degrade x) a q = absurd (true≢false q)
-unchanged_by (Count x) a q = refl
-unchanged_by (Read x) a q = refl
-unchanged_by (Near x) a q = refl
-
-or_none : (x y : Bool) → (x || y) ≡ false → (x ≡ false) × (y ≡ false)
-or_none true y e = absurd (true≢false e)
-or_none false y e = (refl, e)
-
--- a query does not change the set
-pub query_changes_nothing : (cs : List Command) (a : NumberSet) → list_any is_update cs ≡ false → set_after_all a cs ≡ a
-query_changes_nothing [] a q = refl
-query_changes_nothing (c ∷ cs) a q = let both = or_none (is_update c) (list_any is_update cs) q in
-    ap (λ (s : NumberSet). set_after_all s cs) (unchanged_by c a both.0) ∙ query_changes_nothing cs a both.1
-
 pub copies_within_own_parts : (previous copies : List (Option Pointer)) → AreCopies previous copies → AreWithinOwnParts previous → AreWithinOwnParts copies
 copies_within_own_parts previous copies same own b =
     subst (λ (o : Option NumberSet). part_of (content_or_empty o) b ≡ content_or_empty o) (sym (same b)) (own b)
@@ -268,9 +245,9 @@ footprint_copies cs previous copies same set_is_valid b l = sym (some_content (s
 -- a query leaves the contents unchanged, and has the replies that the copies give
 pub leaves : (cs : List Command) (previous copies : List (Option Pointer)) → length copies ≡ 12 → AreWithinOwnParts previous
     → IsFootprint cs previous → AreCopies previous copies → list_any is_update cs ≡ false → IsLocal batches cs
-    → Edits cs copies previous
+    → QueriesLeaveTheSet → Edits cs copies previous
 unfolding batch_answer replies_to
-leaves cs previous copies long own_found whole_found same query local =
+leaves cs previous copies long own_found whole_found same query local unchanged =
     let own = copies_within_own_parts previous copies same own_found in
     let set_is_valid = footprint_copies cs previous copies same whole_found in
     let u : NumberSet = union_of (lists_of copies) in
@@ -281,8 +258,8 @@ leaves cs previous copies long own_found whole_found same query local =
         local.reply a u v u_within (λ q t. sym (slots_agree_on_footprint cs copies a long own set_is_valid v noted q t)),
         (λ b y h. noted b y
             (subst (λ (l : List PartNote). Contains l (note b y)) (sym (notes_same previous copies 12 same)) h)
-            ∙ ap (part b) (sym (query_changes_nothing cs a query))),
-        (λ k none. ap (part k) (query_changes_nothing cs a query)),
+            ∙ ap (part b) (sym (unchanged cs query a))),
+        (λ k none. ap (part k) (unchanged cs query a)),
         local.stays a v,
       );
     }

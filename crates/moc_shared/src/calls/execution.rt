@@ -11,7 +11,7 @@ use crate::calls::footprint::{end_all, give_all};
 use crate::calls::lists::{answer, edit};
 use crate::table::locks::{LockTable, SeatToken};
 use crate::table::slots::{Slots, copy_all, no_slots};
-use moc_parts::{Batch, Replies, batches_are_local};
+use moc_parts::{Batch, Replies, batches_are_local, queries_leave_the_set};
 use moc_ranges::Memory;
 use std::alloc::Global;
 
@@ -68,10 +68,11 @@ pub(crate) fn observe(
 {
     match copy_all(slots, copies) {
         Ok(()) => {
-            // The two calls only make their contracts available to the proof: the commands are valid, and a query has
-            // the same replies on all sets with these parts.
+            // The three calls only make their contracts available to the proof: the commands are valid, and a query has
+            // the same replies on all sets with these parts, and leaves the set unchanged.
             batch.commands();
             batches_are_local();
+            queries_leave_the_set();
             end_all(table, seat, batch, copies, slots);
             Ok(())
         }

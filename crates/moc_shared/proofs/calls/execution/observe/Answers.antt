@@ -26,4 +26,4 @@ end_all-requires-clause-edited c =
     local_batch c.args.batch.now c.batches_are_local.ensures c.commands.ensures.some c.commands.ensures.valid in
     leaves c.args.batch.now c.args.slots.now c.copy_all.new.copies c.copy_all.ensures.long c.requires.held.own
     c.requires.held.footprint
-    c.in-Ok.ensures.copied c.requires.query local
+    c.in-Ok.ensures.copied c.requires.query local c.queries_leave_the_set.ensures
