@@ -3,10 +3,11 @@
 
 usage: tests/soak.py MINUTES [SEED]
 
-`run` and `crew 1` answer a script alike. `play` gives the same answers if each line is begun, takes its parts, edits and gives each part,
-and ends. A coverage is unchanged after a conversion from ASCII to any format and back, except that a format may state no order. The commands
-and the formats are those of the help of `run` and `convert`. CI does not run this script. It prints its seed, each difference, and at the
-end `N passed, M failed`. The environment variable MOC has the path of the program; the default is the program of the checkout."""
+`run` and `crew 1` answer a script alike. `play` gives the same answers if each line is begun, takes its parts, edits and gives each
+part, and ends. A coverage is unchanged after a conversion from ASCII to any format and back, except that a format may state no order.
+The commands and the formats are those of the help of `run` and `convert`. CI does not run this script. It prints its seed, each
+difference, and at the end `N passed, M failed`. The environment variable MOC has the path of the program; the default is the program of
+the checkout."""
 from __future__ import annotations
 
 import functools
@@ -145,7 +146,6 @@ def check_text(tally: Tally, rng: random.Random) -> None:
         states_order = run_program(["describe", name], "\n".join(other))[0] != "deepest none"
         expected = ascii_text if states_order else [STATED_ORDER.sub("", line) for line in ascii_text]
         tally.check(back == expected, f"the coverage {text}\n{ascii_text}\n{name}: {other}\nback: {back}")
-
 
 
 def main() -> int:

@@ -5,7 +5,8 @@ usage: web/bundle.py MODULE OUTPUT
 
 The module is compressed by gzip and encoded as base64url. The scripts are concatenated in the order of their imports,
 without the lines of imports and the keyword `export`. The script of the worker is a separate bundle, which the page
-starts. The table of commands is that of `docs/SCRIPTS.md`. The security policy of the page has the digests of its style and its script, and blocks all requests.
+starts. The table of commands is that of `docs/SCRIPTS.md`. The security policy of the page has the digests of its style
+and its script, and blocks all requests.
 
 A script may only have imports of names from files next to it, and one name in each declaration at its top level. The
 tool reports an error if a script has another import, if an imported name is not exported, or if a name is declared

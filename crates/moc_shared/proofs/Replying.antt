@@ -1,5 +1,5 @@
 -- The results of `prepare_changes` and of a query are the effect of the batch.
-use Rattle.std.proofs.Common.{◌≡◌, ℕ, zero, suc, ◌<◌, ◌/◌, ◌&&◌, ◌||◌, Bool, true, false, true≢false, nat_eq, List, []}
+use Rattle.std.proofs.Common.{◌≡◌, ℕ, zero, suc, ◌<◌, ◌/◌, ◌&&◌, Bool, true, false, true≢false, nat_eq, List, []}
 use Rattle.std.proofs.Common.{◌∷◌, length, refl, sym, ap, ◌∙◌, subst, inl, inr, arith, Option, Some, None, is_some}
 use Rattle.std.proofs.Common.{get_or, eq-eqb, ne_eqb, Contains}
 use native.Mathlib.Decide.{ℕ_discrete}
