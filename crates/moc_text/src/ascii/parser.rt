@@ -67,12 +67,13 @@ impl AsciiParser {
     /// Parses the next segment of the text, which can have any length and end anywhere.
     ///
     /// # Errors
-    /// Fails with the errors of [`read_ascii`](crate::read_ascii) as soon as an invalid word is complete. Positions count
-    /// the bytes of the whole text. Fails with `Memory` if an allocation fails, and if the text has more than
+    /// Fails with the errors of [`read_ascii`](crate::read_ascii) as soon as an invalid word is complete. Positions are
+    /// offsets in the whole text. Fails with `Memory` if an allocation fails, and if the text has more than
     /// `usize::MAX` bytes. After an error, each later call fails with the same error.
     ///
     /// # Complexity
-    /// Linear in the segment. A segment without a separator is only stored. The cells are added as by `read_ascii`.
+    /// Linear in the bytes of all segments together. A segment without a separator is only stored. The cells are added
+    /// as by `read_ascii`.
     ///
     /// # Memory
     /// Proportional to the cells that are new in the set and to the longest word.
@@ -80,12 +81,13 @@ impl AsciiParser {
     /// # Source
     /// MOC 2.0, ASCII serialization.
     pub fn push(&mut self, bytes: &[u8]) -> Result<(), TextError>
-        // On success, the parsed text is longer by the segment. An error is the first one of the text, whatever follows.
+        // On success, the segment is appended to the parsed text. An error is the first one of the text, whatever bytes
+        // follow.
         ensures parsed { (text : List ℕ) → HasParsed text self.old → MatchResult result
             (λ _. HasParsed (text ++ bytes.now) self.new)
             (λ e. (e ≡ TextError.Memory) ⊎ ((rest : List ℕ) → IsFirstError (text ++ bytes.now ++ rest) e)) }
 
-        // An error lasts.
+        // After an error, each later call returns this error.
         ensures failed { IfErr result (λ e. HasFailed e self.new) }
         ensures again { (e : TextError) → HasFailed e self.old → result ≡ Err e }
     {
@@ -101,7 +103,7 @@ impl AsciiParser {
     ///
     /// # Errors
     /// Fails with the errors of [`read_ascii`](crate::read_ascii) if the last word is invalid, and with `Memory` if an
-    /// allocation fails. After a failed `push`, fails with the same error.
+    /// allocation fails. If a `push` failed, fails with the error of the `push`.
     ///
     /// # Complexity
     /// Linear in the last word and in the ranges of the set. Cells that are not sorted are merged as by `read_ascii`.

@@ -64,12 +64,13 @@ impl UniqParser {
     /// Parses the next segment of the text, which can have any length and end anywhere.
     ///
     /// # Errors
-    /// Fails with the errors of [`read_uniq`](crate::read_uniq) as soon as an invalid line is complete. Lines count from
-    /// the beginning of the whole text. Fails with `Memory` if an allocation fails, and if a number of a line may exceed
-    /// `usize::MAX`. After an error, each later call fails with the same error.
+    /// Fails with the errors of [`read_uniq`](crate::read_uniq) as soon as an invalid line is complete. Lines are
+    /// counted from 1 in the whole text. Fails with `Memory` if an allocation fails, and if the number of a line may
+    /// exceed `usize::MAX`. After an error, each later call fails with the same error.
     ///
     /// # Complexity
-    /// Linear in the segment. A segment without a line feed is only stored. The cells are added as by `read_uniq`.
+    /// Linear in the bytes of all segments together. A segment without a line feed is only stored. The cells are added
+    /// as by `read_uniq`.
     ///
     /// # Memory
     /// Proportional to the cells that are new in the set and to the longest line.
@@ -77,12 +78,13 @@ impl UniqParser {
     /// # Source
     /// NUNIQ numbers are defined in MOC 2.0.
     pub fn push(&mut self, bytes: &[u8]) -> Result<(), UniqError>
-        // On success, the parsed text is longer by the segment. An error is the first one of the text, whatever follows.
+        // On success, the segment is appended to the parsed text. An error is the first one of the text, whatever bytes
+        // follow.
         ensures parsed { (text : List ℕ) → HasParsedUniq text self.old → MatchResult result
             (λ _. HasParsedUniq (text ++ bytes.now) self.new)
             (λ e. (e ≡ UniqError.Memory) ⊎ ((rest : List ℕ) → uniq_error (text ++ bytes.now ++ rest) ≡ Some e)) }
 
-        // An error lasts.
+        // After an error, each later call returns this error.
         ensures failed { IfErr result (λ e. HasFailedUniq e self.new) }
         ensures again { (e : UniqError) → HasFailedUniq e self.old → result ≡ Err e }
     {
@@ -98,7 +100,7 @@ impl UniqParser {
     ///
     /// # Errors
     /// Fails with the errors of [`read_uniq`](crate::read_uniq) if the last line is invalid, and with `Memory` if an
-    /// allocation fails. After a failed `push`, fails with the same error.
+    /// allocation fails. If a `push` failed, fails with the error of the `push`.
     ///
     /// # Complexity
     /// Linear in the last line and in the ranges of the set. Cells that are not sorted are merged as by `read_uniq`.
