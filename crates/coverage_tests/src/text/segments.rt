@@ -1,3 +1,5 @@
+ghost use Rattle.std.specs.Prelude.{◌<◌};
+
 use super::every_second;
 use moc_ranges::Coverage;
 use moc_sphere::Order;
@@ -9,7 +11,9 @@ use std::process::Abort;
 type AsciiResult = Result<(Coverage, Option<Order>), TextError>;
 
 /// Parses a text in segments of a length.
-fn ascii_in_segments(alloc: Global, text: &[u8], len: usize) -> AsciiResult {
+fn ascii_in_segments(alloc: Global, text: &[u8], len: usize) -> AsciiResult
+    requires { 0 < len }
+{
     let mut parser = AsciiParser::new(alloc);
     for segment in text.chunks(len) {
         parser.push(segment)?;
@@ -17,9 +21,8 @@ fn ascii_in_segments(alloc: Global, text: &[u8], len: usize) -> AsciiResult {
     parser.finish()
 }
 
-/// Parses a text in two segments, the first of which has a length.
-fn ascii_in_two(alloc: Global, text: &[u8], len: usize) -> AsciiResult {
-    let (front, back) = text.split_at(len);
+/// Parses a text in two segments.
+fn ascii_in_two(alloc: Global, front: &[u8], back: &[u8]) -> AsciiResult {
     let mut parser = AsciiParser::new(alloc);
     parser.push(front)?;
     parser.push(back)?;
@@ -43,7 +46,8 @@ fn is_read_in_segments(rt: &impl Abort, alloc: Global, text: &str) {
     let bytes = text.as_bytes();
     let whole = read_ascii(alloc, bytes);
     for len in 0..bytes.len() + 1 {
-        are_equal(rt, text, &ascii_in_two(alloc, bytes, len), &whole);
+        let (front, back) = bytes.split_at(len);
+        are_equal(rt, text, &ascii_in_two(alloc, front, back), &whole);
         are_equal(rt, text, &ascii_in_segments(alloc, bytes, len + 1), &whole);
     }
 }
@@ -123,7 +127,9 @@ fn a_long_ascii_text_in_segments(rt: HostRuntime) {
 }
 
 /// Parses a NUNIQ list in segments of a length.
-fn uniq_in_segments(alloc: Global, text: &[u8], len: usize) -> Result<Coverage, UniqError> {
+fn uniq_in_segments(alloc: Global, text: &[u8], len: usize) -> Result<Coverage, UniqError>
+    requires { 0 < len }
+{
     let mut parser = UniqParser::new(alloc);
     for segment in text.chunks(len) {
         parser.push(segment)?;
@@ -131,9 +137,8 @@ fn uniq_in_segments(alloc: Global, text: &[u8], len: usize) -> Result<Coverage, 
     parser.finish()
 }
 
-/// Parses a NUNIQ list in two segments, the first of which has a length.
-fn uniq_in_two(alloc: Global, text: &[u8], len: usize) -> Result<Coverage, UniqError> {
-    let (front, back) = text.split_at(len);
+/// Parses a NUNIQ list in two segments.
+fn uniq_in_two(alloc: Global, front: &[u8], back: &[u8]) -> Result<Coverage, UniqError> {
     let mut parser = UniqParser::new(alloc);
     parser.push(front)?;
     parser.push(back)?;
@@ -159,7 +164,8 @@ fn is_list_read_in_segments(rt: &impl Abort, alloc: Global, text: &str) {
     let bytes = text.as_bytes();
     let whole = read_uniq(alloc, bytes);
     for len in 0..bytes.len() + 1 {
-        are_equal_sets(rt, text, &uniq_in_two(alloc, bytes, len), &whole);
+        let (front, back) = bytes.split_at(len);
+        are_equal_sets(rt, text, &uniq_in_two(alloc, front, back), &whole);
         are_equal_sets(rt, text, &uniq_in_segments(alloc, bytes, len + 1), &whole);
     }
 }
