@@ -2,7 +2,7 @@
 
 mod ascii;
 mod json;
-mod pieces;
+mod segments;
 mod uniq;
 
 use moc_ranges::Coverage;

@@ -5,14 +5,14 @@ pub mod Powers
 pub mod Held
 pub mod Scanning
 pub mod ReadWords
-pub mod AsciiPieces
+pub mod AsciiSegments
 pub mod SingleCell
 pub mod UniqueReading
 pub mod Represented
 pub mod Join
 pub mod Written
 pub mod UniqLines
-pub mod UniqPieces
+pub mod UniqSegments
 pub mod Deepest
 pub mod JsonOrders
 pub mod JsonMembers

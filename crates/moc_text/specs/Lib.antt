@@ -1,6 +1,6 @@
 pub mod Ascii
 pub mod Reading
-pub mod Pieces
+pub mod Parsers
 pub mod AsciiText
 pub mod Lines
 pub mod UniqList

@@ -2,9 +2,9 @@
 pub mod Scan
 pub mod Scanned
 pub mod AsciiReading
-pub mod AsciiPieces
+pub mod AsciiSegments
 pub mod AsciiWriting
 pub mod UniqReading
-pub mod UniqPieces
+pub mod UniqSegments
 pub mod JsonReading
 pub mod JsonWriting

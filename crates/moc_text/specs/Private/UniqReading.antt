@@ -23,7 +23,7 @@ pub record IsPart (bytes : List ℕ) (old : NumberSet) (rest : List ℕ) (new : 
   pub numbers : numbers_on (lines_of bytes) ≡ map uniq_of cells ++ numbers_on (lines_of rest)
   pub set_is : new ≡ set.union old (pixels_of cells)
 
--- Lines are parsed: the first has the number `first`, and the next one, at the front of the rest, has the number `line`.
+-- The lines before the rest are parsed. The first line has the number `first`, and the next one the number `line`.
 pub record AreLinesRead (first : ℕ) (bytes : List ℕ) (old : NumberSet) (line : ℕ) (rest : List ℕ) (new : NumberSet)
     : Type 0 where
   pub part : IsPart bytes old rest new

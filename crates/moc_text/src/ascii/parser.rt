@@ -1,9 +1,9 @@
-//! Parsing the ASCII format in pieces.
+//! Parsing the ASCII format in segments.
 ghost use Rattle.std.specs.Prelude.{◌≡◌, ◌++◌, ℕ, List, [], IfErr, IfSome, MatchResult, Err, ◌⊎◌};
 ghost use Rattle.moc_text.specs.Ascii.{Represents, IsFirstError};
 ghost use Rattle.moc_text.specs.Reading.{IsReadingOf};
-ghost use Rattle.moc_text.specs.Pieces.{HasParsed, HasFailed};
-ghost use Rattle.moc_text.specs.Private.AsciiPieces.{EndsBetweenWords};
+ghost use Rattle.moc_text.specs.Parsers.{HasParsed, HasFailed};
+ghost use Rattle.moc_text.specs.Private.AsciiSegments.{EndsBetweenWords};
 
 use crate::ascii::error::TextError;
 use crate::ascii::reading::Reading;
@@ -37,7 +37,7 @@ fn split_after_last_separator(bytes: &[u8]) -> (&[u8], &[u8])
     bytes.split_at(end)
 }
 
-/// A parser of the ASCII format that takes a text in pieces. A piece may end anywhere, also within a word.
+/// A parser of the ASCII format that takes a text in segments. A segment may end anywhere, also within a word.
 ///
 /// # Memory
 /// Proportional to the set and to the longest word, not to the text.
@@ -46,7 +46,7 @@ pub struct AsciiParser {
     reading: Reading,
     /// The bytes after the last separator: a word that may be incomplete.
     pending: Vec<u8>,
-    /// The number of bytes of all pieces so far.
+    /// The number of bytes of all segments so far.
     len: usize,
     error: Option<TextError>,
 }
@@ -64,15 +64,16 @@ impl AsciiParser {
         }
     }
 
-    /// Parses the next piece of the text. The pieces of a text can have any length.
+    /// Parses the next segment of the text, which can have any length and end anywhere.
     ///
     /// # Errors
-    /// Fails with the errors of [`read_ascii`](crate::read_ascii) as soon as an invalid word is complete. Positions count
-    /// the bytes of the whole text. Fails with `Memory` if an allocation fails, and if the text has more than
+    /// Fails with the errors of [`read_ascii`](crate::read_ascii) as soon as an invalid word is complete. Positions are
+    /// offsets in the whole text. Fails with `Memory` if an allocation fails, and if the text has more than
     /// `usize::MAX` bytes. After an error, each later call fails with the same error.
     ///
     /// # Complexity
-    /// Linear in the piece. A piece without a separator is only stored. The cells are added as by `read_ascii`.
+    /// Linear in the bytes of all segments together. A segment without a separator is only stored. The cells are added
+    /// as by `read_ascii`.
     ///
     /// # Memory
     /// Proportional to the cells that are new in the set and to the longest word.
@@ -80,19 +81,20 @@ impl AsciiParser {
     /// # Source
     /// MOC 2.0, ASCII serialization.
     pub fn push(&mut self, bytes: &[u8]) -> Result<(), TextError>
-        // On success, the parsed text is longer by the piece. An error is the first one of the text, whatever follows.
+        // On success, the segment is appended to the parsed text. An error is the first one of the text, whatever bytes
+        // follow.
         ensures parsed { (text : List ℕ) → HasParsed text self.old → MatchResult result
             (λ _. HasParsed (text ++ bytes.now) self.new)
             (λ e. (e ≡ TextError.Memory) ⊎ ((rest : List ℕ) → IsFirstError (text ++ bytes.now ++ rest) e)) }
 
-        // An error lasts.
+        // After an error, each later call returns this error.
         ensures failed { IfErr result (λ e. HasFailed e self.new) }
         ensures again { (e : TextError) → HasFailed e self.old → result ≡ Err e }
     {
         if let Some(error) = self.error {
             return Err(error);
         }
-        let result = self.push_piece(bytes);
+        let result = self.push_segment(bytes);
         self.error = result.err();
         result
     }
@@ -101,7 +103,7 @@ impl AsciiParser {
     ///
     /// # Errors
     /// Fails with the errors of [`read_ascii`](crate::read_ascii) if the last word is invalid, and with `Memory` if an
-    /// allocation fails. After a failed `push`, fails with the same error.
+    /// allocation fails. If a `push` failed, fails with the error of the `push`.
     ///
     /// # Complexity
     /// Linear in the last word and in the ranges of the set. Cells that are not sorted are merged as by `read_ascii`.
@@ -124,8 +126,8 @@ impl AsciiParser {
         Ok((set, reading.moc_order))
     }
 
-    /// Parses the next piece, if no error occurred before.
-    fn push_piece(&mut self, bytes: &[u8]) -> Result<(), TextError>
+    /// Parses the next segment, if no error occurred before.
+    fn push_segment(&mut self, bytes: &[u8]) -> Result<(), TextError>
         ensures { (text : List ℕ) → HasParsed text self.old → MatchResult result
             (λ _. HasParsed (text ++ bytes.now) self.new)
             (λ e. (e ≡ TextError.Memory) ⊎ ((rest : List ℕ) → IsFirstError (text ++ bytes.now ++ rest) e)) }

@@ -1,9 +1,9 @@
-//! Parsing NUNIQ lists in pieces.
+//! Parsing NUNIQ lists in segments.
 ghost use Rattle.std.specs.Prelude.{◌≡◌, ◌++◌, ℕ, List, [], IfErr, IfSome, MatchResult, Some, Err, ◌⊎◌};
 ghost use Rattle.moc_text.specs.Errors.{Fails};
 ghost use Rattle.moc_text.specs.UniqList.{RepresentsUniq, uniq_error};
-ghost use Rattle.moc_text.specs.Pieces.{HasParsedUniq, HasFailedUniq};
-ghost use Rattle.moc_text.specs.Private.UniqPieces.{EndsBetweenLines};
+ghost use Rattle.moc_text.specs.Parsers.{HasParsedUniq, HasFailedUniq};
+ghost use Rattle.moc_text.specs.Private.UniqSegments.{EndsBetweenLines};
 
 use super::{UniqError, read_lines};
 use moc_ranges::{Coverage, CoverageBuilder};
@@ -34,7 +34,7 @@ fn split_after_last_line(bytes: &[u8]) -> (&[u8], &[u8])
     bytes.split_at(end)
 }
 
-/// A parser of NUNIQ lists that takes a text in pieces. A piece may end anywhere, also within a number.
+/// A parser of NUNIQ lists that takes a text in segments. A segment may end anywhere, also within a number.
 ///
 /// # Memory
 /// Proportional to the set and to the longest line, not to the text.
@@ -61,15 +61,16 @@ impl UniqParser {
         }
     }
 
-    /// Parses the next piece of the text. The pieces of a text can have any length.
+    /// Parses the next segment of the text, which can have any length and end anywhere.
     ///
     /// # Errors
-    /// Fails with the errors of [`read_uniq`](crate::read_uniq) as soon as an invalid line is complete. Lines count from
-    /// the beginning of the whole text. Fails with `Memory` if an allocation fails, and if a number of a line may exceed
-    /// `usize::MAX`. After an error, each later call fails with the same error.
+    /// Fails with the errors of [`read_uniq`](crate::read_uniq) as soon as an invalid line is complete. Lines are
+    /// counted from 1 in the whole text. Fails with `Memory` if an allocation fails, and if the number of a line may
+    /// exceed `usize::MAX`. After an error, each later call fails with the same error.
     ///
     /// # Complexity
-    /// Linear in the piece. A piece without a line feed is only stored. The cells are added as by `read_uniq`.
+    /// Linear in the bytes of all segments together. A segment without a line feed is only stored. The cells are added
+    /// as by `read_uniq`.
     ///
     /// # Memory
     /// Proportional to the cells that are new in the set and to the longest line.
@@ -77,19 +78,20 @@ impl UniqParser {
     /// # Source
     /// NUNIQ numbers are defined in MOC 2.0.
     pub fn push(&mut self, bytes: &[u8]) -> Result<(), UniqError>
-        // On success, the parsed text is longer by the piece. An error is the first one of the text, whatever follows.
+        // On success, the segment is appended to the parsed text. An error is the first one of the text, whatever bytes
+        // follow.
         ensures parsed { (text : List ℕ) → HasParsedUniq text self.old → MatchResult result
             (λ _. HasParsedUniq (text ++ bytes.now) self.new)
             (λ e. (e ≡ UniqError.Memory) ⊎ ((rest : List ℕ) → uniq_error (text ++ bytes.now ++ rest) ≡ Some e)) }
 
-        // An error lasts.
+        // After an error, each later call returns this error.
         ensures failed { IfErr result (λ e. HasFailedUniq e self.new) }
         ensures again { (e : UniqError) → HasFailedUniq e self.old → result ≡ Err e }
     {
         if let Some(error) = self.error {
             return Err(error);
         }
-        let result = self.push_piece(bytes);
+        let result = self.push_segment(bytes);
         self.error = result.err();
         result
     }
@@ -98,7 +100,7 @@ impl UniqParser {
     ///
     /// # Errors
     /// Fails with the errors of [`read_uniq`](crate::read_uniq) if the last line is invalid, and with `Memory` if an
-    /// allocation fails. After a failed `push`, fails with the same error.
+    /// allocation fails. If a `push` failed, fails with the error of the `push`.
     ///
     /// # Complexity
     /// Linear in the last line and in the ranges of the set. Cells that are not sorted are merged as by `read_uniq`.
@@ -119,8 +121,8 @@ impl UniqParser {
         Ok(cells.build()?)
     }
 
-    /// Parses the next piece, if no error occurred before.
-    fn push_piece(&mut self, bytes: &[u8]) -> Result<(), UniqError>
+    /// Parses the next segment, if no error occurred before.
+    fn push_segment(&mut self, bytes: &[u8]) -> Result<(), UniqError>
         ensures { (text : List ℕ) → HasParsedUniq text self.old → MatchResult result
             (λ _. HasParsedUniq (text ++ bytes.now) self.new)
             (λ e. (e ≡ UniqError.Memory) ⊎ ((rest : List ℕ) → uniq_error (text ++ bytes.now ++ rest) ≡ Some e)) }

@@ -1,7 +1,7 @@
 use Rattle.std.proofs.Common.{◌+◌, sym, ◌∙◌, ◌++◌, ℕ, List, subst}
 use Rattle.std.proofs.lemmas.List.{take-append-drop}
-use Rattle.moc_text.specs.Private.AsciiPieces.{EndsBetweenWords}
-use Rattle.moc_text.proofs.AsciiPieces.{ends_at}
+use Rattle.moc_text.specs.Private.AsciiSegments.{EndsBetweenWords}
+use Rattle.moc_text.proofs.AsciiSegments.{ends_at}
 use Rattle.moc_text.proofs.ascii.parser.split_after_first_separator.Goals as goal
 
 pub returns-then-is_separator : goal.returns-then-is_separator

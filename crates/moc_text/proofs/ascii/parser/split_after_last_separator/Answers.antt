@@ -1,7 +1,7 @@
 use Rattle.std.proofs.Common.{rules, ◌≡◌, ◌<◌, ◌-◌, true, get_or, arith, sym, subst}
 use Rattle.moc_text.specs.Ascii.{is_separator}
-use Rattle.moc_text.specs.Private.AsciiPieces.{EndsBetweenWords}
-use Rattle.moc_text.proofs.AsciiPieces.{ends_by}
+use Rattle.moc_text.specs.Private.AsciiSegments.{EndsBetweenWords}
+use Rattle.moc_text.proofs.AsciiSegments.{ends_by}
 use Rattle.moc_text.proofs.ascii.parser.split_after_last_separator.Goals as goal
 use Rattle.moc_text.proofs.ascii.parser.split_after_last_separator.Goals.{then-loop-end-test+else-not-is_separator, else-loop-end-test}
 

@@ -1,8 +1,8 @@
 use Rattle.std.proofs.Common.{rules, ◌≡◌, true, get_or, ◌+◌, sym, ◌++◌, ℕ, List, subst}
 use Rattle.std.proofs.lemmas.List.{take-append-drop}
 use Rattle.moc_text.specs.Lines.{is_line_feed}
-use Rattle.moc_text.specs.Private.UniqPieces.{EndsBetweenLines}
-use Rattle.moc_text.proofs.UniqPieces.{ends_at}
+use Rattle.moc_text.specs.Private.UniqSegments.{EndsBetweenLines}
+use Rattle.moc_text.proofs.UniqSegments.{ends_at}
 use Rattle.moc_text.proofs.uniq.parser.split_after_first_line.Goals as goal
 
 pub returns-then-byte-eq10 : goal.returns-then-byte-eq10

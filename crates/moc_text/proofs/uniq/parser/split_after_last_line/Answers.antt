@@ -1,7 +1,7 @@
 use Rattle.std.proofs.Common.{rules, ◌≡◌, ◌<◌, ◌-◌, true, get_or, arith, sym, subst}
 use Rattle.moc_text.specs.Lines.{is_line_feed}
-use Rattle.moc_text.specs.Private.UniqPieces.{EndsBetweenLines}
-use Rattle.moc_text.proofs.UniqPieces.{ends_by}
+use Rattle.moc_text.specs.Private.UniqSegments.{EndsBetweenLines}
+use Rattle.moc_text.proofs.UniqSegments.{ends_by}
 use Rattle.moc_text.proofs.uniq.parser.split_after_last_line.Goals as goal
 use Rattle.moc_text.proofs.uniq.parser.split_after_last_line.Goals.{then-loop-end-test+else-bytes-end-ne10, else-loop-end-test}
 

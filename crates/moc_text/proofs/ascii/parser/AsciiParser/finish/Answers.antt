@@ -1,10 +1,10 @@
 use Rattle.std.proofs.Common.{◌≡◌, ◌<◌, ◌+◌, ◌^◌, ℕ, List, length, length-append, arith, sym, ap, subst}
 use Rattle.std.proofs.lemmas.Result.{err_from_is_err_and}
-use Rattle.moc_text.specs.Pieces.{HasParsed}
+use Rattle.moc_text.specs.Parsers.{HasParsed}
 use Rattle.moc_text.specs.Private.AsciiReading.{Progress}
 use Rattle.moc_text.proofs.ReadWords.{represents_at_end}
 use Rattle.moc_text.proofs.Represented.{reading_is, error_is_reading}
-use Rattle.moc_text.proofs.AsciiPieces.{progress_last}
+use Rattle.moc_text.proofs.AsciiSegments.{progress_last}
 use Rattle.moc_text.proofs.ascii.parser.AsciiParser.finish.Goals as goal
 use Rattle.moc_text.proofs.ascii.parser.AsciiParser.finish.Goals.{After-deref-2}
 

@@ -2,10 +2,10 @@ use Rattle.std.proofs.Common.{ℕ, List, [], sym, subst, ◌∙◌, inl, inr}
 use Rattle.std.specs.FinSet as set
 use Rattle.std.proofs.lemmas.Result.{err_from_is_err_and}
 use Rattle.moc_text.specs.UniqList.{uniq_error}
-use Rattle.moc_text.specs.Pieces.{HasParsedUniq}
+use Rattle.moc_text.specs.Parsers.{HasParsedUniq}
 use Rattle.moc_text.specs.Private.UniqReading.{AreLinesRead}
 use Rattle.moc_text.proofs.UniqLines.{lines_more, lines_represent_uniq}
-use Rattle.moc_text.proofs.UniqPieces.{lines_last}
+use Rattle.moc_text.proofs.UniqSegments.{lines_last}
 use Rattle.moc_text.proofs.uniq.parser.UniqParser.finish.Goals as goal
 use Rattle.moc_text.proofs.uniq.parser.UniqParser.finish.Goals.{After-deref}
 

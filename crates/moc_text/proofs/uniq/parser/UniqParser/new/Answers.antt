@@ -3,7 +3,7 @@ use Rattle.std.specs.FinSet as set
 use Rattle.moc_lists.specs.RangeList.{NumberSet}
 use Rattle.moc_text.specs.Private.UniqReading.{AreLinesRead}
 use Rattle.moc_text.proofs.UniqLines.{lines_start}
-use Rattle.moc_text.proofs.UniqPieces.{ends_empty}
+use Rattle.moc_text.proofs.UniqSegments.{ends_empty}
 use Rattle.moc_text.proofs.uniq.parser.UniqParser.new.Goals as goal
 
 pub returns : goal.returns

@@ -1,4 +1,4 @@
--- Parsing the ASCII format in pieces.
+-- Parsing the ASCII format in segments.
 use Rattle.std.proofs.Common.{◌≡◌, ℕ, ◌+◌, ◌-◌, ◌<◌, ◌≤◌, true, List, [], ◌∷◌, ◌++◌, length, get_or, take, Option, Result, Ok, Err, sym, ap, subst, ◌∙◌, arith, length-append, append_assoc, inl, inr}
 use Rattle.std.proofs.lemmas.Bool.{cases_lt}
 use Rattle.std.specs.Result.{MatchResult, result_err}
@@ -6,7 +6,7 @@ use Rattle.std.proofs.lemmas.List.{append-nil, take_more}
 use Rattle.moc_lists.specs.RangeList.{NumberSet}
 use Rattle.moc_text.specs.Ascii.{is_separator, Word, words, words_from, IsFirstError}
 use Rattle.moc_text.specs.Private.AsciiReading.{Progress}
-use Rattle.moc_text.specs.Private.AsciiPieces.{EndsBetweenWords, HasParsed}
+use Rattle.moc_text.specs.Private.AsciiSegments.{EndsBetweenWords, HasParsed}
 use Rattle.moc_text.specs.declared.ascii.error.TextError.{TextError}
 use Rattle.moc_text.specs.declared.ascii.parser.AsciiParser.{AsciiParser}
 use Rattle.moc_text.proofs.WordBoundaries.{words_around}
@@ -74,7 +74,7 @@ first_error_longer text rest f ends e = record {
   fault = e.fault;
 }
 
--- ---- the next piece
+-- ---- the next segment
 
 -- the pending bytes and the next bytes, up to a separator
 pub progress_pending : (text more : List ℕ) (p : AsciiParser) → HasParsed text p → Progress (text ++ more) (p.pending.items ++ more) p.reading.cells p.reading.order p.reading.moc_order
@@ -93,7 +93,7 @@ pub progress_last : (text : List ℕ) (p : AsciiParser) → HasParsed text p →
 progress_last text p h =
     subst (λ (t : List ℕ). Progress t p.pending.items p.reading.cells p.reading.order p.reading.moc_order) (sym h.parts) (progress_longer h.before p.pending.items p.reading.cells p.reading.order p.reading.moc_order h.ends h.read)
 
--- the parser keeps the error of a piece
+-- the parser keeps the error of a segment
 pub error_kept : (text : List ℕ) (p : AsciiParser) (Q : TextError → Type 0) (r : Result Unit TextError) (error : Option TextError) → error ≡ result_err r → MatchResult r (λ _. HasParsed text p) Q
     → MatchResult r (λ _. HasParsed text (record { reading = p.reading; pending = p.pending; len = p.len; error = error })) Q
 error_kept text p Q (Ok x) error is h = record { before = h.before; parts = h.parts; ends = h.ends; read = h.read; len_is = h.len_is; fits = h.fits; without_error = is }

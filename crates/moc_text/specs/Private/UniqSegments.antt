@@ -1,4 +1,4 @@
--- The progress of parsing a NUNIQ list in pieces.
+-- The progress of parsing a NUNIQ list in segments.
 use Rattle.std.specs.Prelude.{◌≡◌, ℕ, List, [], ◌++◌, None, Some}
 use Rattle.std.specs.FinSet as set
 use Rattle.moc_text.specs.Lines.{lines_of}

@@ -1,4 +1,4 @@
--- Parsing NUNIQ lists in pieces.
+-- Parsing NUNIQ lists in segments.
 use Rattle.std.proofs.Common.{◌≡◌, ℕ, ◌+◌, ◌-◌, ◌<◌, ◌≤◌, true, false, cond, List, [], ◌∷◌, ◌++◌, length, map, get_or, take, Option, None, Some, Result, Ok, Err, refl, sym, ap, subst, ◌∙◌, arith, length-append, append_assoc, inl, inr}
 use Rattle.std.specs.List.{onto_first}
 use Rattle.std.specs.Option.{option_or}
@@ -13,7 +13,7 @@ use Rattle.moc_ranges.specs.Errors.{first_error_of}
 use Rattle.moc_text.specs.Lines.{is_line_feed, lines_of}
 use Rattle.moc_text.specs.UniqList.{uniq_line_error, uniq_error, numbers_on}
 use Rattle.moc_text.specs.Private.UniqReading.{AreLinesRead}
-use Rattle.moc_text.specs.Private.UniqPieces.{EndsBetweenLines, HasParsedUniq}
+use Rattle.moc_text.specs.Private.UniqSegments.{EndsBetweenLines, HasParsedUniq}
 use Rattle.moc_text.specs.declared.uniq.UniqError.{UniqError}
 use Rattle.moc_text.specs.declared.uniq.parser.UniqParser.{UniqParser}
 
@@ -114,7 +114,7 @@ lines_longer first line text bytes start a ends r =
       within = omega (arith, r.within, length-append text bytes);
     }
 
--- ---- the next piece
+-- ---- the next segment
 
 -- the pending bytes and the next bytes, up to a line feed
 pub lines_pending : (text more : List ℕ) (p : UniqParser) → HasParsedUniq text p → AreLinesRead 1 (text ++ more) set.empty p.line (p.pending.items ++ more) p.cells
@@ -137,7 +137,7 @@ first_error_lasts front back text line bytes a e parts ends r fault = λ rest.
     ∙ ap (first_error_of uniq_line_error 1) (ends (back ++ rest))
     ∙ error_stays 1 (lines_of front) (lines_of (back ++ rest)) e (r.fault ∙ fault)
 
--- the parser keeps the error of a piece
+-- the parser keeps the error of a segment
 pub error_kept : (text : List ℕ) (p : UniqParser) (Q : UniqError → Type 0) (r : Result Unit UniqError) (error : Option UniqError) → error ≡ result_err r → MatchResult r (λ _. HasParsedUniq text p) Q
     → MatchResult r (λ _. HasParsedUniq text (record { cells = p.cells; line = p.line; pending = p.pending; error = error })) Q
 error_kept text p Q (Ok x) error is h = record { before = h.before; parts = h.parts; ends = h.ends; read = h.read; without_error = is }

@@ -1,4 +1,4 @@
--- The progress of parsing the ASCII format in pieces.
+-- The progress of parsing the ASCII format in segments.
 use Rattle.std.specs.Prelude.{◌≡◌, ℕ, ◌+◌, ◌<◌, ◌^◌, List, [], ◌++◌, length, None, Some}
 use Rattle.moc_text.specs.Ascii.{words_from}
 use Rattle.moc_text.specs.Private.AsciiReading.{Progress}

@@ -1,3 +1,5 @@
+ghost use Rattle.std.specs.Prelude.{◌<◌};
+
 use super::every_second;
 use moc_ranges::Coverage;
 use moc_sphere::Order;
@@ -8,18 +10,19 @@ use std::process::Abort;
 /// What parsing an ASCII text returns.
 type AsciiResult = Result<(Coverage, Option<Order>), TextError>;
 
-/// Parses a text in pieces of a length.
-fn ascii_in_pieces(alloc: Global, text: &[u8], len: usize) -> AsciiResult {
+/// Parses a text in segments of a length.
+fn ascii_in_segments(alloc: Global, text: &[u8], len: usize) -> AsciiResult
+    requires { 0 < len }
+{
     let mut parser = AsciiParser::new(alloc);
-    for piece in text.chunks(len) {
-        parser.push(piece)?;
+    for segment in text.chunks(len) {
+        parser.push(segment)?;
     }
     parser.finish()
 }
 
-/// Parses a text in two pieces, the first of which has a length.
-fn ascii_in_two(alloc: Global, text: &[u8], len: usize) -> AsciiResult {
-    let (front, back) = text.split_at(len);
+/// Parses a text in two segments.
+fn ascii_in_two(alloc: Global, front: &[u8], back: &[u8]) -> AsciiResult {
     let mut parser = AsciiParser::new(alloc);
     parser.push(front)?;
     parser.push(back)?;
@@ -38,18 +41,19 @@ fn are_equal(rt: &impl Abort, text: &str, one: &AsciiResult, other: &AsciiResult
     }
 }
 
-/// Checks that every cut of a text, and pieces of each length, are parsed as the whole text.
-fn is_read_in_pieces(rt: &impl Abort, alloc: Global, text: &str) {
+/// Checks that every cut of a text, and segments of each length, are parsed as the whole text.
+fn is_read_in_segments(rt: &impl Abort, alloc: Global, text: &str) {
     let bytes = text.as_bytes();
     let whole = read_ascii(alloc, bytes);
     for len in 0..bytes.len() + 1 {
-        are_equal(rt, text, &ascii_in_two(alloc, bytes, len), &whole);
-        are_equal(rt, text, &ascii_in_pieces(alloc, bytes, len + 1), &whole);
+        let (front, back) = bytes.split_at(len);
+        are_equal(rt, text, &ascii_in_two(alloc, front, back), &whole);
+        are_equal(rt, text, &ascii_in_segments(alloc, bytes, len + 1), &whole);
     }
 }
 
 #[test]
-fn ascii_texts_in_pieces(rt: HostRuntime) {
+fn ascii_texts_in_segments(rt: HostRuntime) {
     for text in [
         "",
         " ",
@@ -60,13 +64,13 @@ fn ascii_texts_in_pieces(rt: HostRuntime) {
         "2/0-3,1/1 1/2,3",
         "01/002 000000000000000000000000001/3",
     ] {
-        is_read_in_pieces(&rt, rt.alloc(), text);
+        is_read_in_segments(&rt, rt.alloc(), text);
     }
 }
 
 // Every error, in the first word, in a later one, and in the last one, which no separator follows.
 #[test]
-fn ascii_errors_in_pieces(rt: HostRuntime) {
+fn ascii_errors_in_segments(rt: HostRuntime) {
     for text in [
         "x",
         "1/x 2/",
@@ -83,11 +87,11 @@ fn ascii_errors_in_pieces(rt: HostRuntime) {
         "1/2;1/3 x",
         "1/48,x",
     ] {
-        is_read_in_pieces(&rt, rt.alloc(), text);
+        is_read_in_segments(&rt, rt.alloc(), text);
     }
 }
 
-// After an error, each call fails with this error, also if the next piece is valid.
+// After an error, each call fails with this error, also if the next segment is valid.
 #[test]
 fn an_ascii_error_lasts(rt: HostRuntime) {
     let mut parser = AsciiParser::new(rt.alloc());
@@ -109,31 +113,32 @@ fn an_ascii_error_at_the_end(rt: HostRuntime) {
 
 // No two of these cells touch, and the second half of the text precedes the first half.
 #[test]
-fn a_long_ascii_text_in_pieces(rt: HostRuntime) {
+fn a_long_ascii_text_in_segments(rt: HostRuntime) {
     let alloc = rt.alloc();
     let mut text = every_second(&rt, alloc, "29/", 3000, " ", ",");
     text.push_str(every_second(&rt, alloc, "", 0, "\n", "").as_str())
         .expect(&rt, "memory");
     for len in [1, 2, 7, 4096] {
-        let (set, order) = ascii_in_pieces(alloc, text.as_bytes(), len).expect(&rt, "a set");
+        let (set, order) = ascii_in_segments(alloc, text.as_bytes(), len).expect(&rt, "a set");
         assert_eq!(rt; (set.count(), order), (3000, Order::new(29)));
         assert!(rt; set.contains(0) && set.contains(3000) && set.contains(5998));
         assert!(rt; !set.contains(2999) && !set.contains(5999));
     }
 }
 
-/// Parses a NUNIQ list in pieces of a length.
-fn uniq_in_pieces(alloc: Global, text: &[u8], len: usize) -> Result<Coverage, UniqError> {
+/// Parses a NUNIQ list in segments of a length.
+fn uniq_in_segments(alloc: Global, text: &[u8], len: usize) -> Result<Coverage, UniqError>
+    requires { 0 < len }
+{
     let mut parser = UniqParser::new(alloc);
-    for piece in text.chunks(len) {
-        parser.push(piece)?;
+    for segment in text.chunks(len) {
+        parser.push(segment)?;
     }
     parser.finish()
 }
 
-/// Parses a NUNIQ list in two pieces, the first of which has a length.
-fn uniq_in_two(alloc: Global, text: &[u8], len: usize) -> Result<Coverage, UniqError> {
-    let (front, back) = text.split_at(len);
+/// Parses a NUNIQ list in two segments.
+fn uniq_in_two(alloc: Global, front: &[u8], back: &[u8]) -> Result<Coverage, UniqError> {
     let mut parser = UniqParser::new(alloc);
     parser.push(front)?;
     parser.push(back)?;
@@ -154,18 +159,19 @@ fn are_equal_sets(
     }
 }
 
-/// Checks that every cut of a list, and pieces of each length, are parsed as the whole list.
-fn is_list_read_in_pieces(rt: &impl Abort, alloc: Global, text: &str) {
+/// Checks that every cut of a list, and segments of each length, are parsed as the whole list.
+fn is_list_read_in_segments(rt: &impl Abort, alloc: Global, text: &str) {
     let bytes = text.as_bytes();
     let whole = read_uniq(alloc, bytes);
     for len in 0..bytes.len() + 1 {
-        are_equal_sets(rt, text, &uniq_in_two(alloc, bytes, len), &whole);
-        are_equal_sets(rt, text, &uniq_in_pieces(alloc, bytes, len + 1), &whole);
+        let (front, back) = bytes.split_at(len);
+        are_equal_sets(rt, text, &uniq_in_two(alloc, front, back), &whole);
+        are_equal_sets(rt, text, &uniq_in_segments(alloc, bytes, len + 1), &whole);
     }
 }
 
 #[test]
-fn lists_in_pieces(rt: HostRuntime) {
+fn lists_in_segments(rt: HostRuntime) {
     for text in [
         "",
         "\n",
@@ -173,13 +179,13 @@ fn lists_in_pieces(rt: HostRuntime) {
         "16\n17\n\n18\n19\n\n",
         "4611686018427387903\n0000000000000000000000000004\n4",
     ] {
-        is_list_read_in_pieces(&rt, rt.alloc(), text);
+        is_list_read_in_segments(&rt, rt.alloc(), text);
     }
 }
 
 // Both errors, on the first line, on a later one, and on the last one, which no line feed follows.
 #[test]
-fn errors_of_lists_in_pieces(rt: HostRuntime) {
+fn errors_of_lists_in_segments(rt: HostRuntime) {
     for text in [
         "x",
         "x\n4\n3",
@@ -190,11 +196,11 @@ fn errors_of_lists_in_pieces(rt: HostRuntime) {
         "4611686018427387904",
         "16\n17\n4611686018427387904\n18\n",
     ] {
-        is_list_read_in_pieces(&rt, rt.alloc(), text);
+        is_list_read_in_segments(&rt, rt.alloc(), text);
     }
 }
 
-// After an error, each call fails with this error, also if the next piece is valid.
+// After an error, each call fails with this error, also if the next segment is valid.
 #[test]
 fn an_error_of_a_list_lasts(rt: HostRuntime) {
     let mut parser = UniqParser::new(rt.alloc());
@@ -207,11 +213,11 @@ fn an_error_of_a_list_lasts(rt: HostRuntime) {
 
 // 4^30 is the NUNIQ number of the first cell of order 29.
 #[test]
-fn a_long_list_in_pieces(rt: HostRuntime) {
+fn a_long_list_in_segments(rt: HostRuntime) {
     let alloc = rt.alloc();
     let text = every_second(&rt, alloc, "", 1152921504606846976, "\n", "");
     for len in [1, 2, 7, 4096] {
-        let set = uniq_in_pieces(alloc, text.as_bytes(), len).expect(&rt, "a set");
+        let set = uniq_in_segments(alloc, text.as_bytes(), len).expect(&rt, "a set");
         assert_eq!(rt; set.count(), 1500);
         assert!(rt; set.contains(0) && set.contains(2998) && !set.contains(1));
     }
