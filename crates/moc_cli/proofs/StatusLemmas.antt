@@ -9,10 +9,7 @@ use Rattle.moc_conversion.specs.declared.notes.Notes.{Notes}
 use Rattle.moc_conversion.specs.declared.error.InputError.TheVariants as input
 use Rattle.clap.specs.Words.{Text}
 use Rattle.clap.specs.declared.parser.matches.ArgMatches.{ArgMatches}
-use Rattle.moc_cli.specs.Actions.{ActionEnds}
-use Rattle.moc_cli.specs.Requests.{RequestAction}
 use Rattle.moc_cli.specs.Statuses.{code_of, error_text, status_of, status_of_input}
-use Rattle.moc_cli.specs.declared.action.Action.{Action}
 use Rattle.moc_cli.specs.Endings.{AcceptsSome, RequestHelp, BlamesFailed, CanEndWith, ReportsUsageError, RunsOutOfMemory, ReportsErrorOf, Succeeds, WritesUnlessFailed}
 use Rattle.moc_cli.specs.Private.Ending.{status_of_result}
 use Rattle.moc_cli.specs.Private.Matches.{AreParsedAs, MatchedEnd}
