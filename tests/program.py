@@ -263,9 +263,8 @@ VALID_INPUTS: list[tuple[Arguments, bytes, bytes]] = [
     (["convert", "json", "uniq"], b'{"0":[3],"2":[5]}', b"7\n69\n"),
     (["convert", "ascii", "json"], b"2/0-3", b'{"1":[0],"2":[]}\n'),
     (["convert", "uniq", "ascii"], b"16\n17\n\n18\n19", b"0/0\n"),
-    (["check", "json"], b'{"0":[3],"2":[5]}', b"ok\n"),
-    (["check", "auto"], b'\r\n\t {"0":[3],"2":[5]}', b"ok\n"),
-    (["check", "auto"], b"", b"ok\n"),
+    (["check", "json"], b'{"0":[3],"2":[5]}\n', b"ok\n"),
+    (["check", "auto"], b'\r\n\t {"0":[3],"2":[5]}\n', b"ok\n"),
     (["combine", "union", "auto"], b'0/0;{"0":[1],"3":[]}', b"0/0-1 3/\n"),
     (["combine", "union", "auto"], b'{"0":[1],"3":[]};0/0', b'{"0":[0,1],"3":[]}\n'),
     (["degrade", "0", "auto"], b'{"1":[5],"4":[]}', b'{"0":[1]}\n'),
@@ -293,6 +292,21 @@ VALID_INPUTS: list[tuple[Arguments, bytes, bytes]] = [
     (["renumber", "nest", "ring", "1"], b"0\n3\n48\n\n\t18 \r\n1 2\n-1\n47", RING_ANSWERS),
     (["renumber", "uniq", "nest", "3"], b"266\n63\n3\n", b"10\nfault OtherOrder\nfault NotUniq\n"),
     (["renumber", "ring", "uniq", "1"], b"0\n27\n48", b"19\n34\nfault RingTooLarge\n"),
+]
+ONE_TEXT = b"note: only one text; a semicolon separates texts\n"
+INCOMPLETE = b"note: the last line has no line feed; the text may be incomplete\n"
+# Arguments, standard input, output and notes of runs that succeed with notes on standard error. Each allocation of these runs also fails
+# in turn.
+NOTED_INPUTS: list[tuple[Arguments, bytes, bytes, bytes]] = [
+    (["check", "auto"], b"", b"ok\n", b"note: the input is empty\n"),
+    (["check", "ascii"], b"1/0-3\n2/7", b"ok\n", INCOMPLETE),
+    (["check", "json"], b'{"0":[3]}', b"ok\n", INCOMPLETE),
+    (["check", "uniq"], b"4\n5", b"ok\n", INCOMPLETE),
+    (["combine", "union", "ascii"], b"0/3 1/2; \n", b"0/3 1/2\n", ONE_TEXT),
+    (["combine", "union", "auto"], b'{"0":[3]}', b'{"0":[3]}\n', ONE_TEXT),
+    (["combine", "union", "ascii"], b"", b"\n", ONE_TEXT + b"note: text 1 has no cells\n"),
+    (["combine", "union", "ascii"], b"0/3;;0/1;,\n;", b"0/1 3\n", b"note: text 2 has no cells\n"),
+    (["combine", "difference", "json"], b'{"0":[3]};{"0":[]};{}\n', b'{"0":[3]}\n', b"note: text 3 has no cells\n"),
 ]
 # Invalid command lines, and a part of the error message.
 INVALID_COMMAND_LINES: list[tuple[Arguments, bytes]] = [
@@ -383,7 +397,7 @@ HELP: list[tuple[Arguments, bytes]] = [
 # Subcommands that read an input, each with a valid one.
 READERS: list[tuple[Arguments, bytes]] = [
     (["run"], SCRIPT), (["play"], SCHEDULE), (["crew", "2"], CREW_SCRIPT), (["convert", "ascii", "json"], b"2/0-3"),
-    (["check", "ascii"], b"2/0-3"), (["describe", "ascii"], b"2/0-3"), (["combine", "union", "ascii"], b"2/0-3;0/1"),
+    (["check", "ascii"], b"2/0-3\n"), (["describe", "ascii"], b"2/0-3"), (["combine", "union", "ascii"], b"2/0-3;0/1"),
     (["draw", "ascii"], b"2/0-3"), (["degrade", "1", "ascii"], b"2/0-3"), (["complement", "ascii"], b"2/0-3"),
     (["renumber", "nest", "ring", "1"], b"0"),
 ]
@@ -416,6 +430,10 @@ def check_command_lines(tally: Tally) -> None:
     """Checks errors of values and texts, help texts, and invalid command lines."""
     for arguments, standard_input, error in INVALID_INPUTS:
         tally.check_equal(f"{arguments} on {standard_input[:20]!r}", run(arguments, standard_input), (1, b"", b"fault " + error + b"\n"))
+    for arguments, standard_input, output, notes in NOTED_INPUTS:
+        tally.check_equal(f"{arguments} on {standard_input[:20]!r}", run(arguments, standard_input), (0, output, notes))
+    for arguments, standard_input, output in VALID_INPUTS:
+        tally.check_equal(f"{arguments} on {standard_input[:20]!r}", run(arguments, standard_input), (0, output, b""))
     for arguments, part in HELP:
         status, output, errors = run(arguments)
         tally.check((status, errors) == (0, b"") and part in output, f"{arguments}: {(status, output, errors)}")
@@ -456,11 +474,14 @@ def check_limits(tally: Tally) -> None:
     """Checks inputs and lines of the maximal length, and numbers of many digits."""
     blanks = b" " * CONVERSION_LIMIT
     tally.check_equal("the longest text to convert", run(["convert", "ascii", "ascii"], blanks), (0, b"\n", b""))
-    tally.check_equal("a longer text", run(["check", "ascii"], blanks + b" "), (0, b"ok\n", b""))
+    tally.check_equal("a longer text", run(["check", "ascii"], blanks + b" "), (0, b"ok\n", INCOMPLETE))
     tally.check_equal("longer texts, and many blanks", run(["combine", "union", "ascii"], blanks + b"0/1;" + blanks + b"0/0;0/2;" + blanks),
                       (0, b"0/0-2\n", b""))
     check_long_texts(tally)
-    tally.check_equal("a million empty texts", run(["combine", "symmetric", "ascii"], b";" * LINE_LIMIT + b"0/3"), (0, b"0/3\n", b""))
+    tally.check_equal("a million empty texts", run(["combine", "symmetric", "ascii"], b";" * LINE_LIMIT + b"0/3"),
+                      (0, b"0/3\n", b"note: text 1 has no cells\n"))
+    tally.check_equal("a million texts, and one without cells", run(["combine", "union", "ascii"], b"0/3;" * LINE_LIMIT + b"\n;0/3"),
+                      (0, b"0/3\n", b"note: text 1048577 has no cells\n"))
     tally.check_equal("the longest line", run(["run"], b" " * LINE_LIMIT + b"\nread"), (0, b"cover\n", b""))
     lines = b"near 0 " + NINES + b"\nnear " + NINES + b" 0\nadd 0/" + NINES + b"\nadd " + NINES + b"/0\n"
     tally.check_equal("numbers of a thousand nines", run(["run"], lines),
@@ -511,6 +532,10 @@ def check_failing_devices(tally: Tally) -> None:
         with open("/dev/full", "wb") as full:
             result = run(arguments, b"3", stderr=full)
         tally.check_equal(f"{arguments} with a full device as standard error", result, (status, b"", None))
+    for arguments, standard_input, output, _ in NOTED_INPUTS:
+        with open("/dev/full", "wb") as full:
+            result = run(arguments, standard_input, stderr=full)
+        tally.check_equal(f"{arguments} with a full device as standard error", result, (0, output, None))
 
 
 def limit_file_size() -> None:
@@ -658,6 +683,8 @@ def check_answers_without_memory(failing: FailingAllocations) -> None:
     for arguments, standard_input, answers in VALID_INPUTS:
         failures: set[Result] = {(3, prefix, b"fault Memory\n") for prefix in prefixes(answers)}
         failing.check_failure(f"{arguments}", arguments, standard_input, (0, answers, b""), failures)
+    for arguments, standard_input, output, notes in NOTED_INPUTS:
+        failing.check_failure(f"{arguments}", arguments, standard_input, (0, output, notes), {OUT_OF_MEMORY}, OUT_OF_MEMORY)
     failures = {(3, prefix, b"fault Memory\n") for prefix in prefixes(SCHEDULE_ANSWERS)}
     failing.check_failure("play", ["play"], SCHEDULE, (0, SCHEDULE_ANSWERS + SCHEDULE_END, b""), failures)
 

@@ -10,6 +10,7 @@ use Rattle.moc_devices.specs.Devices.{SourceState, SinkState}
 use Rattle.moc_sphere.specs.Names.{ParsesName, Spells}
 use Rattle.moc_sphere.specs.declared.invalid_name.InvalidName.{InvalidName}
 use Rattle.clap.specs.declared.parser.matches.ArgMatches.{ArgMatches}
+use Rattle.moc_conversion.specs.declared.notes.Notes.{Notes}
 use Rattle.moc_cli.specs.Actions.{ActionEnds}
 use Rattle.moc_cli.specs.Requests.{RequestAction, HasNumber, HasValue}
 use Rattle.moc_cli.specs.Endings.{CanEndWith}
@@ -51,7 +52,7 @@ value_read name_of names f name value (Err e) o is read same = subst (λ x. IfSo
 
 -- ---- the action of the arguments
 
-pub matched_action_end : (m : ArgMatches) (action : Action) (source source' : SourceState) (sink sink' : SinkState) (result : Result (Unit {0}) ProgramError) → IsRequestedIn m action
+pub matched_action_end : (m : ArgMatches) (action : Action) (source source' : SourceState) (sink sink' : SinkState) (result : Result Notes ProgramError) → IsRequestedIn m action
     → ActionEnds action source source' sink sink' result → MatchedEnd m source source' sink sink' result
 matched_action_end m action source source' sink sink' (Ok u) requested ends = (action, requested, ends)
 matched_action_end m action source source' sink sink' (Err f) requested ends = inr (action, requested, ends)
@@ -66,9 +67,9 @@ named_subcommand arguments m action read requested = record {
   selects = requested.3;
 }
 
-pub arguments_are_matched : (arguments : List Text) (m : ArgMatches) (source source' : SourceState) (sink sink' : SinkState) → AreParsedAs arguments m → MatchedEnd m source source' sink sink' (Ok tt)
-    → (action : Action) × RequestAction arguments action × ActionEnds action source source' sink sink' (Ok tt)
-arguments_are_matched arguments m source source' sink sink' read ends = (ends.0, named_subcommand arguments m ends.0 read ends.1, ends.2)
+pub arguments_are_matched : (arguments : List Text) (m : ArgMatches) (source source' : SourceState) (sink sink' : SinkState) (notes : Notes) → AreParsedAs arguments m → MatchedEnd m source source' sink sink' (Ok notes)
+    → (action : Action) × RequestAction arguments action × ActionEnds action source source' sink sink' (Ok notes)
+arguments_are_matched arguments m source source' sink sink' notes read ends = (ends.0, named_subcommand arguments m ends.0 read ends.1, ends.2)
 
 pub arguments_end : (arguments : List Text) (m : ArgMatches) (source source' : SourceState) (sink sink' : SinkState) (error : ProgramError) → AreParsedAs arguments m → MatchedEnd m source source' sink sink' (Err error)
     → CanEndWith arguments source source' sink sink' error

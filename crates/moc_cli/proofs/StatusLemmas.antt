@@ -1,20 +1,21 @@
 -- The exit status of a result, and what is reported for it.
 use Rattle.std.proofs.Common.{◌≡◌, ◌⊎◌, ◌||◌, inl, inr, Bool, ℕ, List, Result, Ok, Err, refl, sym, ap, subst, ◌∙◌, arith}
-use Rattle.std.specs.Prelude.{IfErr, IsTrue, OnOk}
+use Rattle.std.specs.Prelude.{IfErr, IfOk, IsTrue}
 use Rattle.moc_devices.specs.Devices.{SourceState, SinkState, Accepts, AcceptsNone}
 use Rattle.moc_lines.specs.declared.run_error.RunError.TheVariants as run
+use Rattle.moc_conversion.specs.Notes.{no_notes, notes_text}
 use Rattle.moc_conversion.specs.declared.error.InputError.{InputError}
+use Rattle.moc_conversion.specs.declared.notes.Notes.{Notes}
 use Rattle.moc_conversion.specs.declared.error.InputError.TheVariants as input
 use Rattle.clap.specs.Words.{Text}
 use Rattle.clap.specs.declared.parser.matches.ArgMatches.{ArgMatches}
-use Rattle.moc_cli.specs.Actions.{ActionEnds}
-use Rattle.moc_cli.specs.Requests.{RequestAction}
 use Rattle.moc_cli.specs.Statuses.{code_of, error_text, status_of, status_of_input}
-use Rattle.moc_cli.specs.declared.action.Action.{Action}
-use Rattle.moc_cli.specs.Endings.{AcceptsSome, RequestHelp, BlamesFailed, CanEndWith, ReportsUsageError, RunsOutOfMemory, ReportsErrorOf, WritesUnlessFailed}
+use Rattle.moc_cli.specs.Endings.{AcceptsSome, RequestHelp, BlamesFailed, CanEndWith, ReportsUsageError, RunsOutOfMemory, ReportsErrorOf, Succeeds, WritesUnlessFailed}
 use Rattle.moc_cli.specs.Private.Ending.{status_of_result}
 use Rattle.moc_cli.specs.Private.Matches.{AreParsedAs, MatchedEnd}
+use Rattle.moc_cli.specs.Private.Writing.{IsSent}
 use Rattle.moc_cli.proofs.Requests.{arguments_are_matched, arguments_end}
+use Rattle.moc_cli.proofs.Writing.{empty_text_accepted}
 use Rattle.moc_cli.specs.declared.status.ProgramError.{ProgramError}
 use Rattle.moc_cli.specs.declared.status.ProgramError.TheVariants.{Input, Number, Lines, Write, Memory}
 use Rattle.moc_cli.specs.declared.status.Status.{Status}
@@ -75,7 +76,7 @@ pub is_success : (s t : Status) (r : ℕ) → s ≡ t → r ≡ code_of s → r 
 is_success s t r same number zero = success_if_0 t (ap code_of (sym same) ∙ sym number ∙ zero)
 
 -- an error that ends the program is reported
-pub reported_by : (result : Result (Unit {0}) ProgramError) (status : ℕ) (is : ProgramError → Type 0) (failed : Bool) (sink sink' : SinkState) → status ≡ code_of (status_of_result result)
+pub reported_by : (result : Result Notes ProgramError) (status : ℕ) (is : ProgramError → Type 0) (failed : Bool) (sink sink' : SinkState) → status ≡ code_of (status_of_result result)
     → IfErr result (λ c. WritesUnlessFailed failed (error_text c) sink sink') → IfErr result is → (status ≡ 1) ⊎ (status ≡ 3) → ReportsErrorOf status is failed sink sink'
 reported_by (Ok u) status is failed sink sink' number reported why (inl one) = absurd (omega (arith, number, one))
 reported_by (Ok u) status is failed sink sink' number reported why (inr three) = absurd (omega (arith, number, three))
@@ -84,14 +85,18 @@ reported_by (Err c) status is failed sink sink' number reported why some = (c, s
 -- the same for devices with other names
 module _ {I O : Type 0} (reading : I → SourceState) (writing : O → SinkState) (i i' : I) (o o' : O) (arguments : List Text) (m : ArgMatches) (source : SourceState) (sink : SinkState)
     (read : AreParsedAs arguments m) (same_i : i' ≡ i) (same_o : o' ≡ o) where
-  pub done_by : (result : Result (Unit {0}) ProgramError) → MatchedEnd m source (reading i) sink (writing o) result → status_of_result result ≡ Success
-      → (a : Action) × RequestAction arguments a × ActionEnds a source (reading i') sink (writing o') (Ok tt)
-  done_by (Ok u) ends e =
-      subst (λ (x : I). (a : Action) × RequestAction arguments a × ActionEnds a source (reading x) sink (writing o') (Ok tt)) (sym same_i)
-      (subst (λ (y : O). (a : Action) × RequestAction arguments a × ActionEnds a source (reading i) sink (writing y) (Ok tt)) (sym same_o) (arguments_are_matched arguments m source (reading i) sink (writing o) read ends))
-  done_by (Err error) ends e = absurd (not_success (status_of error) (of_error error) e)
+  pub done_by : {F : Type 0} (marked : Bool) (mark : F → Bool) (reported_on : F → SinkState) (f f' : F) (old : SinkState) → f' ≡ f → (result : Result Notes ProgramError)
+      → MatchedEnd m source (reading i) sink (writing o) result → IfOk result (λ n. WritesUnlessFailed (marked || mark f) (notes_text n) old (reported_on f)) → status_of_result result ≡ Success
+      → Succeeds arguments source (reading i') sink (writing o') (marked || mark f') old (reported_on f')
+  done_by {F} marked mark reported_on f f' old same (Ok notes) ends noted e =
+      let matched = arguments_are_matched arguments m source (reading i) sink (writing o) notes read ends in
+      subst (λ (x : I). Succeeds arguments source (reading x) sink (writing o') (marked || mark f') old (reported_on f')) (sym same_i)
+      (subst (λ (y : O). Succeeds arguments source (reading i) sink (writing y) (marked || mark f') old (reported_on f')) (sym same_o)
+      (subst (λ (z : F). Succeeds arguments source (reading i) sink (writing o) (marked || mark z) old (reported_on z)) (sym same)
+      (matched.0, notes, matched.1, matched.2, noted)))
+  done_by {F} marked mark reported_on f f' old same (Err error) ends noted e = absurd (not_success (status_of error) (of_error error) e)
 
-  pub fails_by : (marked : I → Bool) (marked_out : O → Bool) (result : Result (Unit {0}) ProgramError) → MatchedEnd m source (reading i) sink (writing o) result
+  pub fails_by : (marked : I → Bool) (marked_out : O → Bool) (result : Result Notes ProgramError) → MatchedEnd m source (reading i) sink (writing o) result
       → IfErr result (λ f. BlamesFailed (marked i) (marked_out o) f)
       → IfErr result (λ f. BlamesFailed (marked i') (marked_out o') f × CanEndWith arguments source (reading i') sink (writing o') f)
   fails_by marked marked_out (Ok u) ends blames = tt
@@ -102,7 +107,7 @@ module _ {I O : Type 0} (reading : I → SourceState) (writing : O → SinkState
 
 -- the same for standard error with another name: whether it was marked, and what it accepted
 module _ {F : Type 0} (marked : Bool) (mark : F → Bool) (writing : F → SinkState) (f f' : F) (old : SinkState) (same : f' ≡ f) where
-  pub reported_result : (result : Result (Unit {0}) ProgramError) (status : ℕ) (is : ProgramError → Type 0)
+  pub reported_result : (result : Result Notes ProgramError) (status : ℕ) (is : ProgramError → Type 0)
       → IfErr result (λ c. WritesUnlessFailed (marked || mark f) (error_text c) old (writing f)) → status ≡ code_of (status_of_result result) → IfErr result is
       → (status ≡ 1) ⊎ (status ≡ 3) → ReportsErrorOf status is (marked || mark f') old (writing f')
   reported_result result status is reported number why some =
@@ -117,10 +122,12 @@ module _ {F : Type 0} (marked : Bool) (mark : F → Bool) (writing : F → SinkS
       subst (λ (y : O). RunsOutOfMemory sink (output y) (marked || mark f') old (writing f')) (sym same_o)
       (subst (λ (x : F). RunsOutOfMemory sink (output o) (marked || mark x) old (writing x)) (sym same) ends)
 
--- what holds on success holds of a result whose status is success
-pub holds_at_success : (result : Result (Unit {0}) ProgramError) (P : Type 0) → OnOk result P → status_of_result result ≡ Success → P
-holds_at_success (Ok u) P holds done = holds
-holds_at_success (Err error) P holds done = absurd (not_success (status_of error) (of_error error) done)
+-- nothing is written to standard error on success without notes
+pub silent_without_notes : (text : List ℕ) (result : Result Notes ProgramError) (failed : Bool) (output output' sink sink' : SinkState) → IsSent text no_notes output output' result
+    → IfOk result (λ n. WritesUnlessFailed failed (notes_text n) sink sink') → status_of_result result ≡ Success → AcceptsNone sink sink'
+silent_without_notes text (Ok notes) failed output output' sink sink' sent noted done =
+    empty_text_accepted failed sink sink' (subst (λ n. WritesUnlessFailed failed (notes_text n) sink sink') sent.1 noted)
+silent_without_notes text (Err error) failed output output' sink sink' sent noted done = absurd (not_success (status_of error) (of_error error) done)
 
 -- the errors that are reported if there are no matches
 abbrev IsHelpFailure : Type 0 → Type 0 → Type 0 → Type 0 → ProgramError → Type 0
@@ -149,7 +156,7 @@ reported_status {F} {O} before mark reported_on marked writing f f' o o' input a
     (subst (λ (y : O). IsHelpFailure (AcceptsNone sink (writing y)) (IsTrue (marked y)) help (AcceptsPrefix sink (writing y)) here.0) (sym same_o) here.2) in
     (here.0, here.1 ∙ sym number, why, subst (λ (x : F). WritesUnlessFailed (before || mark x) (error_text here.0) old (reported_on x)) (sym same) here.3)
 
-pub result_not_bad_command_line : (result : Result (Unit {0}) ProgramError) → status_of_result result ≡ BadCommandLine → ⊥
+pub result_not_bad_command_line : (result : Result Notes ProgramError) → status_of_result result ≡ BadCommandLine → ⊥
 result_not_bad_command_line (Ok u) e = cc
 result_not_bad_command_line (Err error) e = not_bad_command_line (status_of error) (of_error error) e
 

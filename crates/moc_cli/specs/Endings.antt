@@ -1,5 +1,5 @@
 -- What the program has done when it ends.
-use Rattle.std.specs.Prelude.{◌≡◌, ◌≢◌, ◌⊎◌, ℕ, ◌++◌, Bool, false, List, [], Err, IsTrue}
+use Rattle.std.specs.Prelude.{◌≡◌, ◌≢◌, ◌⊎◌, ℕ, ◌++◌, Bool, false, List, [], Ok, Err, IsTrue}
 use Rattle.std.specs.Prelude.{◌&&◌, codes, drop, length, nat_le, nat_lt, slice_index_or}
 use Rattle.std.specs.List.{list_all}
 use Rattle.moc_devices.specs.Devices.{SourceState, SinkState, Accepts, AcceptsNone}
@@ -8,7 +8,9 @@ use Rattle.clap.specs.declared.error.kind.ErrorKind.{ErrorKind}
 use Rattle.clap.specs.declared.error.kind.ErrorKind.TheVariants.{DisplayHelp, DisplayVersion, OutOfMemory}
 use Rattle.moc_command_line.specs.CommandLine.{IsCommandLine}
 use Rattle.moc_lines.specs.declared.run_error.RunError.TheVariants as run
+use Rattle.moc_conversion.specs.Notes.{notes_text}
 use Rattle.moc_conversion.specs.declared.error.InputError.TheVariants as input_error
+use Rattle.moc_conversion.specs.declared.notes.Notes.{Notes}
 use Rattle.moc_cli.specs.Actions.{ActionEnds}
 use Rattle.moc_cli.specs.Requests.{RequestAction}
 use Rattle.moc_cli.specs.Explanations.{IsUsageErrorText}
@@ -82,6 +84,15 @@ pub record WritesUnlessFailed (failed : Bool) (text : List ℕ) (sink sink' : Si
   pub parts : text ≡ front ++ rest
   pub accepted : Accepts sink sink' front
   pub whole : failed ≡ false → rest ≡ []
+
+-- The action of the arguments succeeded, and the notes on what was read are written to standard error, or a prefix of
+-- them if it fails.
+abbrev pub Succeeds : List Text → SourceState → SourceState → SinkState → SinkState → Bool → SinkState → SinkState
+    → Type 0
+Succeeds arguments source source' sink sink' failed errors errors' =
+    (action : Action) × (notes : Notes) × RequestAction arguments action
+    × ActionEnds action source source' sink sink' (Ok notes)
+    × WritesUnlessFailed failed (notes_text notes) errors errors'
 
 -- The text of an error that meets `is` and has this status is written, or a prefix of it if standard error fails.
 abbrev pub ReportsErrorOf : ℕ → (ProgramError → Type 0) → Bool → SinkState → SinkState → Type 0

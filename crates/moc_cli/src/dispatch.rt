@@ -1,18 +1,15 @@
 //! The entry point of the program: from the command line to the exit status.
-ghost use Rattle.std.specs.Prelude.{◌≡◌, ◌≢◌, ◌⊎◌, ◌||◌, false, map, IfErr, IfOk, IsTrue, Ok, OnOk};
+ghost use Rattle.std.specs.Prelude.{◌≡◌, ◌≢◌, ◌⊎◌, ◌||◌, false, map, IfErr, IfOk, IsTrue, OnOk};
 ghost use Rattle.moc_devices.specs.Devices.{AcceptsNone};
 ghost use Rattle.std.specs.IoError.{error_kind};
 ghost use Rattle.clap.specs.Words.{kind_of};
-ghost use Rattle.moc_cli.specs.Actions.{ActionEnds};
-ghost use Rattle.moc_cli.specs.Requests.{RequestAction};
 ghost use Rattle.moc_cli.specs.Explanations.{not_utf8_text};
 ghost use Rattle.moc_cli.specs.Endings.{AcceptsSome, AreAlwaysInvalid, AreInvalid, HasInvalidName};
 ghost use Rattle.moc_cli.specs.Endings.{RequestHelp, BlamesFailed, CanEndWith};
 ghost use Rattle.moc_cli.specs.Endings.{ReportsUsageError, IsUsageError, RunsOutOfMemory, ReportsErrorOf};
-ghost use Rattle.moc_cli.specs.Endings.{WritesUnlessFailed};
+ghost use Rattle.moc_cli.specs.Endings.{Succeeds, WritesUnlessFailed};
 ghost use Rattle.moc_cli.specs.Statuses.{IsErrorCode, code_of, error_text};
 ghost use Rattle.moc_cli.specs.Private.Matches.{AreParsedAs};
-ghost use Rattle.moc_cli.specs.declared.action.Action.{Action};
 
 use crate::execution::execute_matches;
 use crate::explaining::{explain, has_invalid_name, report_invalid_name};
@@ -29,9 +26,9 @@ use std::sync::Wait;
 use std::thread::Threads;
 
 /// Executes the command line, and returns the exit status: 0 on success and after help, 1 for an invalid value, text or
-/// line, 2 for an invalid command line, 3 if a device or an allocation fails or a thread cannot be started. Errors are
-/// reported on `errors`; a failure to write them does not change the status. Only the subcommand `crew` starts threads
-/// and waits for them.
+/// line, 2 for an invalid command line, 3 if a device or an allocation fails or a thread cannot be started. Errors, and
+/// notes on what was read, are reported on `errors`; a failure to write them does not change the status. Only the
+/// subcommand `crew` starts threads and waits for them.
 ///
 /// Requires that no call of the input or the output has failed before.
 pub fn program<'a, T: Threads + Wait + Sync, S: AsStr, R: Source, W: Sink, E: Sink>(
@@ -63,14 +60,15 @@ pub fn program<'a, T: Threads + Wait + Sync, S: AsStr, R: Source, W: Sink, E: Si
     ensures explained { result ≡ code_of Status.BadCommandLine → ReportsUsageError (map S.text arguments.entry.now)
         (E.mark errors.old || E.mark errors.new) (E.writing errors.old) (E.writing errors.new) }
 
-    // At 0 either the command line asks for help, and at least one byte is written, or its action succeeded, and the
-    // whole output is written. Nothing is written to `errors`.
+    // At 0 either the command line asks for help, at least one byte is written, and nothing is written to `errors`. Or
+    // its action succeeded, the whole output is written, and its notes on what was read are written to `errors`, or a
+    // prefix of them if `errors` fails.
     ensures done { result ≡ code_of Status.Success → (RequestHelp (map S.text arguments.entry.now)
-        × AcceptsSome (W.writing output.old) (W.writing output.new))
-        ⊎ ((action : Action) × RequestAction (map S.text arguments.entry.now) action
-        × ActionEnds action
-        (R.reading input.old) (R.reading input.new) (W.writing output.old) (W.writing output.new) (Ok tt)) }
-    ensures silent { result ≡ code_of Status.Success → AcceptsNone (E.writing errors.old) (E.writing errors.new) }
+        × AcceptsSome (W.writing output.old) (W.writing output.new)
+        × AcceptsNone (E.writing errors.old) (E.writing errors.new))
+        ⊎ Succeeds (map S.text arguments.entry.now)
+        (R.reading input.old) (R.reading input.new) (W.writing output.old) (W.writing output.new)
+        (E.mark errors.old || E.mark errors.new) (E.writing errors.old) (E.writing errors.new) }
 
     // At 1 and 3 the status is that of an error: `Memory` before any output, `Write` of help, or an error with which
     // the action may end on what was read. A device that the error blames has failed. The text of the error is written
@@ -114,11 +112,11 @@ fn parse_and_execute<'a, T: Threads + Wait + Sync, S: AsStr, R: Source, W: Sink,
     ensures explained { result ≡ code_of Status.BadCommandLine → ReportsUsageError (map S.text arguments.entry.now)
         (E.mark errors.old || E.mark errors.new) (E.writing errors.old) (E.writing errors.new) }
     ensures done { result ≡ code_of Status.Success → (RequestHelp (map S.text arguments.entry.now)
-        × AcceptsSome (W.writing output.old) (W.writing output.new))
-        ⊎ ((action : Action) × RequestAction (map S.text arguments.entry.now) action
-        × ActionEnds action
-        (R.reading input.old) (R.reading input.new) (W.writing output.old) (W.writing output.new) (Ok tt)) }
-    ensures silent { result ≡ code_of Status.Success → AcceptsNone (E.writing errors.old) (E.writing errors.new) }
+        × AcceptsSome (W.writing output.old) (W.writing output.new)
+        × AcceptsNone (E.writing errors.old) (E.writing errors.new))
+        ⊎ Succeeds (map S.text arguments.entry.now)
+        (R.reading input.old) (R.reading input.new) (W.writing output.old) (W.writing output.new)
+        (E.mark errors.old || E.mark errors.new) (E.writing errors.old) (E.writing errors.new) }
     ensures reported { IsErrorCode result
         → ReportsErrorOf result (λ error. BlamesFailed (R.mark input.new) (W.mark output.new) error
         × CanEndWith (map S.text arguments.entry.now)

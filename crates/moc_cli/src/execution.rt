@@ -1,6 +1,6 @@
 //! Execution of actions.
-ghost use Rattle.std.specs.Prelude.{◌≡◌, ◌⊎◌, false, Err, IfErr, IsErrOf, IsTrue, Ok, OnOk};
-ghost use Rattle.moc_cli.specs.Actions.{ActionEnds};
+ghost use Rattle.std.specs.Prelude.{◌≡◌, ◌⊎◌, false, Err, IfErr, IfOk, IsErrOf, IsTrue, Ok, OnOk};
+ghost use Rattle.moc_cli.specs.Actions.{ActionEnds, AreNone};
 ghost use Rattle.moc_cli.specs.Listing.{error_list};
 ghost use Rattle.moc_cli.specs.Endings.{BlamesFailed};
 ghost use Rattle.moc_cli.specs.Private.Ending.{status_of_result};
@@ -13,7 +13,7 @@ use crate::status::{ProgramError, Status};
 use clap::ArgMatches;
 use moc_command_line::FAULTS;
 use moc_conversion::{
-    change_input, check_input, combine_input, convert_input, describe_input, draw_input,
+    Notes, change_input, check_input, combine_input, convert_input, describe_input, draw_input,
 };
 use moc_devices::{Sink, Source};
 use moc_lines::{RunError, renumber, run};
@@ -23,14 +23,14 @@ use std::marker::Sync;
 use std::sync::Wait;
 use std::thread::Threads;
 
-/// Executes the action of the matches.
+/// Executes the action of the matches. Returns the notes on what was read.
 pub(crate) fn execute_matches<T: Threads + Wait + Sync, R: Source, W: Sink>(
     rt: &T,
     alloc: Global,
     matches: &ArgMatches<'_>,
     input: &mut R,
     output: &mut W,
-) -> Result<(), ProgramError>
+) -> Result<Notes, ProgramError>
     requires input { R.mark input.old ≡ false }
     requires output { W.mark output.old ≡ false }
     ensures input { IsTrue (R.mark input.new) → status_of_result result ≡ Status.Failed }
@@ -47,7 +47,7 @@ pub(crate) fn execute_matches<T: Threads + Wait + Sync, R: Source, W: Sink>(
     execute(rt, alloc, &action, input, output)
 }
 
-/// Executes an action.
+/// Executes an action. Returns the notes on what was read.
 #[tactic(auto, using(crate::proofs::Writing::result_writes, crate::proofs::Writing::sent_writes))]
 fn execute<T: Threads + Wait + Sync, R: Source, W: Sink>(
     rt: &T,
@@ -55,7 +55,7 @@ fn execute<T: Threads + Wait + Sync, R: Source, W: Sink>(
     action: &Action<'_>,
     input: &mut R,
     output: &mut W,
-) -> Result<(), ProgramError>
+) -> Result<Notes, ProgramError>
     requires input { R.mark input.old ≡ false }
     requires output { W.mark output.old ≡ false }
     ensures input { IsTrue (R.mark input.new) → status_of_result result ≡ Status.Failed }
@@ -73,8 +73,8 @@ fn execute<T: Threads + Wait + Sync, R: Source, W: Sink>(
         Action::Number(number) => write_number(alloc, number, output),
         Action::Convert(from, to) => write_result(convert_input(alloc, from, to, input), output),
         Action::Check(choice) => {
-            check_input(alloc, choice, input)?;
-            write_text("ok\n", output)
+            let notes = check_input(alloc, choice, input)?;
+            write_text("ok\n", notes, output)
         }
         Action::Describe(choice) => write_result(describe_input(alloc, choice, input), output),
         Action::Draw(choice, names) => {
@@ -85,21 +85,24 @@ fn execute<T: Threads + Wait + Sync, R: Source, W: Sink>(
             output,
         ),
         Action::Combine(operation, choice) => {
-            write_result(combine_input(alloc, operation, choice, input), output)
+            let (text, notes) = combine_input(alloc, operation, choice, input)?;
+            write_text(text.as_str(), notes, output)
         }
-        Action::Faults => write_text(error_list_text(), output),
+        Action::Faults => write_text(error_list_text(), Notes::none(), output),
     }
 }
 
-/// Converts the result of a run or a crew.
-fn run_result(end: Result<(), RunError>) -> Result<(), ProgramError>
+/// Converts the result of a run or a crew. There are no notes.
+fn run_result(end: Result<(), RunError>) -> Result<Notes, ProgramError>
     ensures done { OnOk result (end ≡ Ok tt) }
+    ensures notes { IfOk result AreNone }
     ensures error { IfErr result (λ error. (cause : RunError) × (error ≡ ProgramError.Lines cause)
         × (end ≡ Err cause)) }
     ensures device { IsErrOf end RunError.Read ⊎ IsErrOf end RunError.Write
         → status_of_result result ≡ Status.Failed }
 {
-    Ok(end?)
+    end?;
+    Ok(Notes::none())
 }
 
 /// Returns the list of the exit statuses and the errors.

@@ -16,6 +16,7 @@ use crate::status::{ProgramError, Status, report_result};
 use clap::Error;
 use clap::error::ErrorKind;
 use moc_command_line::suggest;
+use moc_conversion::Notes;
 use moc_devices::{Sink, write_all};
 use std::alloc::{AllocError, Global};
 use std::convert::AsStr;
@@ -70,7 +71,7 @@ pub(crate) fn explain<S: AsStr, W: Sink, E: Sink>(
         let _ = write_all(text.as_bytes(), errors);
         return Status::BadCommandLine;
     }
-    report_result(write_text(text.as_str(), output), errors)
+    report_result(write_text(text.as_str(), Notes::none(), output), errors)
 }
 
 /// Returns the text of help or of an error: `clap`'s text, except that an argument with a control character is not

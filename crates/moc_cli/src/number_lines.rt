@@ -2,7 +2,7 @@
 ghost use Rattle.std.specs.Prelude.{◌≡◌, ◌++◌, [], codes, false, IfErr, IfOk, IsErrOf, IsTrue, OnOk};
 ghost use Rattle.std.specs.String.{string_bytes};
 ghost use Rattle.moc_sphere.specs.Touching.{touching_cells};
-ghost use Rattle.moc_cli.specs.Actions.{PrintsText};
+ghost use Rattle.moc_cli.specs.Actions.{AreNone, PrintsText};
 ghost use Rattle.moc_cli.specs.Numbers.{IsNumberError, IsNumberLine, IsConversionError, number_list};
 ghost use Rattle.moc_cli.specs.Private.Ending.{status_of_result};
 ghost use Rattle.moc_cli.specs.Private.NumberCells.{IsCellOf};
@@ -10,27 +10,28 @@ ghost use Rattle.moc_cli.specs.Private.NumberCells.{IsCellOf};
 use crate::action::NumberConversion;
 use crate::printing::write_text;
 use crate::status::{ProgramError, Status};
+use moc_conversion::Notes;
 use moc_devices::Sink;
 use moc_sphere::{Cell, CellError};
 use std::alloc::{AllocError, Global};
 use std::fmt::Write;
 
-/// Converts a number and writes the line of the result.
+/// Converts a number and writes the line of the result. There are no notes.
 #[tactic(auto, using(crate::proofs::Writing::sent_writes))]
 pub(crate) fn write_number<W: Sink>(
     alloc: Global,
     number: NumberConversion,
     output: &mut W,
-) -> Result<(), ProgramError>
+) -> Result<Notes, ProgramError>
     requires { W.mark output.old ≡ false }
-    ensures ends { PrintsText (IsNumberLine number) (IsConversionError number)
+    ensures ends { PrintsText (IsNumberLine number) AreNone (IsConversionError number)
         (W.writing output.old) (W.writing output.new) result }
     ensures flushed { OnOk result (IsTrue (W.flushed output.new)) }
     ensures write { IsErrOf result ProgramError.Write → IsTrue (W.mark output.new) }
     ensures output { IsTrue (W.mark output.new) → status_of_result result ≡ Status.Failed }
 {
     let line = number_line(alloc, number)?;
-    write_text(line.as_str(), output)
+    write_text(line.as_str(), Notes::none(), output)
 }
 
 /// Returns the line of a converted number.

@@ -1,12 +1,13 @@
 //! The exit statuses and errors of the program.
-ghost use Rattle.std.specs.Prelude.{◌≡◌, ◌||◌, [], false, is_err, IfErr, OnOk};
-ghost use Rattle.moc_devices.specs.Devices.{Accepts, AcceptsNone, Sends};
+ghost use Rattle.std.specs.Prelude.{◌≡◌, ◌||◌, [], false, is_err, IfErr, IfOk, OnOk};
+ghost use Rattle.moc_devices.specs.Devices.{Accepts, Sends};
+ghost use Rattle.moc_conversion.specs.Notes.{notes_text};
 ghost use Rattle.moc_cli.specs.Endings.{WritesUnlessFailed};
 ghost use Rattle.moc_cli.specs.Statuses.{code_of, error_text, name_of_cell, status_of};
 ghost use Rattle.moc_cli.specs.Private.Ending.{status_of_result};
 ghost use Rattle.moc_cli.specs.declared.status.ProgramError.TheVariants as program;
 
-use moc_conversion::{InputError, report_error};
+use moc_conversion::{InputError, Notes, report_error};
 use moc_devices::{DeviceFault, Sink};
 use moc_lines::RunError;
 use moc_sphere::CellError;
@@ -85,15 +86,20 @@ impl ProgramError {
     }
 }
 
-/// Reports the error of the result, if there is one, and returns the exit status.
-pub(crate) fn report_result<E: Sink>(end: Result<(), ProgramError>, errors: &mut E) -> Status
+/// Reports the error or the notes of the result, and returns the exit status.
+pub(crate) fn report_result<E: Sink>(end: Result<Notes, ProgramError>, errors: &mut E) -> Status
     ensures status { result ≡ status_of_result end }
     ensures reported { IfErr end (λ error. WritesUnlessFailed (E.mark errors.old || E.mark errors.new)
         (error_text error) (E.writing errors.old) (E.writing errors.new)) }
-    ensures silent { OnOk end (AcceptsNone (E.writing errors.old) (E.writing errors.new)) }
+    ensures noted { IfOk end (λ notes. WritesUnlessFailed (E.mark errors.old || E.mark errors.new)
+        (notes_text notes) (E.writing errors.old) (E.writing errors.new)) }
 {
-    let Err(error) = end else {
-        return Status::Success;
+    let error = match end {
+        Ok(notes) => {
+            let _ = notes.report(errors);
+            return Status::Success;
+        }
+        Err(error) => error,
     };
     let _ = error.report(errors);
     error.status()

@@ -4,6 +4,7 @@ mod combining;
 mod failing;
 mod inputs;
 mod lines;
+mod notes;
 mod numbers;
 mod pictures;
 mod program_end;

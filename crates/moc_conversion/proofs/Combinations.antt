@@ -1,7 +1,10 @@
 -- How a combination changes with the bytes that it processes.
 use Rattle.std.proofs.Common.{◌≡◌, ◌≤◌, ◌<◌, ◌+◌, ◌-◌, ◌∙◌, ◌⊎◌, inl, inr, ℕ, zero, suc, Bool, true, false, List, [], ◌∷◌, ◌++◌, Option, None, Some, Result, Ok, Err, arith, length, refl, sym, ap, subst, append_assoc, append-nil, length-append}
-use Rattle.std.specs.Prelude.{if◌then◌else◌, slice_index_or, IfErr, IsErrAnd}
-use Rattle.std.specs.List.{AllByRecursion, onto_first}
+use Rattle.std.specs.Prelude.{◌==◌, if◌then◌else◌, slice_index_or, IfErr, IsErrAnd, is_some}
+use Rattle.std.specs.Char.{is_ascii_digit}
+use Rattle.std.specs.List.{AllByRecursion, list_any, onto_first}
+use Rattle.std.specs.Option.{option_or}
+use Rattle.std.proofs.Common.{ap₂}
 use Rattle.std.proofs.lemmas.List.Elements.{All-append, All-head, All-tail}
 use Rattle.std.proofs.lemmas.List.Splits.{slice_split-cons_no, slice_split_at, slice_split_none, length-slice_split}
 use Rattle.moc_devices.specs.Lemmas.{Delivers-trans}
@@ -16,10 +19,12 @@ use Rattle.moc_forms.specs.declared.finding.FormatChoice.{FormatChoice}
 use Rattle.moc_conversion.specs.Combining.{FailsCombining, IsLongPiece, IsNotCombined, count_limit, FailsReadingTexts, IsInputCombination, ReportsFirstError}
 use Rattle.moc_conversion.specs.Private.Pieces.{ReadsPiece, HasNoSemicolon, semicolon}
 use Rattle.moc_conversion.specs.Conversion.{ReportsError, input_limit}
-use Rattle.moc_conversion.specs.Private.Running.{AreRejected, BeginsCombination, EndsCombination, FailsCombination, FailsWithin, IsLong, IsOpen, Processes, CombinesNext, RunsTo, TextsCombine, texts_after}
+use Rattle.moc_conversion.specs.Notes.{AreNotesOn, combine_notes, first_without_cells}
+use Rattle.moc_conversion.specs.Private.Running.{AreRejected, BeginsCombination, EndsCombination, FailsCombination, FailsWithin, IsLong, IsOpen, Processes, CombinesNext, RunsTo, TextsCombine, finished_without_cells, notes_after, notes_of, texts_after, texts_notes}
 use Rattle.moc_conversion.specs.declared.combination.Combination.{Combination}
 use Rattle.moc_conversion.specs.declared.error.InputError.{InputError}
 use Rattle.moc_conversion.specs.declared.error.InputError.TheVariants.{Memory, TooLong}
+use Rattle.moc_conversion.specs.declared.notes.Notes.{Notes}
 
 -- ---- the texts of bytes
 
@@ -119,12 +124,67 @@ long_after : (text rest : List ℕ) (k : ℕ) → HasNoSemicolon text → IsLong
 long_after text rest k no_semicolon long =
     subst (λ (parts : List (List ℕ)). input_limit < length (slice_index_or parts (suc k) [])) (sym (slice_split_at is_semicolon text 59 rest no_semicolon refl)) long
 
+-- ---- notes
+
+-- the next number is 2 exactly if this one is 1
+next_is_2 : (n : ℕ) → (n + 1 == 2) ≡ (n == 1)
+next_is_2 n = grind arith
+
+or_none : (o : Option ℕ) → option_or o None ≡ o
+or_none None = refl
+or_none (Some n) = refl
+
+-- one more text before the others
+notes_of_next : (number : ℕ) (before : Option ℕ) (text : List ℕ) (texts : List (List ℕ))
+    → texts_notes (number + 1) (option_or before (if list_any is_ascii_digit text then None else Some number)) texts ≡ texts_notes number before (text ∷ texts)
+notes_of_next number before text texts =
+    let count : (number + 1) + length texts ≡ number + length (text ∷ texts) = omega arith in
+    ap₂ notes_of (ap (λ n. n == 2) count) (cells before (list_any is_ascii_digit text))
+  where
+    cells : (o : Option ℕ) (some : Bool)
+        → option_or (option_or o (if some then None else Some number)) (first_without_cells (number + 1) texts) ≡ option_or o (if some then first_without_cells (number + 1) texts else Some number)
+    cells (Some n) some = refl
+    cells None true = refl
+    cells None false = refl
+
+-- the notes if the text ends here, and counts as a text
+notes_on_last : (c : Combination) → IsOpen c → (c.before ≡ None) ⊎ (are_blanks c.text.items ≡ false) → notes_of (c.number == 1) (finished_without_cells c) ≡ notes_after c []
+notes_on_last c opened why =
+    ap₂ notes_of (sym (next_is_2 c.number) ∙ ap (λ n. n == 2) (omega arith)) (sym (or_none (finished_without_cells c)))
+    ∙ notes_of_next c.number c.text_without_cells c.text.items []
+    ∙ ap (texts_notes c.number c.text_without_cells)
+    (sym (text_without_semicolon c.before c.text.items opened.no_semicolon why) ∙ ap (texts_after c.before) (sym (append-nil c.text.items)))
+
+none_before : (o : Option ParsedCoverage) → is_some o ≡ false → o ≡ None
+none_before None none = refl
+none_before (Some before) none = absurd cc
+
+pub notes_with_last : (c : Combination) → IsOpen c → (is_some c.before ≡ false) ⊎ (are_blanks c.text.items ≡ false) → notes_of (c.number == 1) (finished_without_cells c) ≡ notes_after c []
+notes_with_last c opened (inl none) = notes_on_last c opened (inl (none_before c.before none))
+notes_with_last c opened (inr written) = notes_on_last c opened (inr written)
+
+-- blanks after the last semicolon do not count
+notes_before_blanks : (c : Combination) (before : ParsedCoverage) → IsOpen c → c.before ≡ Some before → are_blanks c.text.items ≡ true → notes_of (c.number == 2) c.text_without_cells ≡ notes_after c []
+notes_before_blanks c before opened is blank =
+    ap₂ notes_of (ap (λ n. n == 2) (omega arith)) (sym (or_none c.text_without_cells))
+    ∙ ap (texts_notes c.number c.text_without_cells)
+    (sym (texts_after_single before c.text.items opened.no_semicolon ∙ ap (λ b. if b then [] else c.text.items ∷ []) blank)
+    ∙ ap (λ o. texts_after o c.text.items) (sym is) ∙ ap (texts_after c.before) (sym (append-nil c.text.items)))
+
+pub notes_without_last : (c : Combination) → IsOpen c → is_some c.before ≡ true → are_blanks c.text.items ≡ true → notes_of (c.number == 2) c.text_without_cells ≡ notes_after c []
+notes_without_last c opened some blank = at c.before refl some
+  where
+    at : (o : Option ParsedCoverage) → c.before ≡ o → is_some o ≡ true → notes_of (c.number == 2) c.text_without_cells ≡ notes_after c []
+    at None is some = absurd cc
+    at (Some before) is some = notes_before_blanks c before opened is blank
+
 -- ---- a combination
 
 module _ (c d : Combination) (same_operation : d.operation ≡ c.operation) (same_choice : d.choice ≡ c.choice) (next : d.number ≡ c.number + 1) where
   -- a combination that has finished its text
-  finishes_own_text : (after : ParsedCoverage) → IsOpen c → CombinesNext c c.before after → d.text.items ≡ [] → d.before ≡ Some after → Processes c semicolon d
-  finishes_own_text after opened more bare before = record {
+  finishes_own_text : (after : ParsedCoverage) → IsOpen c → CombinesNext c c.before after → d.text.items ≡ [] → d.text_without_cells ≡ finished_without_cells c → d.before ≡ Some after
+      → Processes c semicolon d
+  finishes_own_text after opened more bare cells before = record {
     operation = same_operation;
     choice = same_choice;
     ends = λ rest end later.
@@ -148,11 +208,18 @@ module _ (c d : Combination) (same_operation : d.operation ≡ c.operation) (sam
       )
       | inr many ↦ inr (omega (arith, many, next))
     ];
+    notes = λ rest.
+        ap (λ t. texts_notes d.number d.text_without_cells (texts_after d.before (t ++ rest))) bare
+        ∙ ap (λ b. texts_notes d.number d.text_without_cells (texts_after b rest)) before
+        ∙ ap₂ (λ n o. texts_notes n o (without_blank_end (pieces_of rest))) next cells
+        ∙ notes_of_next c.number c.text_without_cells c.text.items (without_blank_end (pieces_of rest))
+        ∙ ap (texts_notes c.number c.text_without_cells) (sym (split_at_semicolon c.before c.text.items rest opened.no_semicolon));
   }
 
-  pub finishes_text : (before : Option ParsedCoverage) (after : ParsedCoverage) → before ≡ c.before → IsOpen c → CombinesNext c before after → d.text.items ≡ [] → d.before ≡ Some after → Processes c semicolon d
-  finishes_text before after same opened more bare next_before =
-      finishes_own_text after opened (subst (λ b. CombinesNext c b after) same more) bare next_before
+  pub finishes_text : (before : Option ParsedCoverage) (after : ParsedCoverage) → before ≡ c.before → IsOpen c → CombinesNext c before after → d.text.items ≡ []
+      → d.text_without_cells ≡ finished_without_cells c → d.before ≡ Some after → Processes c semicolon d
+  finishes_text before after same opened more bare cells next_before =
+      finishes_own_text after opened (subst (λ b. CombinesNext c b after) same more) bare cells next_before
 
 -- a text that a semicolon ends is invalid
 pub finished_text_fails : (c : Combination) (error : InputError) → IsOpen c → (error ≡ Memory) ⊎ ReportsError (format_for c.choice c.text.items) c.text.items (Some c.number) error
@@ -196,7 +263,14 @@ blanks_are_ignored c after opened before blank =
 
 -- no bytes change nothing
 pub processes_none : (c : Combination) → Processes c [] c
-processes_none c = record { operation = refl; choice = refl; ends = λ rest after end. end; fails = λ rest error fails. fails; longer = λ rest number long. long }
+processes_none c = record {
+  operation = refl;
+  choice = refl;
+  ends = λ rest after end. end;
+  fails = λ rest error fails. fails;
+  longer = λ rest number long. long;
+  notes = λ rest. refl;
+}
 
 -- one step after another
 pub processes_both : (a b c : Combination) (xs ys : List ℕ) → Processes a xs b → Processes b ys c → Processes a (xs ++ ys) c
@@ -210,12 +284,13 @@ processes_both a b c xs ys first second = record {
       subst (λ bytes. FailsCombination a bytes error) (sym (append_assoc xs ys rest))
       (first.fails (ys ++ rest) error (second.fails rest error fails));
   longer = λ rest number long. subst (λ bytes. IsLong a bytes number) (sym (append_assoc xs ys rest)) (first.longer (ys ++ rest) number (second.longer rest number long));
+  notes = λ rest. second.notes rest ∙ first.notes (ys ++ rest) ∙ ap (notes_after a) (sym (append_assoc xs ys rest));
 }
 
 -- bytes without a semicolon are appended to the text
-pub processes_appended : (c d : Combination) (bytes : List ℕ) → d.operation ≡ c.operation → d.choice ≡ c.choice → d.number ≡ c.number → d.before ≡ c.before
+pub processes_appended : (c d : Combination) (bytes : List ℕ) → d.operation ≡ c.operation → d.choice ≡ c.choice → d.number ≡ c.number → d.text_without_cells ≡ c.text_without_cells → d.before ≡ c.before
     → d.text.items ≡ c.text.items ++ bytes → Processes c bytes d
-processes_appended c d bytes operation choice number before text = record {
+processes_appended c d bytes operation choice number cells before text = record {
   operation = operation;
   choice = choice;
   ends = λ rest after end.
@@ -232,6 +307,9 @@ processes_appended c d bytes operation choice number before text = record {
     | inl piece ↦ inl (piece.0, omega (arith, piece.1, number), subst (IsLongAt piece.0) (following rest) piece.2)
     | inr many ↦ inr (omega (arith, many, number, length-append bytes rest))
   ];
+  notes = λ rest.
+      ap₂ (λ n o. texts_notes n o (texts_after d.before (d.text.items ++ rest))) number cells
+      ∙ ap₂ (λ b t. texts_notes c.number c.text_without_cells (texts_after b t)) before (following rest);
 }
   where
     following : (rest : List ℕ) → d.text.items ++ rest ≡ c.text.items ++ (bytes ++ rest)
@@ -302,6 +380,15 @@ module _ (operation : Operation) (choice : FormatChoice) (c : Combination) (begi
       let at : k ≡ number - 1 = omega (arith, is, begins.number) in
       inl (omega (arith, is, begins.number), subst (λ n. IsLongAt n bytes) at (subst (λ t. IsLongAt k (t ++ bytes)) begins.text long))
   longer_from_1 bytes number (inr many) = inr (omega (arith, many, begins.number))
+
+  notes_from_1 : (bytes : List ℕ) → notes_after c bytes ≡ combine_notes bytes
+  notes_from_1 bytes =
+      ap₂ (λ n o. texts_notes n o (texts_after c.before (c.text.items ++ bytes))) begins.number begins.cells ∙ ap (texts_notes 1 None) (begins_texts bytes)
+      ∙ ap (λ b. notes_of b (first_without_cells 1 (texts_of bytes))) (ap (λ n. n == 2) (omega arith) ∙ next_is_2 (length (texts_of bytes)))
+
+  -- the notes on all processed bytes
+  pub whole_notes : (d : Combination) (bytes : List ℕ) (notes : Notes) → Processes c bytes d → notes ≡ notes_after d [] → notes ≡ combine_notes bytes
+  whole_notes d bytes notes processes are = are ∙ processes.notes [] ∙ ap (notes_after c) (append-nil bytes) ∙ notes_from_1 bytes
 
   pub fails_from_1 : (bytes : List ℕ) (error : InputError) → FailsCombination c bytes error → ReportsFirstError 1 choice (texts_of bytes) error
   fails_from_1 bytes error fails =
@@ -378,6 +465,9 @@ module _ (operation : Operation) (choice : FormatChoice) (a b c : SourceState) (
     all_combined after ends =
         let reported = whole operation choice start begins d runs.0 after runs.1.1 ends in
         (runs.0, all_delivered, (end, reported.within, reported.represents))
+
+    pub all_noted : (notes : Notes) → notes ≡ notes_after d [] → AreNotesOn combine_notes a c notes
+    all_noted notes are = (runs.0, all_delivered, (end, whole_notes operation choice start begins d runs.0 notes runs.1.1 are))
 
     -- the last text was invalid
     pub all_fails : (error : InputError) → (error ≡ Memory) ⊎ FailsCombination d [] error → IsNotCombined choice a c error

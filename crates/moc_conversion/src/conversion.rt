@@ -4,8 +4,10 @@ ghost use Rattle.std.specs.String.{string_bytes};
 ghost use Rattle.moc_conversion.specs.Conversion.{ChangesAll, ConvertsAll, DescribesAll, FailsText, IsChange};
 ghost use Rattle.moc_conversion.specs.Conversion.{IsConversion, IsNotConverted, FailsParsing, IsValidInput};
 ghost use Rattle.moc_conversion.specs.Conversion.{MakesFromText};
+ghost use Rattle.moc_conversion.specs.Notes.{AreNotesOn, check_notes};
 
 use crate::error::InputError;
+use crate::notes::Notes;
 use crate::parsing::{parse_input, parse_text, text_of};
 use crate::reading::{CONVERSION_LIMIT, INPUT_LIMIT, read_whole};
 use moc_devices::Source;
@@ -158,7 +160,7 @@ pub fn change_text(
     )?)
 }
 
-/// Checks whether the input is a valid coverage.
+/// Checks whether the input is a valid coverage. Returns the notes on its end.
 ///
 /// Requires that no call of the input has failed before. Reads the input to its end.
 ///
@@ -175,12 +177,14 @@ pub fn check_input<R: Source>(
     alloc: Global,
     choice: FormatChoice,
     input: &mut R,
-) -> Result<(), InputError>
+) -> Result<Notes, InputError>
     requires { R.mark input.old ≡ false }
     ensures read { IsErrOf result InputError.Read ↔ IsTrue (R.mark input.new) }
     ensures error { IfErr result (FailsParsing choice (R.reading input.old) (R.reading input.new)) }
     ensures represents { OnOk result (IsValidInput choice (R.reading input.old) (R.reading input.new)) }
+    ensures notes { IfOk result (AreNotesOn check_notes (R.reading input.old) (R.reading input.new)) }
 {
-    parse_input(alloc, choice, input)?;
-    Ok(())
+    let text = read_whole(alloc, INPUT_LIMIT, input)?;
+    parse_text(alloc, choice, &text, None)?;
+    Ok(Notes::on_checked(&text))
 }

@@ -5,6 +5,7 @@ mod combination;
 mod conversion;
 mod drawing;
 mod error;
+mod notes;
 mod parsing;
 mod reading;
 mod reporting;
@@ -15,5 +16,6 @@ pub use conversion::{
 };
 pub use drawing::{draw_input, draw_texts};
 pub use error::InputError;
+pub use notes::{InputNote, Notes};
 pub use parsing::parse_text;
 pub use reporting::report_error;

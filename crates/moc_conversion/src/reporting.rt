@@ -154,7 +154,11 @@ fn write_place<E: Sink>(place: Place, errors: &mut E) -> Result<(), DeviceFault>
 }
 
 /// Writes a label and a number.
-fn write_number<E: Sink>(label: &str, number: u64, errors: &mut E) -> Result<(), DeviceFault>
+pub(crate) fn write_number<E: Sink>(
+    label: &str,
+    number: u64,
+    errors: &mut E,
+) -> Result<(), DeviceFault>
     ensures { WritesText E.writing E.mark (label.now ++ decimal number) errors.old errors.new result }
 {
     write_all(label.as_bytes(), errors)?;

@@ -4,6 +4,7 @@ use Rattle.moc_devices.specs.Devices.{SourceState, SinkState, AcceptsNone}
 use Rattle.clap.specs.Words.{App, Row, Text, found_of, rows_of, subcommand_of, subcommand_rows_of}
 use Rattle.clap.specs.declared.parser.matches.ArgMatches.{ArgMatches}
 use Rattle.moc_command_line.specs.CommandLine.{IsCommandLine}
+use Rattle.moc_conversion.specs.declared.notes.Notes.{Notes}
 use Rattle.moc_cli.specs.Actions.{ActionEnds}
 use Rattle.moc_cli.specs.Requests.{SelectsAction}
 use Rattle.moc_cli.specs.declared.action.Action.{Action}
@@ -28,9 +29,9 @@ pub record AreParsedAs (arguments : List Text) (matches : ArgMatches) : Type 0 w
 
 -- the action of the matches ends with this result; or an allocation failed before anything was written
 abbrev pub MatchedEnd : ArgMatches → SourceState → SourceState → SinkState → SinkState
-    → Result (Unit {0}) ProgramError → Type 0
-MatchedEnd matches source source' sink sink' (Ok _) =
-    (action : Action) × IsRequestedIn matches action × ActionEnds action source source' sink sink' (Ok tt)
+    → Result Notes ProgramError → Type 0
+MatchedEnd matches source source' sink sink' (Ok notes) =
+    (action : Action) × IsRequestedIn matches action × ActionEnds action source source' sink sink' (Ok notes)
 MatchedEnd matches source source' sink sink' (Err error) =
     ((error ≡ Memory) × AcceptsNone sink sink')
     ⊎ ((action : Action) × IsRequestedIn matches action × ActionEnds action source source' sink sink' (Err error))

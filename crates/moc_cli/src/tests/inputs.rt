@@ -37,18 +37,16 @@ impl InputCall {
         match self {
             InputCall::Convert(from, to) => convert_input(alloc, from, to, input),
             InputCall::Check(choice) => match check_input(alloc, choice, input) {
-                Ok(()) => Ok(String::new(alloc)),
+                Ok(_) => Ok(String::new(alloc)),
                 Err(error) => Err(error),
             },
             InputCall::Describe(choice) => describe_input(alloc, choice, input),
             InputCall::Draw(choice) => draw_input(alloc, choice, NO_NAMES, input),
             InputCall::Change(change) => change_input(alloc, change, FormatChoice::Auto, input),
-            InputCall::Combine(operation) => combine_input(
-                alloc,
-                operation,
-                FormatChoice::Auto,
-                input,
-            ),
+            InputCall::Combine(operation) => {
+                let (text, _) = combine_input(alloc, operation, FormatChoice::Auto, input)?;
+                Ok(text)
+            }
         }
     }
 }

@@ -69,11 +69,11 @@ fn invalid_json(rt: HostRuntime) {
 #[test]
 fn checks(rt: HostRuntime) {
     for (arguments, input) in [
-        (["check", "ascii"], "1/1-2 4 2/12-14"),
-        (["check", "json"], "{}"),
-        (["check", "uniq"], "4\n\n5"),
-        (["check", "auto"], "\n {\"0\":[3]}"),
-        (["check", "auto"], ",0/3"),
+        (["check", "ascii"], "1/1-2 4 2/12-14\n"),
+        (["check", "json"], "{}\n"),
+        (["check", "uniq"], "4\n\n5\n"),
+        (["check", "auto"], "\n {\"0\":[3]}\n"),
+        (["check", "auto"], ",0/3\n"),
     ] {
         expect(&rt, rt.alloc(), &arguments, input, 0, "ok\n", "");
     }

@@ -1,6 +1,6 @@
 -- Only parsing the arguments gives the status of an invalid command line.
 use Rattle.std.proofs.Common.{◌∙◌, ap, inl, inr, sym}
-use Rattle.moc_cli.proofs.StatusLemmas.{is_bad_command_line, done_by, explained_by, fails_by, accepts_none_by, memory_by, result_not_bad_command_line, accepts_some_by, reported_result, reported_status, is_success, holds_at_success}
+use Rattle.moc_cli.proofs.StatusLemmas.{is_bad_command_line, done_by, explained_by, fails_by, accepts_none_by, memory_by, result_not_bad_command_line, accepts_some_by, reported_result, reported_status, is_success}
 use Rattle.moc_cli.specs.Statuses.{code_of}
 use Rattle.moc_cli.proofs.dispatch.parse_and_execute.Goals as goal
 use Rattle.moc_cli.proofs.dispatch.parse_and_execute.Goals.{in-Ok+in-Some-1, in-Ok+in-None-1, in-Err+in-Some-1, in-Err+in-None-1}
@@ -56,20 +56,20 @@ returns-clause-explained g c = λ two. elim c.match-parse.branch [
 
 pub returns-clause-done : goal.returns-clause-done
 returns-clause-done g c = λ zero. elim c.match-parse.branch [
-  | in-Ok+in-Some-1 w ↦ inr (done_by g.R.Source.reading g.W.Sink.writing _ _ _ _ _ _ _ _ w.in-Ok.ensures.read w.input-is w.output-is w.execute_matches.result w.execute_matches.ensures.ends (sym w.report_result-status.ensures.status ∙ is_success _ _ _ w.status-is c.code.ensures zero))
-  | in-Ok+in-None-1 w ↦ inr (done_by g.R.Source.reading g.W.Sink.writing _ _ _ _ _ _ _ _ w.in-Ok.ensures.read w.input-is w.output-is w.execute_matches.result w.execute_matches.ensures.ends (sym w.report_result-status.ensures.status ∙ is_success _ _ _ w.status-is c.code.ensures zero))
+  | in-Ok+in-Some-1 w ↦ inr (done_by g.R.Source.reading g.W.Sink.writing _ _ _ _ _ _ _ _ w.in-Ok.ensures.read w.input-is w.output-is _ g.E.Sink.mark g.E.Sink.writing _ _ _ w.errors-is w.execute_matches.result w.execute_matches.ensures.ends w.report_result-status.ensures.noted (sym w.report_result-status.ensures.status ∙ is_success _ _ _ w.status-is c.code.ensures zero))
+  | in-Ok+in-None-1 w ↦ inr (done_by g.R.Source.reading g.W.Sink.writing _ _ _ _ _ _ _ _ w.in-Ok.ensures.read w.input-is w.output-is _ g.E.Sink.mark g.E.Sink.writing _ _ _ w.errors-is w.execute_matches.result w.execute_matches.ensures.ends w.report_result-status.ensures.noted (sym w.report_result-status.ensures.status ∙ is_success _ _ _ w.status-is c.code.ensures zero))
   | in-Err+in-Some-1 w ↦ let done = is_success _ _ _ w.status-is c.code.ensures zero in
-      inl (w.in-Err.ensures.help (w.explain-status.ensures.help done), accepts_some_by g.W.Sink.writing _ _ _ w.output-is (w.explain-status.ensures.written done))
+      inl (
+        w.in-Err.ensures.help (w.explain-status.ensures.help done),
+        accepts_some_by g.W.Sink.writing _ _ _ w.output-is (w.explain-status.ensures.written done),
+        accepts_none_by g.E.Sink.writing _ _ _ w.errors-is (w.explain-status.ensures.silent done),
+      )
   | in-Err+in-None-1 w ↦ let done = is_success _ _ _ w.status-is c.code.ensures zero in
-      inl (w.in-Err.ensures.help (w.explain-status.ensures.help done), accepts_some_by g.W.Sink.writing _ _ _ w.output-is (w.explain-status.ensures.written done))
-]
-
-pub returns-clause-silent : goal.returns-clause-silent
-returns-clause-silent g c = λ zero. elim c.match-parse.branch [
-  | in-Ok+in-Some-1 w ↦ accepts_none_by g.E.Sink.writing _ _ _ w.errors-is (holds_at_success w.execute_matches.result _ w.report_result-status.ensures.silent (sym w.report_result-status.ensures.status ∙ is_success _ _ _ w.status-is c.code.ensures zero))
-  | in-Ok+in-None-1 w ↦ accepts_none_by g.E.Sink.writing _ _ _ w.errors-is (holds_at_success w.execute_matches.result _ w.report_result-status.ensures.silent (sym w.report_result-status.ensures.status ∙ is_success _ _ _ w.status-is c.code.ensures zero))
-  | in-Err+in-Some-1 w ↦ accepts_none_by g.E.Sink.writing _ _ _ w.errors-is (w.explain-status.ensures.silent (is_success _ _ _ w.status-is c.code.ensures zero))
-  | in-Err+in-None-1 w ↦ accepts_none_by g.E.Sink.writing _ _ _ w.errors-is (w.explain-status.ensures.silent (is_success _ _ _ w.status-is c.code.ensures zero))
+      inl (
+        w.in-Err.ensures.help (w.explain-status.ensures.help done),
+        accepts_some_by g.W.Sink.writing _ _ _ w.output-is (w.explain-status.ensures.written done),
+        accepts_none_by g.E.Sink.writing _ _ _ w.errors-is (w.explain-status.ensures.silent done),
+      )
 ]
 
 pub returns-clause-reported : goal.returns-clause-reported

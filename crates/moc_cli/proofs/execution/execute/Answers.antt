@@ -1,7 +1,8 @@
 -- An action that reads an input writes the text that was made from it, or fails with its error.
-use Rattle.std.proofs.Common.{subst, sym}
+use Rattle.std.proofs.Common.{ℕ, List, subst, sym}
+use Rattle.moc_conversion.specs.Combining.{CombinesAll}
 use Rattle.moc_cli.specs.Actions.{ActionEnds}
-use Rattle.moc_cli.proofs.Writing.{failure_writes, result_writes}
+use Rattle.moc_cli.proofs.Writing.{failure_writes, result_writes, sent_writes}
 use Rattle.moc_cli.proofs.execution.execute.Goals as goal
 
 pub returns-in-Describe-clause-ends : goal.returns-in-Describe-clause-ends
@@ -28,14 +29,24 @@ returns-in-Draw-clause-ends g c =
     (g.W.Sink.writing c.write_result-in-Draw.new.output) c.write_result-in-Draw.result) (sym c.in-Draw.is)
     (result_writes _ _ c.draw_input.result _ _ _ c.draw_input.ensures.draws c.draw_input.ensures.error c.write_result-in-Draw.ensures.sent)
 
-pub returns-in-Combine-clause-ends : goal.returns-in-Combine-clause-ends
-returns-in-Combine-clause-ends g c =
-    subst (λ a. ActionEnds a (g.R.Source.reading c.args.input.now) (g.R.Source.reading c.combine_input.new.input) (g.W.Sink.writing c.args.output.now)
-    (g.W.Sink.writing c.write_result-in-Combine.new.output) c.write_result-in-Combine.result) (sym c.in-Combine.is)
-    (result_writes _ _ c.combine_input.result _ _ _ c.combine_input.ensures.combines c.combine_input.ensures.error c.write_result-in-Combine.ensures.sent)
-
-pub returns-in_err-check_input-in-Check-clause-ends : goal.returns-in_err-check_input-in-Check-clause-ends
-returns-in_err-check_input-in-Check-clause-ends g c =
+pub returns-in_err-notes-in-Check-clause-ends : goal.returns-in_err-notes-in-Check-clause-ends
+returns-in_err-notes-in-Check-clause-ends g c =
     subst (λ a. ActionEnds a (g.R.Source.reading c.args.input.now) (g.R.Source.reading c.check_input.new.input) (g.W.Sink.writing c.args.output.now)
     (g.W.Sink.writing c.args.output.now) c.from_residual.result) (sym c.in-Check.is)
-    (failure_writes _ _ c.in_err-check_input-in-Check.field-0.0 _ c.from_residual.result c.from_residual.ensures.1 c.in_err-check_input-in-Check.ensures.error)
+    (failure_writes _ _ _ c.in_err-notes-in-Check.field-0.0 _ c.from_residual.result c.from_residual.ensures.1 c.in_err-notes-in-Check.ensures.error)
+
+pub returns-in_err-text-in-Combine-clause-ends : goal.returns-in_err-text-in-Combine-clause-ends
+returns-in_err-text-in-Combine-clause-ends g c =
+    subst (λ a. ActionEnds a (g.R.Source.reading c.args.input.now) (g.R.Source.reading c.combine_input.new.input) (g.W.Sink.writing c.args.output.now)
+    (g.W.Sink.writing c.args.output.now) c.from_residual-in_err-text-in-Combine.result) (sym c.in-Combine.is)
+    (failure_writes _ _ _ c.in_err-text-in-Combine.field-0.0 _ c.from_residual-in_err-text-in-Combine.result c.from_residual-in_err-text-in-Combine.ensures.1
+    c.in_err-text-in-Combine.ensures.error)
+
+pub returns-in_ok-text-in-Combine-clause-ends : goal.returns-in_ok-text-in-Combine-clause-ends
+returns-in_ok-text-in-Combine-clause-ends g c =
+    let source = g.R.Source.reading c.args.input.now in
+    let source' = g.R.Source.reading c.combine_input.new.input in
+    subst (λ a. ActionEnds a source source' (g.W.Sink.writing c.args.output.now) (g.W.Sink.writing c.write_text-in-Combine.new.output) c.write_text-in-Combine.result) (sym c.in-Combine.is)
+    (sent_writes _ _ _ c.as_str.result.now c.in_ok-text-in-Combine.notes _ _ c.write_text-in-Combine.result
+    (subst (λ (t : List ℕ). CombinesAll c.in-Combine.operation c.in-Combine.choice source source' t) (sym c.as_str.ensures.value) c.in_ok-text-in-Combine.ensures.combines)
+    c.in_ok-text-in-Combine.ensures.notes c.write_text-in-Combine.ensures.sent)

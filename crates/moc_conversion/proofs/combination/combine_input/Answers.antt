@@ -13,13 +13,13 @@ pub returns-clause-combines : goal.returns-clause-combines
 returns-clause-combines g c = (
   c.in_ok-parsed.parsed,
   c.in_ok-parsed.ensures.represents,
-  c.in_ok-text_of.ensures.text,
+  c.in_ok-text.ensures.text,
 )
 
 pub returns-in_err-parsed-clause-error : goal.returns-in_err-parsed-clause-error
 returns-in_err-parsed-clause-error g c =
     error_passed_to_result c.from_residual.result c.in_err-parsed.field-0.0 _ c.from_residual.ensures.1 c.in_err-parsed.ensures.error
 
-pub returns-in_err-text_of-clause-error : goal.returns-in_err-text_of-clause-error
-returns-in_err-text_of-clause-error g c =
-    no_memory_together c.from_residual-in_err-text_of.result c.args.choice _ _ c.from_residual-in_err-text_of.ensures.1
+pub returns-in_err-text-clause-error : goal.returns-in_err-text-clause-error
+returns-in_err-text-clause-error g c =
+    no_memory_together c.from_residual-in_err-text.result c.args.choice _ _ c.from_residual-in_err-text.ensures.1

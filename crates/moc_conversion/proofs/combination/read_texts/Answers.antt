@@ -3,7 +3,7 @@ use Rattle.std.proofs.lemmas.Grind.{common_steps}
 use Rattle.std.proofs.lemmas.Result.{IfErr-weaker, IfOk-weaker}
 use Rattle.moc_conversion.specs.Private.Running.{AreRejected, FailsWithin, Processes}
 use Rattle.moc_conversion.proofs.Checks.{error_passed_to_result}
-use Rattle.moc_conversion.proofs.Combinations.{all_fails, all_combined, piece_fails, piece_is, piece_processed}
+use Rattle.moc_conversion.proofs.Combinations.{all_fails, all_combined, all_noted, piece_fails, piece_is, piece_processed}
 use Rattle.moc_conversion.proofs.combination.read_texts.Goals as goal
 
 pub loop-piece-preserved : goal.loop-piece-preserved
@@ -27,20 +27,30 @@ returns-then-not-branch-clause-represents g c =
     let brings = c.in_ok-read_chunk.ensures.reads_more in
     let no : c.in_ok-read_chunk.field-0 ≡ false = search rules in
     let none = brings.none no in
-    IfOk-weaker c.finish.result _ _ (λ after ends.
+    IfOk-weaker c.finish_with_notes.result _ _ (λ r ends.
     all_combined c.args.operation c.args.choice _ _ _ _ _ _ c.new-texts.ensures.begins c.loop-piece.invariant.processed.0
-    (piece_is _ _ _ _ _ c.clear.ensures.items brings) (none.0 ∙ c.clear.ensures.items) none.1 after ends)
-    c.finish.ensures.represents
+    (piece_is _ _ _ _ _ c.clear.ensures.items brings) (none.0 ∙ c.clear.ensures.items) none.1 r.0 ends)
+    c.finish_with_notes.ensures.represents
+
+pub returns-then-not-branch-clause-notes : goal.returns-then-not-branch-clause-notes
+returns-then-not-branch-clause-notes g c =
+    let brings = c.in_ok-read_chunk.ensures.reads_more in
+    let no : c.in_ok-read_chunk.field-0 ≡ false = search rules in
+    let none = brings.none no in
+    IfOk-weaker c.finish_with_notes.result _ _ (λ r are.
+    all_noted c.args.operation c.args.choice _ _ _ _ _ _ c.new-texts.ensures.begins c.loop-piece.invariant.processed.0
+    (piece_is _ _ _ _ _ c.clear.ensures.items brings) (none.0 ∙ c.clear.ensures.items) none.1 r.1 are)
+    c.finish_with_notes.ensures.notes
 
 pub returns-then-not-branch-clause-error : goal.returns-then-not-branch-clause-error
 returns-then-not-branch-clause-error g c =
     let brings = c.in_ok-read_chunk.ensures.reads_more in
     let no : c.in_ok-read_chunk.field-0 ≡ false = search rules in
     let none = brings.none no in
-    IfErr-weaker c.finish.result _ _ (λ e reported.
+    IfErr-weaker c.finish_with_notes.result _ _ (λ e reported.
     all_fails c.args.operation c.args.choice _ _ _ _ _ _ c.new-texts.ensures.begins c.loop-piece.invariant.processed.0
     (piece_is _ _ _ _ _ c.clear.ensures.items brings) (none.0 ∙ c.clear.ensures.items) none.1 e reported)
-    c.finish.ensures.error
+    c.finish_with_notes.ensures.error
 
 pub returns-in_err-push_bytes-clause-error : goal.returns-in_err-push_bytes-clause-error
 returns-in_err-push_bytes-clause-error g c =

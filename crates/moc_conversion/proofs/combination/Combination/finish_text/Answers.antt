@@ -7,7 +7,7 @@ use Rattle.moc_conversion.proofs.combination.Combination.finish_text.Goals as go
 pub returns-clause-processes : goal.returns-clause-processes
 returns-clause-processes c =
     finishes_text _ _ refl refl c.in-Some.ensures.1 c.take-before.result c.in_ok-parsed.parsed c.take-before.ensures.value c.requires
-    c.in_ok-parsed.ensures.represents c.clear.ensures.items refl
+    c.in_ok-parsed.ensures.represents c.clear.ensures.items c.first_without_cells-self.ensures refl
 
 pub returns-in_default-clause-error : goal.returns-in_default-clause-error
 returns-in_default-clause-error c =
