@@ -201,7 +201,8 @@ class Commands(CommandCase):
             for format in ("ascii", "json", "uniq"):
                 result = subprocess.run([PROGRAM, "check", format], input=text, capture_output=True, timeout=60)
                 # The package reports no notes.
-                expected.append([line for line in result.stderr.decode().splitlines() if not line.startswith(("this looks like", "note: "))])
+                ignored = ("this looks like", "note: ")
+                expected.append([line for line in result.stderr.decode().splitlines() if not line.startswith(ignored)])
             found = [line for line in lines.get(f"{number}.text", []) if not line.startswith("this looks like")]
             if found[:1] == ["fault NotJson"]:
                 # Python's parser and serde_json may report different columns.
