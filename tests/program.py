@@ -287,6 +287,8 @@ VALID_INPUTS: list[tuple[Arguments, bytes, bytes]] = [
     (["degrade", "0", "json"], b'{"1":[5],"4":[]}', b'{"0":[1]}\n'),
     (["degrade", "1", "uniq"], b"16\n1088\n", b"16\n17\n"),
     (["complement", "ascii"], b"0/0-10 1/44 2/", b"1/45-47 2/\n"),
+    (["check", "json"], b'{"0":[3]}', b"ok\n"),
+    (["check", "auto"], b' {"0":[3]} ', b"ok\n"),
     (["complement", "json"], b'{"3":[]}', b'{"0":[0,1,2,3,4,5,6,7,8,9,10,11],"3":[]}\n'),
     (["complement", "uniq"], b"4\n5\n6\n7\n8\n9\n10\n11\n12\n13\n14\n61\n62\n63\n", b"60\n"),
     (["renumber", "nest", "ring", "1"], b"0\n3\n48\n\n\t18 \r\n1 2\n-1\n47", RING_ANSWERS),
@@ -300,7 +302,6 @@ INCOMPLETE = b"note: the last line has no line feed; the text may be incomplete\
 NOTED_INPUTS: list[tuple[Arguments, bytes, bytes, bytes]] = [
     (["check", "auto"], b"", b"ok\n", b"note: the input is empty\n"),
     (["check", "ascii"], b"1/0-3\n2/7", b"ok\n", INCOMPLETE),
-    (["check", "json"], b'{"0":[3]}', b"ok\n", INCOMPLETE),
     (["check", "uniq"], b"4\n5", b"ok\n", INCOMPLETE),
     (["combine", "union", "ascii"], b"0/3 1/2; \n", b"0/3 1/2\n", ONE_TEXT),
     (["combine", "union", "auto"], b'{"0":[3]}', b'{"0":[3]}\n', ONE_TEXT),

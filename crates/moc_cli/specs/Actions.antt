@@ -64,7 +64,7 @@ ActionEnds (Convert from to) source source' sink sink' =
     (IsInputError (IsNotConverted from source source')) sink sink'
 ActionEnds (Check choice) source source' sink sink' =
     PrintsText (λ text. IsValidInput choice source source' × (text ≡ codes "ok\n"))
-    (AreNotesOn check_notes source source') (IsInputError (FailsParsing choice source source')) sink sink'
+    (AreNotesOn (check_notes choice) source source') (IsInputError (FailsParsing choice source source')) sink sink'
 ActionEnds (Describe choice) source source' sink sink' =
     PrintsText (DescribesAll choice source source') AreNone
     (IsInputError (FailsParsing choice source source')) sink sink'

@@ -6,6 +6,10 @@ use Rattle.std.specs.List.{list_any}
 use Rattle.std.specs.Option.{option_map_or}
 use Rattle.moc_devices.specs.Devices.{SourceState, IsEnded}
 use Rattle.moc_forms.specs.Combining.{texts_of}
+use Rattle.moc_forms.specs.Finding.{format_for}
+use Rattle.moc_forms.specs.declared.finding.FormatChoice.{FormatChoice}
+use Rattle.moc_forms.specs.declared.format.Format.{Format}
+use Rattle.moc_forms.specs.declared.format.Format.TheVariants.{Json}
 use Rattle.moc_text.specs.Lines.{is_line_feed}
 use Rattle.moc_conversion.specs.Conversion.{HasRead}
 use Rattle.moc_conversion.specs.declared.notes.InputNote.{InputNote}
@@ -21,9 +25,14 @@ abbrev pub last_byte_note : Option ℕ → Option InputNote
 last_byte_note None = Some Empty
 last_byte_note (Some byte) = if is_line_feed byte then None else Some NoLineFeed
 
+-- the note on the end of a valid text in a format: a valid JSON text is complete
+abbrev pub end_note : Format → List ℕ → Option InputNote
+end_note Json text = None
+end_note format text = last_byte_note (slice_get text (length text - 1))
+
 -- the notes on a text that is checked: that it is empty, or that its last line has no line feed
-abbrev pub check_notes : List ℕ → Notes
-check_notes text = record { input = last_byte_note (slice_get text (length text - 1)); text_without_cells = None }
+abbrev pub check_notes : FormatChoice → List ℕ → Notes
+check_notes choice text = record { input = end_note (format_for choice text) text; text_without_cells = None }
 
 -- the number of the first text that has no digit, so that it states no order and no cell; texts are counted from a
 -- number on

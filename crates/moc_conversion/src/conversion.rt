@@ -182,9 +182,9 @@ pub fn check_input<R: Source>(
     ensures read { IsErrOf result InputError.Read ↔ IsTrue (R.mark input.new) }
     ensures error { IfErr result (FailsParsing choice (R.reading input.old) (R.reading input.new)) }
     ensures represents { OnOk result (IsValidInput choice (R.reading input.old) (R.reading input.new)) }
-    ensures notes { IfOk result (AreNotesOn check_notes (R.reading input.old) (R.reading input.new)) }
+    ensures notes { IfOk result (AreNotesOn (check_notes choice) (R.reading input.old) (R.reading input.new)) }
 {
     let text = read_whole(alloc, INPUT_LIMIT, input)?;
     parse_text(alloc, choice, &text, None)?;
-    Ok(Notes::on_checked(&text))
+    Ok(Notes::on_checked(choice, &text))
 }

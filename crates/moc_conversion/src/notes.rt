@@ -4,10 +4,12 @@ ghost use Rattle.std.specs.Char.{is_ascii_digit};
 ghost use Rattle.std.specs.List.{list_any};
 ghost use Rattle.std.specs.Option.{option_map_or};
 ghost use Rattle.moc_conversion.specs.Errors.{WritesText};
-ghost use Rattle.moc_conversion.specs.Notes.{check_notes, input_note_line, no_notes, notes_text, without_cells_line};
+ghost use Rattle.moc_conversion.specs.Notes.{check_notes, end_note as end_note_of, input_note_line, no_notes};
+ghost use Rattle.moc_conversion.specs.Notes.{notes_text, without_cells_line};
 
 use crate::reporting::write_number;
 use moc_devices::{DeviceFault, Sink, write_all};
+use moc_forms::{Format, FormatChoice};
 
 /// What may be a mistake about an input as a whole.
 #[derive(Clone, Copy, Debug, PartialEq, Eq)]
@@ -41,17 +43,12 @@ impl Notes {
         }
     }
 
-    /// Returns the notes on a text that is checked.
-    pub(crate) fn on_checked(text: &[u8]) -> Notes
-        ensures { result ≡ check_notes text.now }
+    /// Returns the notes on a valid text that is checked.
+    pub(crate) fn on_checked(choice: FormatChoice, text: &[u8]) -> Notes
+        ensures { result ≡ check_notes choice text.now }
     {
-        let input = match text.last() {
-            None => Some(InputNote::Empty),
-            Some(b'\n') => None,
-            Some(_) => Some(InputNote::NoLineFeed),
-        };
         Notes {
-            input,
+            input: end_note(choice.format(text), text),
             text_without_cells: None,
         }
     }
@@ -82,6 +79,17 @@ impl Notes {
             Some(InputNote::OneText) => "note: only one text; a semicolon separates texts\n",
             None => "",
         }
+    }
+}
+
+/// Returns the note on the end of a valid text.
+fn end_note(format: Format, text: &[u8]) -> Option<InputNote>
+    ensures { result ≡ end_note_of format text.now }
+{
+    match (format, text.last()) {
+        (Format::Json, _) | (_, Some(b'\n')) => None,
+        (_, None) => Some(InputNote::Empty),
+        (_, Some(_)) => Some(InputNote::NoLineFeed),
     }
 }
 

@@ -13,7 +13,8 @@ fn notes_of_checks(rt: HostRuntime) {
         ("0/3", incomplete),
         ("0/3\n", ""),
         ("0/3\n1/5", incomplete),
-        ("{\"0\":[3]}\n ", incomplete),
+        ("{\"0\":[3]}", ""),
+        ("{\"0\":[3]}\n ", ""),
     ] {
         expect(&rt, rt.alloc(), &["check", "auto"], input, 0, "ok\n", notes);
     }

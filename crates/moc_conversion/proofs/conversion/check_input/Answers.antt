@@ -19,7 +19,7 @@ pub returns-clause-notes : goal.returns-clause-notes
 returns-clause-notes g c = (
   c.in_ok-text.text.items,
   c.in_ok-text.ensures.whole.0,
-  (c.in_ok-text.ensures.whole.1, c.on_checked.ensures ∙ ap check_notes c.deref-2.ensures.value),
+  (c.in_ok-text.ensures.whole.1, c.on_checked.ensures ∙ ap (check_notes c.args.choice) c.deref-2.ensures.value),
 )
 
 pub returns-in_err-parse_text-clause-error : goal.returns-in_err-parse_text-clause-error
