@@ -523,9 +523,7 @@ fn answers_cell<R: Abort + Wait>(
     requires { IsClientOf map.now client.old }
     ensures { IsClientOf map.now client.new }
 {
-    let answer = map
-        .answer_cell(rt, client, &command)
-        .expect(rt, "memory");
+    let answer = map.answer_cell(rt, client, &command).expect(rt, "memory");
     assert!(rt; answer == reply);
 }
 

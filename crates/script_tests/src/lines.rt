@@ -127,7 +127,11 @@ fn commands_on_one_cell(rt: HostRuntime) {
         let command = read_cell_command(line.as_bytes()).expect(&rt, "a command on a cell");
         assert!(rt; command.action == action, "{line}");
         let cell = command.cell;
-        assert_eq!(rt; (cell.order().get(), cell.index()), (order, index), "{line}");
+        assert_eq!(rt;
+            (cell.order().get(), cell.index()),
+            (order, index),
+            "{line}"
+        );
     }
     for line in [
         "",

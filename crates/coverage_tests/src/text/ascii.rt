@@ -62,9 +62,15 @@ fn texts_of_one_cell(rt: HostRuntime) {
         ("0003/007", 3, 7),
     ] {
         let cell = only_cell(text.as_bytes()).expect(&rt, "a cell");
-        assert_eq!(rt; (cell.order().get(), cell.index()), (order, index), "{text}");
+        assert_eq!(rt;
+            (cell.order().get(), cell.index()),
+            (order, index),
+            "{text}"
+        );
     }
-    for text in ["", "3/", "7", "3/7 8", "3/7-8", "s3/7", "0/12", "30/0", "3/7;"] {
+    for text in [
+        "", "3/", "7", "3/7 8", "3/7-8", "s3/7", "0/12", "30/0", "3/7;",
+    ] {
         assert!(rt; only_cell(text.as_bytes()).is_none(), "{text}");
     }
 }
