@@ -50,8 +50,9 @@ class Body(NamedTuple):
 OUT_OF_MEMORY = "Err(Memory)"
 OUT_OF_MEMORY_AT_LINE = "Err(RunError::Memory { line: 0 })"
 INPUT_OUT_OF_MEMORY = "Err(InputError::Memory)"
-# A function of `moc_text` that reads or writes a text: its name and the type of its error.
+# A function of `moc_text` that reads or writes a text: its name and the type of its error. These are among them.
 TEXT_FUNCTION = re.compile(r"^pub fn ((?:read|write|push)_\w+)\b[^{]*? -> Result<.*, (\w+)>$", re.MULTILINE)
+TEXT_FUNCTIONS = {"read_ascii", "read_json", "read_uniq", "write_ascii", "write_json", "write_uniq", "push_ascii"}
 
 
 def text_bodies() -> list[Body]:
@@ -68,6 +69,11 @@ def text_bodies() -> list[Body]:
 
 BODIES = [
     *text_bodies(),
+    Body("moc_text", "ascii/parser", "push", "Err(TextError::Memory)", "coverage_tests"),
+    Body("moc_text", "ascii/parser", "finish", "Err(TextError::Memory)", "coverage_tests"),
+    Body("moc_text", "uniq/parser", "push", "Err(UniqError::Memory)", "coverage_tests"),
+    Body("moc_text", "uniq/parser", "finish", "Err(UniqError::Memory)", "coverage_tests"),
+    Body("moc_text", "ascii/single", "only_cell", "None", "coverage_tests"),
     Body("moc_steps", "schedule", "replay", "Err(ReplayError { at: 0, why: StepError::Memory })", "map_tests"),
     Body("moc_steps", "world", "new", OUT_OF_MEMORY, "map_tests"),
     Body("moc_steps", "world", "step", "Err(StepError::Memory)", "map_tests"),
@@ -81,6 +87,7 @@ BODIES = [
     Body("moc_shared", "map/commands", "try_answer", "Err(TryError::Busy(Busy { part: Part::of(0), holder: 0 }))", "map_tests"),
     Body("moc_shared", "map/commands", "try_answer_cell", "Err(TryError::Memory)", "map_tests"),
     Body("moc_shared", "map/commands", "try_answer_cell", "Err(TryError::Busy(Busy { part: Part::of(0), holder: 0 }))", "map_tests"),
+    Body("moc_shared", "map/commands", "answer_cell", OUT_OF_MEMORY, "map_tests"),
     Body("moc_shared", "map/batches", "finish", "(self.let_go(holding), Err(Memory))", "map_tests"),
     Body("moc_shared", "map/batches", "snapshot", "Err(SnapshotError::Memory(self.let_go(holding)))", "map_tests"),
     Body("moc_shared", "snapshot", "answer", OUT_OF_MEMORY, "map_tests"),
@@ -89,6 +96,7 @@ BODIES = [
     Body("moc_parts", "batch", "one", OUT_OF_MEMORY, "map_tests"),
     Body("moc_parts", "map", "apply", OUT_OF_MEMORY, "map_tests"),
     Body("moc_parts", "map", "answer", OUT_OF_MEMORY, "map_tests"),
+    Body("moc_parts", "map", "answer_cell", OUT_OF_MEMORY, "map_tests"),
     Body("moc_parts", "prepared", "prepare", OUT_OF_MEMORY, "map_tests"),
     Body("moc_parts", "prepared", "prepare_changes", OUT_OF_MEMORY, "map_tests"),
     Body("moc_parts", "prepared", "reply_of", OUT_OF_MEMORY, "map_tests"),
@@ -104,6 +112,7 @@ BODIES = [
     Body("moc_conversion", "combination", "combine_input", INPUT_OUT_OF_MEMORY, "moc_cli"),
     Body("moc_cli", "action", "from_matches", "None", "moc_cli"),
     Body("moc_lines", "places", "place_of_error", OUT_OF_MEMORY, "script_tests"),
+    Body("moc_lines", "language", "read_cell_command", "None", "script_tests"),
     Body("moc_lines", "reading", "read_all", "Err(RunError::Memory { line: 0 })", "script_tests"),
     Body("moc_lines", "runner", "answer_all_lines", OUT_OF_MEMORY_AT_LINE, "script_tests"),
     Body("moc_lines", "renumbering", "renumber", OUT_OF_MEMORY_AT_LINE, "script_tests"),
@@ -146,6 +155,8 @@ def select_bodies(arguments: list[str]) -> list[Body]:
 def main() -> int:
     """Tries the selected bodies."""
     tally = Tally()
+    missing = TEXT_FUNCTIONS - {body.function for body in text_bodies()}
+    tally.check(not missing, f"the pattern finds no function {', '.join(sorted(missing))}")
     with tempfile.TemporaryDirectory() as folder:
         shutil.copy(os.path.join(TOP, "crates.txt"), folder)
         shutil.copy(os.path.join(TOP, "HANDLES"), folder)

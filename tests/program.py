@@ -537,6 +537,9 @@ def check_failing_devices(tally: Tally) -> None:
         with open("/dev/full", "wb") as full:
             result = run(arguments, standard_input, stderr=full)
         tally.check_equal(f"{arguments} with a full device as standard error", result, (0, output, None))
+        with open("/dev/full", "wb") as full:
+            result = run(arguments, standard_input, stdout=full)
+        tally.check_equal(f"{arguments} on a full device", result, (3, None, b"fault Write\n"))
 
 
 def limit_file_size() -> None:

@@ -94,7 +94,7 @@ class Commands(CommandCase):
         self.assertEqual(self.run_command("check", "-", text="<html>1"),
                          (1, "", "standard input: fault BadByte\nstandard input: byte 0, line 1, byte 0 of it: `<html>1`\n"
                                  "standard input: words look like 3/, 10, 12-14 or 3/10\nstandard input: this looks like HTML or XML\n"))
-        # A NUNIQ list is recognized by its content, and has one number on a line.
+        # `12 13` is not a line of a NUNIQ list, so the text is read as ASCII.
         self.assertEqual(self.run_command("check", "-", text="4\n12 13\n"), (1, "", (
             "standard input: fault NoOrder\nstandard input: byte 0, line 1, byte 0 of it: `4`\n"
             "standard input: an order comes first, as in 3/\n")))

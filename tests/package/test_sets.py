@@ -146,6 +146,7 @@ class Examples(TestCase):
             ('{"0":[3]}', "ascii", "this looks like JSON"), (" \n{", "uniq", "this looks like JSON"),
             ("s3/1", "json", "this looks like ASCII"), ("0/1", "uniq", "this looks like ASCII"),
             ("4\n5", "ascii", "this looks like a NUNIQ list"), ("12 13", "ascii", "`12`: an order comes first, as in 3/"),
+            ("4\r\n5\r\n", "ascii", "`4`: an order comes first, as in 3/"),
             ("4\n5x 6", "uniq", f"`5x 6`: {number}"), ("12 13", "uniq", f"`12 13`: {number}"),
             ("4\n, 5,13\t", "uniq", f"`, 5,13\\x09`: {number}"), ("3\n", "uniq", "`3`: NUNIQ numbers go from 4 to 4611686018427387903"),
             ("x", "ascii", f"`x`: {words}"), ("0/1 5/7x", "ascii", f"`5/7x`: {words}"), ("5/7-", "ascii", f"`5/7-`: {words}"),
