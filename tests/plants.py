@@ -141,7 +141,7 @@ DEFECTS = [
            "map_tests steps::a_world_is_debugged_by_its_operations"),
     # the Python package
     Defect("timeout_never_ends", "", "python/ploverchaise/shared.py",
-           "if error.code != BUSY or time.monotonic() >= ends:", "if error.code != BUSY:", "package"),
+           "return error.code == BUSY and time.monotonic() < ends", "return error.code == BUSY", "package"),
     Defect("map_drops_the_timeout", "", "python/ploverchaise/shared.py",
            "        return self._client.apply(line, timeout)", "        return self._client.apply(line)", "package"),
     Defect("cells_of_several_orders_are_not_degraded", "", "python/ploverchaise/moc.py",

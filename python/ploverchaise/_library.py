@@ -77,6 +77,7 @@ store_functions: dict[str, Callable[..., Result]] = {name: declare_function(libr
 brief_functions = _BriefFunctions()
 client_functions = {name: declare_function(library, name, Result, CLIENT, *types) for name, types in CLIENT_CALLS.items()}
 number_functions = {name: declare_function(library, name, Result, *types) for name, types in NUMBER_CALLS.items()}
+_brief_execute = declare_function(_brief_library, "map_execute", Result, CLIENT, *CLIENT_CALLS["map_execute"])
 _store_open = declare_function(_brief_library, "store_open", c_bool, STORE)
 _client_open = declare_function(library, "client_open", c_bool, CLIENT)
 
@@ -86,7 +87,7 @@ _method.argtypes, _method.restype = [ctypes.py_object], ctypes.py_object
 setattr(StoreHandle, "__del__", _method(declare_function(library, "store_close", None, STORE)))
 setattr(BriefStoreHandle, "__del__", _method(declare_function(_brief_library, "store_close", None, STORE)))
 setattr(ClientHandle, "__del__", _method(declare_function(library, "client_close", None, CLIENT)))
-setattr(Text, "__del__", _method(declare_function(library, "text_free", None, TEXT)))
+setattr(Text, "__del__", _method(declare_function(_brief_library, "text_free", None, TEXT)))
 
 
 def check_result(result: Result, name: str = "") -> Result:
@@ -158,6 +159,13 @@ def call_with_store(name: str, store: StoreHandle, *arguments: Any) -> Result:
 def call_with_client(name: str, client: ClientHandle, *arguments: Any) -> Result:
     """Calls `moc_NAME` with a client, and returns its result. Raises as `check_result`."""
     return check_result(client_functions[name](client, *c_arguments(*arguments)), name)
+
+
+def execute_briefly(client: ClientHandle, commands: bytes) -> str:
+    """Executes a line of a map and keeps the GIL. Returns the replies, with a line feed. Raises as `check_result`."""
+    text = Text()
+    check_result(_brief_execute(client, commands, len(commands), text), "map_execute")
+    return ctypes.string_at(text.bytes or 0, text.length).decode("utf-8")
 
 
 def call_on_rows(call: Callable[..., Value], order: int | None, rows: slice, numbers: Input, *outputs: Output) -> Value:

@@ -1,13 +1,15 @@
 """A set of pixels that threads change and query at the same time."""
 from __future__ import annotations
 
-import operator
 import math
+import operator
+import re
 import time
+from functools import partial
 from typing import Callable, TypeVar
 
 from ._codes import BUSY
-from ._library import call_with_client, call_with_store, open_client, open_store, text_of
+from ._library import call_with_client, call_with_store, execute_briefly, open_client, open_store, text_of
 from ._signatures import ClientHandle
 from .errors import MocError
 from .moc import MOC, _check_moc
@@ -16,8 +18,17 @@ Value = TypeVar("Value")
 
 # For how many milliseconds a try waits in the library for a part that another client holds. Signal handlers run between two tries.
 _TRY_MILLISECONDS = 20
+# A line that takes some microseconds on any map: a query with a short operand, or another command on one cell.
+_BRIEF_LINE = re.compile(rb"[ \t]*(?:(?:count|near)[ \t][^;]{1,40}|(?:add|remove|claim)[ \t]+[0-9]{1,2}/[0-9]+[ \t]*)")
 # The pause between two tries, in seconds.
 _PAUSE = 20e-6
+# The time that calls with a client wait in the library, if it is not known.
+_UNKNOWN = -1
+
+
+def _may_repeat(error: MocError, ends: float) -> bool:
+    """Returns whether a call with this error may be made again, if the time for it ends at `ends`."""
+    return error.code == BUSY and time.monotonic() < ends
 
 
 class MapClient:
@@ -38,9 +49,10 @@ class MapClient:
     'claimed ; taken 1099511627776'
     """
 
-    __slots__ = ("number", "_handle")
+    __slots__ = ("number", "_handle", "_milliseconds")
     number: int
     _handle: ClientHandle
+    _milliseconds: int
 
     def __init__(self) -> None:
         raise TypeError("use SharedMap.client to create a client")
@@ -51,12 +63,13 @@ class MapClient:
         client = cls.__new__(cls)
         client._handle = open_client()
         client.number = attach(client._handle)
-        client._set_timeout(_TRY_MILLISECONDS)
+        client._milliseconds = 0
         return client
 
     def _set_timeout(self, milliseconds: int) -> None:
         """Sets for how long later calls of the library with the client wait for parts."""
         call_with_client("map_busy_timeout", self._handle, milliseconds)
+        self._milliseconds = milliseconds
 
     def apply(self, line: str | bytes, timeout: float | None = None) -> str:
         """Executes a line of commands as one atomic step, and returns the replies.
@@ -95,7 +108,9 @@ class MapClient:
         'total 288230376151711744 ; near yes'
         """
         commands = line.encode() if isinstance(line, str) else bytes(memoryview(line))
-        return self._wait(lambda: text_of(call_with_client, "map_execute", self._handle, commands), timeout).removesuffix("\n")
+        call = partial(text_of, call_with_client, "map_execute", self._handle, commands)
+        first = partial(execute_briefly, self._handle, commands) if _BRIEF_LINE.fullmatch(commands) else None
+        return self._wait(call, timeout, first).removesuffix("\n")
 
     def answer(self) -> str:
         """Returns the replies to the last line that this client executed, or an empty str before the first line.
@@ -134,32 +149,38 @@ class MapClient:
         0/0 1/4
         """
         store = open_store()
-        coverage_id = self._wait(lambda: call_with_client("map_coverage", self._handle, store), timeout).first
+        coverage_id = self._wait(partial(call_with_client, "map_coverage", self._handle, store), timeout).first
         return MOC._in_store(store, coverage_id, call_with_store("range_count", store, coverage_id).first)
 
-    def _wait(self, call: Callable[[], Value], timeout: float | None) -> Value:
-        """Returns the value of a call with the client. Repeats the call if it raises MocError `Busy` and the timeout has not passed."""
+    def _wait(self, call: Callable[[], Value], timeout: float | None, first: Callable[[], Value] | None = None) -> Value:
+        """Returns the value of a call with the client. Repeats the call if it raises MocError `Busy` and the timeout has not passed.
+
+        The first try can be another call, which does not wait in the library and keeps the GIL."""
         if timeout is not None and math.isnan(timeout):
             raise ValueError("the timeout is not a number")
         ends = math.inf if timeout is None else time.monotonic() + timeout
+        if first:
+            try:
+                return self._try_for(0, first)
+            except MocError as error:
+                if not _may_repeat(error, ends):
+                    raise
         while True:
             left = math.inf if timeout is None else 1000 * max(0.0, ends - time.monotonic())
             try:
-                return call() if left >= _TRY_MILLISECONDS else self._try_for(math.ceil(left), call)
+                return self._try_for(_TRY_MILLISECONDS if left >= _TRY_MILLISECONDS else math.ceil(left), call)
             except MocError as error:
-                if error.code != BUSY or time.monotonic() >= ends:
+                if not _may_repeat(error, ends):
                     raise
+            # Another thread that uses the client may have set another time.
+            self._milliseconds = _UNKNOWN
             time.sleep(_PAUSE)
-            # Another thread that uses the client may have set a shorter time.
-            self._set_timeout(_TRY_MILLISECONDS)
 
     def _try_for(self, milliseconds: int, call: Callable[[], Value]) -> Value:
-        """Returns the value of a call with the client that waits for a shorter time than other calls."""
-        try:
+        """Returns the value of a call with the client that waits in the library for at most this time."""
+        if self._milliseconds != milliseconds:
             self._set_timeout(milliseconds)
-            return call()
-        finally:
-            self._set_timeout(_TRY_MILLISECONDS)
+        return call()
 
 
 class SharedMap:

@@ -43,6 +43,17 @@ class OneThread(TestCase):
         self.assertEqual(SharedMap(moc).apply("read 0/0-11"), f"cover {moc.to_string()}")
         self.assertEqual(SharedMap().apply("read 0/0-11"), "cover")
 
+    def test_brief_lines(self) -> None:
+        """Checks which lines keep the GIL, and that their replies are those of other lines."""
+        shared = SharedMap(MOC.from_string("1/0-2"))
+        for line, reply in (("count 0/0", f"total {3 * BASE // 4}"), (" near\t1 3", "near yes"), ("claim 1/3 ", "claimed"),
+                            ("remove 1/3", f"changed {BASE // 4}"), ("add 0/0", f"changed {BASE // 4}"), ("count", "total 0"),
+                            ("count 0/0;count 0/0", f"total {BASE} ; total {BASE}"), ("add 0/0-1", f"changed {BASE}"),
+                            ("remove @1 2/0", f"changed {BASE // 4}"), ("read 1/0-1", "cover 1/1")):
+            with self.subTest(line=line), mock.patch("ploverchaise.shared.execute_briefly", wraps=_library.execute_briefly) as brief:
+                self.assertEqual(shared.apply(line), reply)
+                self.assertEqual(brief.call_count, int(line.strip() in ("count 0/0", "near\t1 3", "claim 1/3", "remove 1/3", "add 0/0")))
+
     def test_errors_change_nothing(self) -> None:
         shared = SharedMap(MOC.from_string("0/4"))
         answer = shared.apply("count 0/4")
@@ -152,18 +163,20 @@ class Threads(TestCase):
                 (shared._client, lambda timeout: shared.apply("count 0/0", timeout)), (shared._client, shared.moc)]
             for user, call in calls:
                 duration, tries, settings = self.busy_call(user, partial(call, 0))
-                self.assertEqual((tries, settings), (1, [0, 20]))
+                self.assertEqual((tries, user._milliseconds), (1, 0))
+                self.assertIn(settings, ([], [0]))
                 duration, tries, settings = self.busy_call(user, partial(call, 0.05))
                 self.assertGreaterEqual(duration, 0.05)
-                self.assertLessEqual(tries, 4)
-                self.assertEqual((max(settings), settings[-1]), (20, 20))
+                self.assertLessEqual(tries, 5)
+                self.assertEqual(max(settings), 20)
 
     def busy_call(self, client: MapClient, call: Callable[[], object]) -> tuple[float, int, list[int]]:
         """Repeats a call with a client until it fails with `Busy`. Returns the duration of the last call in seconds, the number of its
         tries, and the timeouts of the library in milliseconds that it sets."""
         end = time.monotonic() + 30
         while time.monotonic() < end:
-            with mock.patch("ploverchaise.shared.call_with_client", wraps=_library.call_with_client) as library:
+            with mock.patch("ploverchaise.shared.call_with_client", wraps=_library.call_with_client) as library, \
+                    mock.patch("ploverchaise.shared.execute_briefly", wraps=_library.execute_briefly) as brief:
                 start = time.monotonic()
                 try:
                     call()
@@ -172,7 +185,7 @@ class Threads(TestCase):
                     self.assertEqual(error.name, "Busy")
                     calls = [arguments for arguments, _ in library.call_args_list if arguments[1] is client._handle]
                     settings = [arguments[2] for arguments in calls if arguments[0] == "map_busy_timeout"]
-                    return duration, len(calls) - len(settings), settings
+                    return duration, len(calls) - len(settings) + brief.call_count, settings
         self.fail("no call has found a part held")
 
     def test_calls_wait(self) -> None:

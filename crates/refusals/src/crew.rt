@@ -10,7 +10,7 @@ use std::sync::Wait;
 use std::thread::Threads;
 
 /// A blank line, and four lines with replies, two for each lane.
-const SCRIPT: &[u8] = b"add 0/0\nadd 0/1\n\ncount 0/0\ncount 0/1\n";
+const SCRIPT: &[u8] = b"add 0/0\nadd 0/1\n\ncount 0/0 1/4\ncount 0/1 1/8\n";
 
 /// Reports the result of the crew.
 pub fn report<R: Print + Threads + Wait + Sync>(rt: &R, alloc: Global) -> Result<()> {

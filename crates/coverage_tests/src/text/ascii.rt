@@ -54,7 +54,7 @@ fn separators(rt: HostRuntime) {
 }
 
 #[test]
-fn texts_of_one_cell(rt: HostRuntime) {
+fn only_cells(rt: HostRuntime) {
     for (text, order, index) in [
         ("0/11", 0, 11),
         (" ,3/7\r\n", 3, 7),
