@@ -505,11 +505,12 @@ function runBundle(folder) {
 }
 
 function testBundle() {
-  const folder = mkdtempSync(join(tmpdir(), "bundle-test-"));
+  const top = mkdtempSync(join(tmpdir(), "bundle-test-")), folder = join(top, "web");
   const script = join(folder, "scripts", "formats.js"), worker = join(folder, "scripts", "worker.js");
   try {
     for (const name of ["bundle.py", "page.html", "page.css", "scripts"]) cpSync(join(WEB, name), join(folder, name),
       { recursive: true });
+    cpSync(join(WEB, "..", "docs", "SCRIPTS.md"), join(top, "docs", "SCRIPTS.md"), { recursive: true });
     const { status, stderr, page } = runBundle(folder);
     checkEqual([status, stderr], [0, ""], "the result of the tool");
     const text = page();
@@ -538,7 +539,7 @@ function testBundle() {
       writeFileSync(file, source);
     }
   } finally {
-    rmSync(folder, { recursive: true });
+    rmSync(top, { recursive: true });
   }
 }
 
